@@ -1,0 +1,50 @@
+ghost use Rattle.std.specs.Prelude.{◌≡◌, ◌≤◌, ◌↔◌, IfSome, IsSome};
+ghost use Rattle.sonic_error.specs.Kinds.{number_of};
+
+/// The six kinds of value that JSON has (RFC 8259, section 3).
+#[derive(Clone, Copy, Debug, PartialEq, Eq)]
+pub enum JsonType {
+    Null = 0,
+    Boolean = 1,
+    Number = 2,
+    String = 3,
+    Object = 4,
+    Array = 5,
+}
+
+impl JsonType {
+    /// The kind that has this number, from `Null`, which is 0, to `Array`, which is 5.
+    ///
+    /// `JsonType::from_u8(3)` is `Some(JsonType::String)`, and `JsonType::from_u8(6)` is `None`.
+    pub fn from_u8(value: u8) -> Option<JsonType>
+        ensures known { IsSome result ↔ (value ≤ 5) }
+        ensures kind { IfSome result (λ kind. number_of kind ≡ value) }
+    {
+        match value {
+            0 => Some(JsonType::Null),
+            1 => Some(JsonType::Boolean),
+            2 => Some(JsonType::Number),
+            3 => Some(JsonType::String),
+            4 => Some(JsonType::Object),
+            5 => Some(JsonType::Array),
+            _ => None,
+        }
+    }
+}
+
+/// What a caller wanted where it met a value of another kind.
+#[derive(Clone, Copy, Debug, PartialEq, Eq)]
+pub enum Wanted {
+    Object,
+    Array,
+    Number,
+}
+
+/// Why valid JSON doesn't fit what was asked.
+#[derive(Clone, Copy, Debug, PartialEq, Eq)]
+pub enum Note {
+    /// The value is of the kind `found`, and the caller wanted another.
+    Mismatch { found: JsonType, wanted: Wanted },
+    /// The schema to be filled is no object.
+    SchemaNotObject,
+}

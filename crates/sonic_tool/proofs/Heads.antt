@@ -1,0 +1,92 @@
+-- What a reader of a head learns from what it meets.
+use Rattle.std.proofs.Common.{◌≡◌, ◌⊎◌, inl, inr, ℕ, zero, suc, ◌+◌, ◌-◌, ◌<◌, ◌≤◌, List, [], ◌∷◌, length, drop, take, arith, refl}
+use Rattle.std.proofs.lemmas.Bool.{cases_order}
+use Rattle.std.proofs.lemmas.List.{length-drop}
+use Rattle.std.proofs.lemmas.List.Sums.{prefix_len-le-length}
+use Rattle.sonic_text.specs.Places.{after_space}
+use Rattle.sonic_tool.specs.Paths.{IsPathLine}
+use Rattle.sonic_tool.specs.Heads.{is_inside_line, line_end, line_at, IsBlank, IsHead, IsFirstBad}
+use Rattle.sonic_tool.specs.Heads.IsHead.{blank_line, blank_end, last_line, one_more_line}
+use Rattle.sonic_tool.specs.Heads.IsFirstBad.{first_line}
+
+-- a line ends within the input
+line_end_within : (t : List ℕ) (i : ℕ) → i ≤ length t → line_end t i ≤ length t
+line_end_within t i within = omega (arith, prefix_len-le-length is_inside_line (drop i t), length-drop i t)
+
+-- a place is at the end or before it
+before_end : (t : List ℕ) (p : ℕ) → p ≤ length t → (p < length t) ⊎ (p ≡ length t)
+before_end t p within = elim (cases_order p (length t)) [ inl e ↦ inr e | inr (inl l) ↦ inl l | inr (inr g) ↦ absurd (omega arith) ]
+
+-- a line is blank or it isn't
+blank_or_not : (t : List ℕ) (i : ℕ) → IsBlank t i ⊎ ¬ (IsBlank t i)
+blank_or_not t i = elim (cases_order (line_end t i) (after_space t i)) [
+  | inl e ↦ inl (omega arith)
+  | inr (inl l) ↦ inl (omega arith)
+  | inr (inr g) ↦ inr (λ b. omega arith)
+]
+
+-- before a blank line there is no line
+pub blank_head : (t : List ℕ) (i : ℕ) → i ≤ length t → IsBlank t i → (d : ℕ) × IsHead t i [] d
+blank_head t i within blank = elim (before_end t (line_end t i) (line_end_within t i within)) [
+  | inl l ↦ (line_end t i + 1, blank_line blank l refl)
+  | inr e ↦ (length t, blank_end blank e refl)
+]
+
+-- the lines of a head, whatever they are
+pub record SomeHead (t : List ℕ) (i : ℕ) : Type 0 where
+  pub lines : List (List ℕ)
+  pub document : ℕ
+  pub head : IsHead t i lines document
+
+some_head_before : (t : List ℕ) (n i : ℕ) → i ≤ length t → length t < i + n → SomeHead t i
+some_head_before t zero i within l = absurd (omega arith)
+some_head_before t (suc n) i within l = elim (blank_or_not t i) [
+  | inl blank ↦ let b = blank_head t i within blank in record { lines = []; document = b.0; head = b.1 }
+  | inr text ↦ elim (before_end t (line_end t i) (line_end_within t i within)) [
+    | inl below ↦
+        let h = some_head_before t n (line_end t i + 1) (omega arith) (omega arith) in
+        record { lines = line_at t i ∷ h.lines; document = h.document; head = one_more_line text below h.head }
+    | inr e ↦ record { lines = line_at t i ∷ []; document = length t; head = last_line text e refl }
+  ]
+]
+
+-- each place of an input has lines before the first blank one
+pub some_head : (t : List ℕ) (i : ℕ) → i ≤ length t → SomeHead t i
+some_head t i within = some_head_before t (length t + 1) i within (omega arith)
+
+-- a line that isn't blank is the first of a head
+pub head_of_line : (t : List ℕ) (i : ℕ) → i ≤ length t → ¬ IsBlank t i → (lines : List (List ℕ)) × (d : ℕ) × IsHead t i (line_at t i ∷ lines) d
+head_of_line t i within text = elim (before_end t (line_end t i) (line_end_within t i within)) [
+  | inl below ↦ let h = some_head t (line_end t i + 1) (omega arith) in (h.lines, h.document, one_more_line text below h.head)
+  | inr e ↦ ([], length t, last_line text e refl)
+]
+
+-- a first line that says no path is bad
+pub first_is_bad : (t : List ℕ) → ¬ IsBlank t 0 → ((path : List ℕ) → ¬ IsPathLine (line_at t 0) path)
+    → (lines : List (List ℕ)) × (d : ℕ) × IsHead t 0 lines d × IsFirstBad lines 1
+first_is_bad t text never = let h = head_of_line t 0 (omega arith) text in (line_at t 0 ∷ h.0, h.1, h.2, first_line never refl)
+
+module _ (t : List ℕ) (end : ℕ) (line : end ≡ line_end t 0) (text : ¬ (IsBlank t 0)) where
+  -- a head whose first line ends here goes on behind it
+  line_then : {lines : List (List ℕ)} {d : ℕ} → end < length t → IsHead t (end + 1) lines d → IsHead t 0 (line_at t 0 ∷ lines) d
+  line_then {lines} {d} below h =
+      let moved : IsHead t (line_end t 0 + 1) lines d = rw (← line) h in
+      one_more_line text (rw (← line) below) moved
+
+  -- a second line that isn't blank is one more of the head
+  pub second_of_head : end < length t → ¬ (IsBlank t (end + 1)) → (next : List ℕ) × (lines : List (List ℕ)) × (d : ℕ) × IsHead t 0 (line_at t 0 ∷ next ∷ lines) d
+  second_of_head below more =
+      let h = head_of_line t (end + 1) (omega arith) more in
+      (line_at t (end + 1), h.0, h.1, line_then below h.2)
+
+  -- behind a blank second line the document begins
+  pub blank_second : (next : ℕ) → end < length t → IsBlank t (end + 1) → next ≡ line_end t (end + 1) → next < length t → IsHead t 0 (line_at t 0 ∷ []) (next + 1)
+  blank_second next below blank e l = line_then below (blank_line blank (rw (← e) l) (rw e refl))
+
+  -- at the end of the input it is empty
+  pub blank_second_end : (next : ℕ) → end < length t → IsBlank t (end + 1) → next ≡ line_end t (end + 1) → next ≡ length t → IsHead t 0 (line_at t 0 ∷ []) next
+  blank_second_end next below blank e l = line_then below (blank_end blank (rw (← e) l) l)
+
+-- the first line as the reader has it
+pub first_line_text : (t : List ℕ) (end : ℕ) → end ≡ line_end t 0 → line_at t 0 ≡ take end t
+first_line_text t end e = let z : line_end t 0 - 0 ≡ end = omega arith in rw z refl

@@ -1,0 +1,14 @@
+pub mod Begins
+pub mod Descending
+pub mod Following
+pub mod Given
+pub mod Heads
+pub mod Indexes
+pub mod OneHead
+pub mod OneLine
+pub mod OnePath
+pub mod OneReport
+pub mod Replies
+pub mod Reporting
+pub mod Skipping
+pub mod Taken

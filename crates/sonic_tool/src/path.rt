@@ -1,0 +1,112 @@
+ghost use Rattle.std.specs.Prelude.{◌≡◌, ◌<◌, ◌≤◌, ℕ, List, length, None, IfOk, IfSome};
+ghost use Rattle.sonic_text.specs.Places.{byte};
+ghost use Rattle.sonic_tool.specs.Paths.{IsIndex, IndexesStand, IsIndexArray, IsPathLine};
+
+use crate::scan::{byte_at, skip_space};
+use crate::skip::{Behind, after_element, number_end};
+use sonic_text::whole_u64;
+use std::alloc::{AllocError, Global};
+
+// How many indexes a path line may have.
+pub(crate) const NODES: usize = 255;
+
+// The indexes of an array, and the place behind its bracket.
+#[derive(Drop)]
+struct IndexArray {
+    path: Vec<usize>,
+    end: usize,
+}
+
+// An index, and the place behind it.
+#[derive(Clone, Copy)]
+struct Index {
+    value: usize,
+    end: usize,
+}
+
+// The path that a line says, if it is a path line.
+#[tactic(auto, using(crate::proofs::Indexes::path_lines))]
+pub(crate) fn path_of(alloc: Global, line: &[u8]) -> Result<Option<Vec<usize>>, AllocError>
+    ensures some { IfOk result (λ found. IfSome found (λ path. IsPathLine line.now path.items)) }
+    ensures none { IfOk result (λ found. found ≡ None → (path : List ℕ) → ¬ IsPathLine line.now path) }
+{
+    let start = skip_space(line, 0);
+    let Some(array) = index_array(alloc, line, start)? else {
+        return Ok(None);
+    };
+    if skip_space(line, array.end) == line.len() {
+        Ok(Some(array.path))
+    } else {
+        Ok(None)
+    }
+}
+
+// The array of at most `NODES` indexes that stands at a place, if one does.
+#[tactic(auto, using(crate::proofs::Indexes::index_arrays))]
+fn index_array(alloc: Global, line: &[u8], start: usize) -> Result<Option<IndexArray>, AllocError>
+    requires { start ≤ length line.now }
+    ensures some { IfOk result (λ found. IfSome found (λ a. (a.end ≤ length line.now)
+        × (length a.path.items ≤ NODES) × IsIndexArray line.now start a.end a.path.items)) }
+    ensures none { IfOk result (λ found. found ≡ None → (j : ℕ) (path : List ℕ)
+        → length path ≤ NODES → ¬ IsIndexArray line.now start j path) }
+{
+    if byte_at(line, start) != b'[' {
+        return Ok(None);
+    }
+    let first = skip_space(line, start + 1);
+    if byte_at(line, first) == b']' {
+        let (path, end) = (Vec::new(alloc), first + 1);
+        return Ok(Some(IndexArray { path, end }));
+    }
+    indexes(alloc, line, first)
+}
+
+// The indexes, at most `NODES`, that stand from a place up to a closing bracket, if they do.
+#[tactic(auto, using(crate::proofs::Indexes::index_rows))]
+fn indexes(alloc: Global, line: &[u8], first: usize) -> Result<Option<IndexArray>, AllocError>
+    requires { first ≤ length line.now }
+    ensures some { IfOk result (λ found. IfSome found (λ a. (a.end ≤ length line.now)
+        × (length a.path.items ≤ NODES) × IndexesStand line.now first a.end a.path.items)) }
+    ensures none { IfOk result (λ found. found ≡ None → (j : ℕ) (path : List ℕ)
+        → length path ≤ NODES → ¬ IndexesStand line.now first j path) }
+{
+    let mut path = Vec::new(alloc);
+    let mut due = first;
+    'nodes: while path.len() < NODES {
+        let Some(index) = index_at(line, due) else {
+            return Ok(None);
+        };
+        path.push(index.value)?;
+        match after_element(line, index.end) {
+            Ok(Behind::Comma(next)) => due = next,
+            Ok(Behind::Bracket(end)) => return Ok(Some(IndexArray { path, end })),
+            Err(_) => return Ok(None),
+        }
+    }
+    Ok(None)
+}
+
+// The index that stands at a place, if one does.
+#[tactic(auto, using(crate::proofs::Indexes::index_is))]
+fn index_at(line: &[u8], start: usize) -> Option<Index>
+    requires { start ≤ length line.now }
+    ensures some { IfSome result (λ i. (i.end ≤ length line.now) × IsIndex line.now start i.end i.value) }
+    ensures none { result ≡ None → (e n : ℕ) → ¬ IsIndex line.now start e n }
+{
+    if byte_at(line, start) == b'-' {
+        return None;
+    }
+    let Ok(end) = number_end(line, start) else {
+        return None;
+    };
+    let Ok(digits) = std::str::from_utf8(&line[start..end]) else {
+        return None;
+    };
+    match whole_u64(digits) {
+        Some(value) => {
+            let value = value as usize;
+            Some(Index { value, end })
+        }
+        None => None,
+    }
+}

@@ -1,0 +1,20 @@
+/// How a run ended, by the number that the process ends with.
+#[derive(Clone, Copy, Debug, PartialEq, Eq)]
+pub enum Status {
+    /// The path leads to a value, or there is no path, and the report is written.
+    Done = 0,
+    /// The report is the one line of an error of the document.
+    DocumentError = 1,
+    /// The words are no command.
+    BadUsage = 2,
+    /// A line of the head is bad.
+    BadLines = 3,
+    /// The input has more than 256 MiB.
+    TooLarge = 4,
+    /// A read failed, and nothing was written.
+    ReadFault = 5,
+    /// A write failed, and what was written is a front of the report.
+    WriteFault = 6,
+    /// Memory ran out, and nothing was written.
+    NoMemory = 7,
+}

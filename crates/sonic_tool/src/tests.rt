@@ -1,0 +1,5 @@
+// What no clause says: rows from outside, that calls succeed where nothing is wrong, and the edge.
+mod documents;
+mod outside;
+mod plain;
+mod rows;
