@@ -47,6 +47,30 @@ def early(out):
     out.write("]\n")
 
 
+def long_strings(out):
+    """Strings of 10,000 bytes, and a path to an element that isn't there."""
+    rng = random.Random(7)
+    out.write("[99999999]\n\n[")
+    size = 0
+    while size < SIZE:
+        text = '"' + "".join(rng.choice("abcdefgh ijklmnop") for _ in range(100)) * 100 + '"'
+        out.write(text if size == 0 else ",\n" + text)
+        size += len(text) + 2
+    out.write("]\n")
+
+
+def escapes(out):
+    """Strings of some 30 bytes with escapes in them, and a path to an element that isn't there."""
+    rng = random.Random(7)
+    out.write("[99999999]\n\n[")
+    size = 0
+    while size < SIZE:
+        text = f'"key {rng.randrange(10**6)}\\n\\u00e9 \\"quoted\\" \\ud83d\\ude00"'
+        out.write(text if size == 0 else ",\n" + text)
+        size += len(text) + 2
+    out.write("]\n")
+
+
 def run(words, path):
     """Seconds, and the peak of memory in MB, of a command that reads the file through a pipe."""
     feed = subprocess.Popen(["cat", path], stdout=subprocess.PIPE)
@@ -66,8 +90,8 @@ def best(words, path):
 
 def main():
     program, folder = sys.argv[1:]
-    print(f"{'document':10} {'MB':>6} {'cat s':>7} {'run s':>7} {'ratio':>6} {'peak MB':>8}")
-    for make in (early, numbers, brackets):
+    print(f"{'document':13} {'MB':>6} {'cat s':>7} {'run s':>7} {'ratio':>6} {'peak MB':>8}")
+    for make in (early, numbers, brackets, long_strings, escapes):
         path = os.path.join(folder, make.__name__ + ".json")
         if not os.path.exists(path):
             with open(path, "w") as out:
@@ -75,7 +99,7 @@ def main():
         size = os.path.getsize(path) / 2**20
         plain, _ = best(["cat"], path)
         seconds, peak = best([program], path)
-        print(f"{make.__name__:10} {size:6.0f} {plain:7.3f} {seconds:7.3f} {seconds / plain:6.1f} {peak:8.0f}")
+        print(f"{make.__name__:13} {size:6.0f} {plain:7.3f} {seconds:7.3f} {seconds / plain:6.1f} {peak:8.0f}")
 
 
 main()

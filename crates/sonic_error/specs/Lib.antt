@@ -1,2 +1,5 @@
 pub mod Codes
+pub mod Errors
 pub mod Kinds
+pub mod Places
+pub mod Texts

@@ -1,4 +1,10 @@
+ghost use Rattle.std.specs.Prelude.{◌≡◌, Some};
+ghost use Rattle.sonic_error.specs.Codes.{category_of};
+ghost use Rattle.sonic_error.specs.Texts.{code_text};
+
 use crate::json_type::Note;
+use std::fmt;
+use std::io::ErrorKind;
 
 /// The families of errors, as callers tell them apart.
 #[derive(Clone, Copy, Debug, PartialEq, Eq)]
@@ -18,26 +24,139 @@ pub enum Category {
 }
 
 /// What is wrong. The place where it is wrong stands beside the code, never in it.
+///
+/// It prints as a short message: `ErrorCode::ExpectedQuote` as `Expect a quote`.
 #[derive(Clone, Copy, Debug, PartialEq, Eq)]
 pub enum ErrorCode {
     /// A value of another kind than the caller wanted.
     Message(Note),
+    /// Reading or writing failed in this way.
+    Io(ErrorKind),
     /// The text ends inside a value, or before one that is due.
     EofWhileParsing,
+    /// Behind a key stands no colon.
+    ExpectedColon,
     /// Behind an element stands neither a comma nor a closing bracket.
     ExpectedArrayCommaOrEnd,
+    /// Behind a member stands neither a comma nor a closing brace.
+    ExpectedObjectCommaOrEnd,
     /// A byte that isn't the next letter of `true`, `false` or `null`.
     InvalidLiteral,
     /// A value is due, and none begins with this byte.
     InvalidJsonValue,
+    /// An object is wanted, and no `{` stands here.
+    ExpectedObjectStart,
+    /// An array is wanted, and no `[` stands here.
+    ExpectedArrayStart,
+    /// No escape has this byte behind its backslash.
+    InvalidEscape,
     /// A digit is due and isn't there, or stands behind a first digit 0.
     InvalidNumber,
+    /// A number doesn't fit the type that it is read into.
+    NumberOutOfRange,
+    /// A byte behind `\u` is no hexadecimal digit.
+    InvalidUnicodeCodePoint,
+    /// The bytes aren't UTF-8.
+    InvalidUTF8,
+    /// A byte below 0x20 stands in a string.
+    ControlCharacterWhileParsingString,
+    /// A key is due, and no quote stands here.
+    ExpectObjectKeyOrEnd,
+    /// A comma stands behind the last element or member.
+    TrailingComma,
+    /// Something stands behind the value that was to be the whole text.
+    TrailingCharacters,
+    /// More than 255 arrays and objects stand inside each other.
+    RecursionLimitExceeded,
+    /// A key leads into an object without members.
+    GetInEmptyObject,
+    /// No member of the object has this key.
+    GetUnknownKeyInObject,
     /// An index leads into an array without elements.
     GetInEmptyArray,
     /// An index isn't below the number of elements.
     GetIndexOutOfArray,
+    /// A value of another kind stands where one is to be changed.
+    UnexpectedVisitType,
+    /// Half of a surrogate pair stands alone.
+    InvalidSurrogateUnicodeCodePoint,
+    /// A number is to be finite, and isn't.
+    FloatMustBeFinite,
+    /// A key is to be a number, and isn't.
+    ExpectedNumericKey,
+    /// A quote is due, and isn't there.
+    ExpectedQuote,
+    /// A key is to be a text or a number, and isn't.
+    SerExpectKeyIsStrOrNum,
     /// Memory ran out.
     NoMemory,
-    /// JSON that this version doesn't read yet: strings, objects, fractions and exponents.
+    /// JSON that this version doesn't read yet: objects.
     Unsupported,
+}
+
+impl ErrorCode {
+    // The family that the error belongs to.
+    pub(crate) fn category(self) -> Category
+        ensures { result ≡ category_of self }
+    {
+        match self {
+            ErrorCode::Io(_) => Category::Io,
+            ErrorCode::EofWhileParsing => Category::Eof,
+            ErrorCode::NoMemory => Category::Memory,
+            ErrorCode::Message(_) | ErrorCode::UnexpectedVisitType => Category::TypeUnmatched,
+            ErrorCode::GetInEmptyObject
+            | ErrorCode::GetUnknownKeyInObject
+            | ErrorCode::GetInEmptyArray
+            | ErrorCode::GetIndexOutOfArray => Category::NotFound,
+            _ => Category::Syntax,
+        }
+    }
+}
+
+impl fmt::Display for ErrorCode {
+    ghost output = { λ code. Some (code_text code) };
+
+    fn fmt<W: fmt::Write>(&self, f: &mut fmt::Formatter<W>) -> fmt::Result {
+        let words = match self {
+            Self::Message(note) => return write!(f, "{note}"),
+            Self::Io(_) => "io error while serializing or deserializing",
+            Self::EofWhileParsing => "EOF while parsing",
+            Self::ExpectedColon => "Expected this character to be a ':' while parsing",
+            Self::ExpectedArrayCommaOrEnd =>
+                "Expected this character to be either a ',' or a ']' while parsing",
+            Self::ExpectedObjectCommaOrEnd =>
+                "Expected this character to be either a ',' or a '}' while parsing",
+            Self::InvalidLiteral => "Invalid literal (`true`, `false`, or a `null`) while parsing",
+            Self::InvalidJsonValue => "Invalid JSON value",
+            Self::ExpectedObjectStart => "Expected this character to be '{'",
+            Self::ExpectedArrayStart => "Expected this character to be '['",
+            Self::InvalidEscape => "Invalid escape chars",
+            Self::InvalidNumber => "Invalid number",
+            Self::NumberOutOfRange => "Number is bigger than the maximum value of its type",
+            Self::InvalidUnicodeCodePoint => "Invalid unicode code point",
+            Self::InvalidUTF8 => "Invalid UTF-8 characters in json",
+            Self::ControlCharacterWhileParsingString =>
+                "Control character found while parsing a string",
+            Self::ExpectObjectKeyOrEnd => "Expected this character to be '\"' or '}'",
+            Self::TrailingComma => "JSON has a comma after the last value in an array or object",
+            Self::TrailingCharacters =>
+                "JSON has non-whitespace trailing characters after the value",
+            Self::RecursionLimitExceeded =>
+                "Encountered nesting of JSON maps and arrays more than 255 layers deep",
+            Self::GetInEmptyObject => "Get value from an empty object",
+            Self::GetUnknownKeyInObject => "Get unknown key from the object",
+            Self::GetInEmptyArray => "Get value from an empty array",
+            Self::GetIndexOutOfArray => "Get index out of the array",
+            Self::UnexpectedVisitType => "Unexpected visited type",
+            Self::InvalidSurrogateUnicodeCodePoint => "Invalid surrogate Unicode code point",
+            Self::FloatMustBeFinite => "Float number must be finite, not be Infinity or NaN",
+            Self::ExpectedNumericKey => "Expect a numeric key in Value",
+            Self::ExpectedQuote => "Expect a quote",
+            Self::SerExpectKeyIsStrOrNum =>
+                "Expected the key to be string/bool/number when serializing map",
+            Self::NoMemory => "out of memory",
+            Self::Unsupported => "Unsupported",
+        };
+        f.write_str(words)
+    }
 }

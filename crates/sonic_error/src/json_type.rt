@@ -1,5 +1,8 @@
-ghost use Rattle.std.specs.Prelude.{◌≡◌, ◌≤◌, ◌↔◌, IfSome, IsSome};
+ghost use Rattle.std.specs.Prelude.{◌≡◌, ◌≤◌, ◌↔◌, IfSome, IsSome, Some};
 ghost use Rattle.sonic_error.specs.Kinds.{number_of};
+ghost use Rattle.sonic_error.specs.Texts.{note_text, found_text, wanted_text};
+
+use std::fmt;
 
 /// The six kinds of value that JSON has (RFC 8259, section 3).
 #[derive(Clone, Copy, Debug, PartialEq, Eq)]
@@ -47,4 +50,43 @@ pub enum Note {
     Mismatch { found: JsonType, wanted: Wanted },
     /// The schema to be filled is no object.
     SchemaNotObject,
+}
+
+impl fmt::Display for Note {
+    ghost output = { λ note. Some (note_text note) };
+
+    fn fmt<W: fmt::Write>(&self, f: &mut fmt::Formatter<W>) -> fmt::Result {
+        match self {
+            Note::Mismatch { found, wanted } => {
+                let (found, wanted) = (found_word(*found), wanted_words(*wanted));
+                write!(f, "invalid type: {found}, expected {wanted}")
+            }
+            Note::SchemaNotObject => f.write_str("The schema must be an object"),
+        }
+    }
+}
+
+// What a message calls the kind that was found.
+fn found_word(kind: JsonType) -> &'static str
+    ensures { result.now ≡ found_text kind }
+{
+    match kind {
+        JsonType::Null => "null",
+        JsonType::Boolean => "boolean",
+        JsonType::Number => "number",
+        JsonType::String => "string",
+        JsonType::Object => "map",
+        JsonType::Array => "sequence",
+    }
+}
+
+// What a message calls the kind that was wanted.
+fn wanted_words(wanted: Wanted) -> &'static str
+    ensures { result.now ≡ wanted_text wanted }
+{
+    match wanted {
+        Wanted::Object => "a JSON object",
+        Wanted::Array => "a JSON array",
+        Wanted::Number => "a JSON number",
+    }
 }

@@ -2,7 +2,13 @@
 #![tactic(auto)]
 
 mod code;
+mod error;
+mod fragment;
 mod json_type;
+mod position;
+#[cfg(test)]
+mod tests;
 
 pub use code::{Category, ErrorCode};
+pub use error::{Error, Result};
 pub use json_type::{JsonType, Note, Wanted};

@@ -1,7 +1,13 @@
+pub mod Codepoints
 pub mod Decimals
-pub mod FirstBytes
+pub mod EscapeFaults
+pub mod Escapes
+pub mod HexDigits
+pub mod HexLemmas
+pub mod LiteralStrings
 pub mod Literals
 pub mod Numbers
-pub mod Outcomes
 pub mod Places
-pub mod Values
+pub mod Strings
+pub mod Tables
+pub mod Unescaping

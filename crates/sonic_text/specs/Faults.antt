@@ -1,32 +1,39 @@
 -- Where and why a value that is due isn't there: the first byte that fits no value, as all before it does.
-use Rattle.std.specs.Prelude.{◌≡◌, ◌≢◌, ℕ, ◌⊎◌, List, codes}
-use Rattle.sonic_error.specs.declared.code.ErrorCode.TheVariants.{ExpectedArrayCommaOrEnd, InvalidJsonValue, Unsupported}
+use Rattle.std.specs.Prelude.{◌≡◌, ◌≢◌, ℕ, ◌⊎◌, Bool, List, codes}
+use Rattle.sonic_error.specs.declared.code.ErrorCode.TheVariants.{ExpectedArrayCommaOrEnd, ExpectedColon, ExpectedObjectCommaOrEnd, ExpectObjectKeyOrEnd, InvalidJsonValue}
 use Rattle.sonic_text.specs.declared.stop.Stop.{Stop}
 use Rattle.sonic_text.specs.Places.{byte, after_space, bad, IsDigit}
 use Rattle.sonic_text.specs.Literals.{IsLiteralFault}
 use Rattle.sonic_text.specs.Numbers.{IsNumberFault}
-use Rattle.sonic_text.specs.Values.{IsValue, ElementsFit}
+use Rattle.sonic_text.specs.Strings.{IsString, IsStringFault}
+use Rattle.sonic_text.specs.Values.{IsValue, IsKey, ElementsFit, MembersFit}
 
 -- no value begins with this byte
 abbrev pub BeginsNone : ℕ → Type 0
 BeginsNone b = (b ≢ 91) × (b ≢ 123) × (b ≢ 34) × (b ≢ 45) × ¬ (IsDigit b) × (b ≢ 110) × (b ≢ 116) × (b ≢ 102)
 
--- a string or an object begins with this byte, which this version doesn't read
-abbrev pub BeginsUnsupported : ℕ → Type 0
-BeginsUnsupported b = (b ≡ 34) ⊎ (b ≡ 123)
+-- behind e stands neither a comma nor this bracket
+abbrev pub NothingFits : List ℕ → ℕ → ℕ → Type 0
+NothingFits t e bracket = (byte t (after_space t e) ≢ 44) × (byte t (after_space t e) ≢ bracket)
 
--- behind the element that ends at e stands neither a comma nor a closing bracket
-abbrev pub NothingFits : List ℕ → ℕ → Type 0
-NothingFits t e = (byte t (after_space t e) ≢ 44) × (byte t (after_space t e) ≢ 93)
+-- a key is due at k and isn't there, for this reason, or no colon stands behind it
+pub data IsKeyFault (m : Bool) (t : List ℕ) (k : ℕ) (s : Stop) : Type 0 where
+  no_quote : byte t k ≢ 34 → s ≡ bad t k ExpectObjectKeyOrEnd → IsKeyFault m t k s
+  key_fault : byte t k ≡ 34 → IsStringFault m t k s → IsKeyFault m t k s
+  no_colon : {e : ℕ} {b : List ℕ} → IsString m t k e b → byte t (after_space t e) ≢ 58 → s ≡ bad t (after_space t e) ExpectedColon → IsKeyFault m t k s
 
 -- a value is due at i and isn't there, for this reason
-pub data IsFault (t : List ℕ) : ℕ → Stop → Type 0 where
-  no_value : {i : ℕ} {s : Stop} → BeginsNone (byte t i) → s ≡ bad t i InvalidJsonValue → IsFault t i s
-  unsupported : {i : ℕ} {s : Stop} → BeginsUnsupported (byte t i) → s ≡ bad t i Unsupported → IsFault t i s
-  null_fault : {i : ℕ} {s : Stop} → byte t i ≡ 110 → IsLiteralFault (codes "null") t i s → IsFault t i s
-  true_fault : {i : ℕ} {s : Stop} → byte t i ≡ 116 → IsLiteralFault (codes "true") t i s → IsFault t i s
-  false_fault : {i : ℕ} {s : Stop} → byte t i ≡ 102 → IsLiteralFault (codes "false") t i s → IsFault t i s
-  number_fault : {i : ℕ} {s : Stop} → (byte t i ≡ 45) ⊎ IsDigit (byte t i) → IsNumberFault t i s → IsFault t i s
-  in_element : {i n v : ℕ} {s : Stop} → ElementsFit t i n v → IsFault t v s → IsFault t i s
-  behind_element : {i n v e : ℕ} {s : Stop} → ElementsFit t i n v → IsValue t v e → NothingFits t e
-      → s ≡ bad t (after_space t e) ExpectedArrayCommaOrEnd → IsFault t i s
+pub data IsFault (m : Bool) (t : List ℕ) : ℕ → Stop → Type 0 where
+  no_value : {i : ℕ} {s : Stop} → BeginsNone (byte t i) → s ≡ bad t i InvalidJsonValue → IsFault m t i s
+  null_fault : {i : ℕ} {s : Stop} → byte t i ≡ 110 → IsLiteralFault (codes "null") t i s → IsFault m t i s
+  true_fault : {i : ℕ} {s : Stop} → byte t i ≡ 116 → IsLiteralFault (codes "true") t i s → IsFault m t i s
+  false_fault : {i : ℕ} {s : Stop} → byte t i ≡ 102 → IsLiteralFault (codes "false") t i s → IsFault m t i s
+  number_fault : {i : ℕ} {s : Stop} → (byte t i ≡ 45) ⊎ IsDigit (byte t i) → IsNumberFault t i s → IsFault m t i s
+  string_fault : {i : ℕ} {s : Stop} → byte t i ≡ 34 → IsStringFault m t i s → IsFault m t i s
+  in_element : {i n v : ℕ} {s : Stop} → ElementsFit m t i n v → IsFault m t v s → IsFault m t i s
+  behind_element : {i n v e : ℕ} {s : Stop} → ElementsFit m t i n v → IsValue m t v e → NothingFits t e 93
+      → s ≡ bad t (after_space t e) ExpectedArrayCommaOrEnd → IsFault m t i s
+  in_key : {i n k : ℕ} {s : Stop} → MembersFit m t i n k → IsKeyFault m t k s → IsFault m t i s
+  in_member : {i n k v : ℕ} {b : List ℕ} {s : Stop} → MembersFit m t i n k → IsKey m t k v b → IsFault m t v s → IsFault m t i s
+  behind_member : {i n k v e : ℕ} {b : List ℕ} {s : Stop} → MembersFit m t i n k → IsKey m t k v b → IsValue m t v e → NothingFits t e 125
+      → s ≡ bad t (after_space t e) ExpectedObjectCommaOrEnd → IsFault m t i s

@@ -1,6 +1,9 @@
+pub mod Documents
 pub mod Faults
 pub mod Laws
 pub mod Literals
 pub mod Numbers
 pub mod Places
+pub mod Strings
+pub mod Trees
 pub mod Values

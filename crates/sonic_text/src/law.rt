@@ -1,8 +1,23 @@
-ghost use Rattle.std.specs.Prelude.{ℕ, List};
+ghost use Rattle.std.specs.Prelude.{ℕ, ◌≤◌, List, length};
 ghost use Rattle.sonic_text.specs.Laws.{HasOneOutcome};
+ghost use Rattle.sonic_text.specs.Literals.{IsLiteral, IsLiteralFault};
+ghost use Rattle.sonic_text.specs.Numbers.{IsNumber, IsNumberFault};
 
-/// A law of the grammar, for every text and every place in it: a value that is due there ends at
-/// exactly one place, or has exactly one fault, and never both.
-pub fn value_has_one_outcome()
-    ensures { (t : List ℕ) (i : ℕ) → HasOneOutcome t i }
+/// A law of the numbers, for every text and every place: either a number stands there and ends at
+/// exactly one place, or none does for exactly one reason, and never both.
+///
+/// The reason is a place and a code. So what `number_end` answers is the only answer that its
+/// clauses allow.
+pub fn number_has_one_outcome()
+    ensures { (t : List ℕ) (i : ℕ) → HasOneOutcome (IsNumber t i) (IsNumberFault t i) }
+{}
+
+/// A law of the literals, for every word, every text and every place in it: either the word stands
+/// there and ends at exactly one place, or it doesn't for exactly one reason, and never both.
+///
+/// The reason is a place and a code. So what `literal_end` answers is the only answer that its
+/// clauses allow.
+pub fn literal_has_one_outcome()
+    ensures { (word t : List ℕ) (i : ℕ) → i ≤ length t
+        → HasOneOutcome (IsLiteral word t i) (IsLiteralFault word t i) }
 {}

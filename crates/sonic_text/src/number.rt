@@ -1,16 +1,132 @@
-ghost use Rattle.std.specs.Prelude.{◌≢◌, ◌<◌, ◌^◌, length};
+ghost use Rattle.std.specs.Prelude.{◌≡◌, ◌≢◌, ◌<◌, ◌≤◌, ◌^◌, length, IfOk, IfErr, FitsSigned};
+ghost use Rattle.std.specs.Int.{w64};
 ghost use Rattle.std.specs.Option.{SomeIff};
-ghost use Rattle.std.specs.Str.Parse.{digits_value};
-ghost use Rattle.sonic_text.specs.Places.{byte};
-ghost use Rattle.sonic_text.specs.Numbers.{IsNumber};
+ghost use Rattle.std.specs.Str.Parse.{digits_value, signed_digits_value};
+ghost use Rattle.sonic_text.specs.Places.{byte, IsDigit};
+ghost use Rattle.sonic_text.specs.Numbers.{after_minus, after_sign, IsInt, IsIntFault, IsFraction, IsFractionFault, IsExponent, IsExponentFault, IsNumber, IsNumberFault, IsWholeText};
 
-/// The number that the text stands for, where it has no sign and fits in 64 bits.
+use crate::scan::{byte_at, skip_digits, stop_at};
+use crate::stop::Stop;
+use sonic_error::ErrorCode;
+
+// The place behind the minus sign, if one stands at `start`.
+fn skip_minus(text: &[u8], start: usize) -> usize
+    requires { start ≤ length text.now }
+    ensures place { result ≡ after_minus text.now start }
+    ensures later { start ≤ result }
+    ensures within { result ≤ length text.now }
+{
+    if byte_at(text, start) == b'-' {
+        start + 1
+    } else {
+        start
+    }
+}
+
+// The place behind the sign, if one stands at `start`.
+fn skip_sign(text: &[u8], start: usize) -> usize
+    requires { start ≤ length text.now }
+    ensures place { result ≡ after_sign text.now start }
+    ensures later { start ≤ result }
+    ensures within { result ≤ length text.now }
+{
+    match byte_at(text, start) {
+        b'+' | b'-' => start + 1,
+        _ => start,
+    }
+}
+
+// The end of the integer without a sign that stands at a place.
+fn int_end(text: &[u8], start: usize) -> Result<usize, Stop>
+    requires { start ≤ length text.now }
+    ensures ok { IfOk result (λ j. (start < j) × (j ≤ length text.now) × IsInt text.now start j) }
+    ensures err { IfErr result (λ s. IsIntFault text.now start s) }
+{
+    match byte_at(text, start) {
+        b'0' if byte_at(text, start + 1).is_ascii_digit() => {
+            Err(stop_at(text, start + 1, ErrorCode::InvalidNumber))
+        }
+        b'0' => Ok(start + 1),
+        b'1'..=b'9' => Ok(skip_digits(text, start)),
+        _ => Err(stop_at(text, start, ErrorCode::InvalidNumber)),
+    }
+}
+
+// The end of the fraction that stands at a place, or the place itself where no dot does.
+fn fraction_end(text: &[u8], start: usize) -> Result<usize, Stop>
+    requires { start ≤ length text.now }
+    ensures ok { IfOk result (λ j. (start ≤ j) × (j ≤ length text.now) × IsFraction text.now start j) }
+    ensures err { IfErr result (λ s. IsFractionFault text.now start s) }
+{
+    if byte_at(text, start) != b'.' {
+        return Ok(start);
+    }
+    let digits = start + 1;
+    if byte_at(text, digits).is_ascii_digit() {
+        Ok(skip_digits(text, digits))
+    } else {
+        Err(stop_at(text, digits, ErrorCode::InvalidNumber))
+    }
+}
+
+// The end of the exponent that stands at a place, or the place itself where no `e` does.
+fn exponent_end(text: &[u8], start: usize) -> Result<usize, Stop>
+    requires { start ≤ length text.now }
+    ensures ok { IfOk result (λ j. (start ≤ j) × (j ≤ length text.now) × IsExponent text.now start j) }
+    ensures err { IfErr result (λ s. IsExponentFault text.now start s) }
+{
+    if !matches!(byte_at(text, start), b'e' | b'E') {
+        return Ok(start);
+    }
+    let digits = skip_sign(text, start + 1);
+    if byte_at(text, digits).is_ascii_digit() {
+        Ok(skip_digits(text, digits))
+    } else {
+        Err(stop_at(text, digits, ErrorCode::InvalidNumber))
+    }
+}
+
+/// The end of the number that stands at `start`, or the first place where a digit is due and none
+/// stands, or where one stands behind a first 0.
 ///
-/// The text is one number of RFC 8259, section 6: `whole_u64("300")` is `Some(300)`, and both
-/// `whole_u64("-0")` and `whole_u64("18446744073709551616")` are `None`.
+/// The number is one of RFC 8259, section 6, and the longest one. Behind it anything may follow:
+/// `number_end(b"1.2.3", 0)` is `Ok(3)`. `number_end(b"-x", 0)` stops at 1 and
+/// `number_end(b"01", 0)` at 1, both with `InvalidNumber`, and `number_end(b"1e", 0)` at 2 with
+/// `EofWhileParsing`.
+pub fn number_end(text: &[u8], start: usize) -> Result<usize, Stop>
+    requires { start ≤ length text.now }
+    ensures ok { IfOk result (λ j. (start < j) × (j ≤ length text.now) × IsNumber text.now start j) }
+    ensures err { IfErr result (λ s. IsNumberFault text.now start s) }
+{
+    let whole = int_end(text, skip_minus(text, start))?;
+    let fraction = fraction_end(text, whole)?;
+    exponent_end(text, fraction)
+}
+
+/// The value of the number, where it is an integer with no sign that fits in 64 bits.
+///
+/// The text is one number of RFC 8259, section 6, and nothing else: `whole_u64("300")` is
+/// `Some(300)`. A fraction or an exponent makes it no integer, whatever its value is, and `-0` has
+/// a sign: `whole_u64("1e3")`, `whole_u64("-0")` and `whole_u64("18446744073709551616")` are `None`.
 pub fn whole_u64(text: &str) -> Option<u64>
     requires { IsNumber text.now 0 (length text.now) }
-    ensures { SomeIff result ((byte text.now 0 ≢ 45) × (digits_value 10 text.now < 2 ^ 64)) (digits_value 10 text.now) }
+    ensures { SomeIff result
+        (IsWholeText text.now × (byte text.now 0 ≢ 45) × (digits_value 10 text.now < 2 ^ 64))
+        (digits_value 10 text.now) }
 {
-    text.parse().ok()
+    text.parse::<u64>().ok()
+}
+
+/// The value of the number, where it is an integer that fits in 64 bits with a sign.
+///
+/// The text is one number of RFC 8259, section 6, and nothing else: `whole_i64("-300")` is
+/// `Some(-300)`, and `whole_i64("-0")` is `Some(0)`. A fraction or an exponent makes it no integer,
+/// whatever its value is: `whole_i64("1.0")` and `whole_i64("9223372036854775808")` are `None`.
+pub fn whole_i64(text: &str) -> Option<i64>
+    requires { IsNumber text.now 0 (length text.now) }
+    ensures { SomeIff result
+        (IsWholeText text.now × FitsSigned w64 (signed_digits_value 10 text.now))
+        (signed_digits_value 10 text.now) }
+{
+    text.parse::<i64>().ok()
 }

@@ -3,11 +3,11 @@ use Rattle.std.proofs.Common.{◌≡◌, ℕ, ◌+◌, ◌<◌, ◌≤◌, List,
 use Rattle.sonic_error.specs.declared.code.ErrorCode.TheVariants.{ExpectedArrayCommaOrEnd}
 use Rattle.sonic_text.specs.declared.stop.Stop.{Stop}
 use Rattle.sonic_text.specs.Places.{after_space, bad}
-use Rattle.sonic_text.specs.Values.{IsValue, ElementsFit}
-use Rattle.sonic_text.specs.Values.IsValue.{array}
-use Rattle.sonic_text.specs.Values.ElementsFit.{next_element}
-use Rattle.sonic_text.specs.Faults.{IsFault, NothingFits}
-use Rattle.sonic_text.specs.Faults.IsFault.{in_element, behind_element}
+use Rattle.sonic_tool.specs.Values.{IsValue, ElementsFit}
+use Rattle.sonic_tool.specs.Values.IsValue.{array}
+use Rattle.sonic_tool.specs.Values.ElementsFit.{next_element}
+use Rattle.sonic_tool.specs.Faults.{IsFault, NothingFits}
+use Rattle.sonic_tool.specs.Faults.IsFault.{in_element, behind_element}
 use Rattle.sonic_tool.specs.declared.skip.Behind.TheVariants.{Comma, Bracket}
 use Rattle.sonic_tool.specs.Skipping.{IsBehind}
 

@@ -4,12 +4,12 @@ use Rattle.std.proofs.Math.Seq.{drop-cons}
 use Rattle.sonic_error.specs.declared.code.ErrorCode.TheVariants.{ExpectedArrayCommaOrEnd, GetIndexOutOfArray}
 use Rattle.sonic_text.specs.declared.stop.Stop.{Stop}
 use Rattle.sonic_text.specs.Places.{byte, after_space, bad}
-use Rattle.sonic_text.specs.Values.{IsValue, ElementsFit}
-use Rattle.sonic_text.specs.Values.IsValue.{array}
-use Rattle.sonic_text.specs.Values.ElementsFit.{first_element}
-use Rattle.sonic_text.specs.Faults.{IsFault, NothingFits}
-use Rattle.sonic_text.specs.Faults.IsFault.{in_element, behind_element}
-use Rattle.sonic_text.proofs.Values.{elements_before, elements_one, elements_open, value-longer, value_never_both, value_end_one}
+use Rattle.sonic_tool.specs.Values.{IsValue, ElementsFit}
+use Rattle.sonic_tool.specs.Values.IsValue.{array}
+use Rattle.sonic_tool.specs.Values.ElementsFit.{first_element}
+use Rattle.sonic_tool.specs.Faults.{IsFault, NothingFits}
+use Rattle.sonic_tool.specs.Faults.IsFault.{in_element, behind_element}
+use Rattle.sonic_tool.proofs.Values.{elements_before, elements_one, elements_open, value-longer, value_never_both, value_end_one}
 use Rattle.sonic_tool.specs.declared.evaluate.Outcome.{Outcome}
 use Rattle.sonic_tool.specs.declared.evaluate.Outcome.TheVariants.{Fails, Cut}
 use Rattle.sonic_tool.specs.declared.skip.Behind.TheVariants.{Bracket}

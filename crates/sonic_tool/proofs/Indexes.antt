@@ -8,13 +8,12 @@ use Rattle.std.specs.Str.Parse.{digits_value}
 use Rattle.std.proofs.lemmas.Str.{IsUtf8-from_ascii}
 use Rattle.std.proofs.lemmas.Fmt.{IsAscii-from_digits}
 use Rattle.std.proofs.lemmas.List.{length-take, length-drop, get_or-take, get_or-drop, append_assoc}
-use Rattle.sonic_text.specs.Places.{byte, after_space}
-use Rattle.sonic_text.specs.Numbers.{IsNumber, IsInt, BeginsMore}
-use Rattle.sonic_text.specs.Faults.{NothingFits}
-use Rattle.sonic_text.proofs.Places.{byte_behind}
+use Rattle.sonic_text.specs.Places.{byte, after_space, IsDigit}
+use Rattle.sonic_text.specs.Numbers.{IsNumber, IsInt, IsE, IsWholeText}
+use Rattle.sonic_tool.specs.Faults.{NothingFits}
+use Rattle.sonic_text.proofs.Places.{byte_behind, digits_end_later}
 use Rattle.sonic_text.proofs.Decimals.{unsigned, numeral}
-use Rattle.sonic_text.proofs.Numbers.{number_one, number_begins}
-use Rattle.sonic_tool.specs.Paths.{IsIndex, IndexesStand, IsIndexArray, IsPathLine}
+use Rattle.sonic_tool.specs.Paths.{BeginsMore, IsIndex, IndexesStand, IsIndexArray, IsPathLine}
 use Rattle.sonic_tool.specs.Paths.IndexesStand.{last_index, more_indexes}
 use Rattle.sonic_tool.specs.Paths.IsIndexArray.{no_index, indexes}
 
@@ -48,11 +47,10 @@ part_first t i j l = let e : byte (slice_range t i j) 0 ≡ byte t (i + 0) = par
 part_end : (t : List ℕ) (i j k : ℕ) → i ≤ j → j ≤ length t → j - i ≤ k → byte (slice_range t i j) k ≡ 0
 part_end t i j k l within behind = byte_behind (slice_range t i j) k (omega (arith, part_length t i j l within))
 
--- no fraction and no exponent begins where no byte stands
-ends_number : (b : ℕ) → b ≡ 0 → ¬ BeginsMore b
-ends_number b z (inl d) = omega arith
-ends_number b z (inr (inl e)) = omega arith
-ends_number b z (inr (inr e)) = omega arith
+-- no exponent begins where no byte stands
+no_exponent : (b : ℕ) → b ≡ 0 → ¬ IsE b
+no_exponent b z (inl e) = omega arith
+no_exponent b z (inr e) = omega arith
 
 -- an integer without a sign, cut out of its text, is the integer
 int_cut : (t : List ℕ) (i j : ℕ) → IsInt t i j → i < j → j ≤ length t → IsInt (slice_range t i j) 0 (length (slice_range t i j))
@@ -64,24 +62,53 @@ int_cut t i j (inr d) l within =
     let digits = front_alone is_ascii_digit (drop i t) (j - i) (omega (arith, d.2)) in
     inr (omega (arith, first, d.0), omega (arith, first, d.1), omega (arith, part_length t i j (omega arith) within, digits))
 
--- a number without a sign, cut out of its text, is the number
-pub number_cut : {t : List ℕ} {i j : ℕ} → IsNumber t i j → byte t i ≢ 45 → i < j → j ≤ length t → IsNumber (slice_range t i j) 0 (length (slice_range t i j))
-number_cut {t} {i} {j} n plain l within =
-    let m : IsInt t i j = rw (unsigned t i plain) at n.int in
-    let plain_part : byte (slice_range t i j) 0 ≢ 45 = rw (part_first t i j l) plain in
-    let last : byte (slice_range t i j) (length (slice_range t i j)) ≡ 0 = byte_behind (slice_range t i j) (length (slice_range t i j)) (omega arith) in
-    record { int = rw (unsigned (slice_range t i j) 0 plain_part) (int_cut t i j m l within); whole = λ more. ends_number _ last more }
+-- an integer without a sign begins with a digit
+pub int_first : (t : List ℕ) (i j : ℕ) → IsInt t i j → IsDigit (byte t i)
+int_first t i j (inl z) = (omega (arith, z.0), omega (arith, z.0))
+int_first t i j (inr d) = (omega (arith, d.0), d.1)
 
--- the digits of an index are text
-pub index_text : {t : List ℕ} {i j : ℕ} → IsNumber t i j → byte t i ≢ 45 → i < j → j ≤ length t → IsUtf8 (slice_range t i j)
-index_text {t} {i} {j} n plain l within =
-    let plain_part : byte (slice_range t i j) 0 ≢ 45 = rw (part_first t i j l) plain in
-    IsUtf8-from_ascii _ (IsAscii-from_digits _ (numeral _ plain_part (number_cut n plain l within).int).1)
+-- and ends behind it
+pub int_longer : (t : List ℕ) (i j : ℕ) → IsInt t i j → i < j
+int_longer t i j (inl z) = omega (arith, z.2)
+int_longer t i j (inr d) = let l = digits_end_later t i (omega (arith, d.0), d.1) in omega (arith, l, d.2)
+
+-- an integer without a sign has one end
+pub int_one : (t : List ℕ) (i j k : ℕ) → IsInt t i j → IsInt t i k → j ≡ k
+int_one t i j k (inl z) (inl y) = cc (z.2, y.2)
+int_one t i j k (inl z) (inr d) = absurd (omega (arith, z.0, d.0))
+int_one t i j k (inr d) (inl z) = absurd (omega (arith, z.0, d.0))
+int_one t i j k (inr d) (inr e) = cc (d.2, e.2)
+
+-- no minus sign begins an integer without a sign, cut out of its text
+int_plain : (t : List ℕ) (i j : ℕ) → IsInt t i j → i < j → byte (slice_range t i j) 0 ≢ 45
+int_plain t i j n l minus = let d = int_first t i j n in omega (arith, d.0, part_first t i j l, minus)
+
+-- an integer without a sign, cut out of its text, is a whole text
+pub int_text : (t : List ℕ) (i j : ℕ) → IsInt t i j → i < j → j ≤ length t → IsWholeText (slice_range t i j)
+int_text t i j n l within = rw (unsigned (slice_range t i j) 0 (int_plain t i j n l)) (int_cut t i j n l within)
+
+-- and it is a number
+pub int_number : (t : List ℕ) (i j : ℕ) → IsInt t i j → i < j → j ≤ length t → IsNumber (slice_range t i j) 0 (length (slice_range t i j))
+int_number t i j n l within =
+    let part = slice_range t i j in
+    let last : byte (slice_range t i j) (length (slice_range t i j)) ≡ 0 = byte_behind (slice_range t i j) (length (slice_range t i j)) (omega arith) in
+    record {
+      int_end = length (slice_range t i j);
+      fraction_end = length (slice_range t i j);
+      int = int_text t i j n l within;
+      fraction = inr (λ dot. omega (arith, dot, last), refl);
+      exponent = inr (λ e. no_exponent _ last e, refl);
+    }
+
+-- the digits of an index are UTF-8
+pub index_utf8 : (t : List ℕ) (i j : ℕ) → IsInt t i j → i < j → j ≤ length t → IsUtf8 (slice_range t i j)
+index_utf8 t i j n l within =
+    IsUtf8-from_ascii _ (IsAscii-from_digits _ (numeral _ (int_plain t i j n l) (int_text t i j n l within)).1)
 
 -- an index has one value and one end
-index_one : {t : List ℕ} {i j k m n : ℕ} → IsIndex t i j m → IsIndex t i k n → (j ≡ k) × (m ≡ n)
+pub index_one : {t : List ℕ} {i j k m n : ℕ} → IsIndex t i j m → IsIndex t i k n → (j ≡ k) × (m ≡ n)
 index_one {t} {i} {j} {k} {m} {n} a b =
-    let e : j ≡ k = number_one a.number b.number in
+    let e : j ≡ k = int_one t i j k a.int b.int in
     let v : digits_value 10 (slice_range t i j) ≡ digits_value 10 (slice_range t i k) = rw e refl in
     (e, cc (a.value, b.value, v))
 
@@ -101,13 +128,13 @@ indexes_one {t} {j = j} (more_indexes {u = u} {path = path} x c e r) (more_index
     let rest = indexes_one moved s in
     (rest.0, cc (o.1, rest.1))
 
--- a number that has a sign or doesn't fit is no index
-pub no_index_of : {t : List ℕ} {i j e n : ℕ} → IsNumber t i j → i < j → ¬ ((byte (slice_range t i j) 0 ≢ 45) × (digits_value 10 (slice_range t i j) < 2 ^ 64))
-    → ¬ IsIndex t i e n
-no_index_of {t} {i} {j} {e} a l misfit x =
-    let same : e ≡ j = number_one x.number a in
-    let value = rw same at x.value in
-    misfit (rw (part_first t i j l) x.unsigned, rw (← value) x.fits)
+-- an integer that doesn't fit is no index
+pub no_index_of : (t : List ℕ) (i j e n : ℕ) → IsInt t i j → i < j → j ≤ length t
+    → ¬ (IsWholeText (slice_range t i j) × (byte (slice_range t i j) 0 ≢ 45) × (digits_value 10 (slice_range t i j) < 2 ^ 64)) → ¬ IsIndex t i e n
+no_index_of t i j e n a l within misfit x =
+    let same : e ≡ j = int_one t i e j x.int a in
+    let value : n ≡ digits_value 10 (slice_range t i j) = rw same at x.value in
+    misfit (int_text t i j a l within, int_plain t i j a l, rw (← value) x.fits)
 
 -- what stands behind the index that is due: a comma and more of them, or the bracket
 pub data Goes (t : List ℕ) (e n j : ℕ) : List ℕ → Type 0 where
@@ -188,7 +215,8 @@ none_so_short {j = j} {path} {whole} f few r =
 index_no_bracket : {t : List ℕ} {v j : ℕ} {path : List ℕ} → IndexesStand t v j path → byte t v ≢ 93
 index_no_bracket {t} {v} r d =
     let i = some_index r in
-    elim (number_begins i.2.number) [ inl minus ↦ omega (arith, minus, d) | inr digit ↦ omega (arith, digit.1, d) ]
+    let first = int_first t v i.0 i.2.int in
+    omega (arith, first.1, d)
 
 -- an array of indexes has one end, and they are one list
 pub index_array_one : {t : List ℕ} {i j k : ℕ} {p q : List ℕ} → IsIndexArray t i j p → IsIndexArray t i k q → (j ≡ k) × (p ≡ q)
@@ -210,4 +238,10 @@ pub ruleset index_arrays = (no_index, indexes)
 
 pub ruleset index_rows = (follows_first, follows_comma, follows_bracket, none_without_index, none_behind, none_so_short)
 
-pub ruleset index_is = (index_text)
+-- where a fraction or an exponent stands behind the integer, no index stands
+pub more_behind : (t : List ℕ) (i j : ℕ) → IsInt t i j → BeginsMore (byte t j) → (e : ℕ) → IsInt t i e → BeginsMore (byte t e)
+more_behind t i j n more e m = rw (int_one t i e j m n) more
+
+pub ruleset index_ends = (more_behind)
+
+pub ruleset index_is = (index_utf8, int_number)

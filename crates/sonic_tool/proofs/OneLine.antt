@@ -3,14 +3,13 @@ use Rattle.std.proofs.Common.{◌≡◌, ◌≢◌, ◌⊎◌, inl, inr, ℕ, ze
 use Rattle.std.proofs.lemmas.Bool.{cases_eq, cases_lt}
 use Rattle.std.specs.Prelude.{slice_range}
 use Rattle.std.specs.Str.Parse.{digits_value}
-use Rattle.sonic_text.specs.Places.{byte, after_space}
-use Rattle.sonic_text.specs.Numbers.{IsNumber}
+use Rattle.sonic_text.specs.Places.{byte, after_space, IsDigit, digits_end}
+use Rattle.sonic_text.specs.Numbers.{IsInt}
 use Rattle.sonic_text.proofs.Places.{after_space_later, byte_within}
-use Rattle.sonic_text.proofs.Numbers.{number_some, number_one, number_longer, number_begins, number_never_both}
-use Rattle.sonic_tool.specs.Paths.{IsIndex, IndexesStand, IsIndexArray, IsPathLine}
+use Rattle.sonic_tool.specs.Paths.{BeginsMore, IsIndex, IndexesStand, IsIndexArray, IsPathLine}
 use Rattle.sonic_tool.specs.Paths.IndexesStand.{last_index, more_indexes}
 use Rattle.sonic_tool.specs.Paths.IsIndexArray.{no_index, indexes}
-use Rattle.sonic_tool.proofs.Indexes.{goes, behind_comma, comma_or_bracket, some_index, index_array_one}
+use Rattle.sonic_tool.proofs.Indexes.{int_first, int_longer, int_one, goes, behind_comma, comma_or_bracket, some_index, index_array_one}
 
 -- a line says at most one path
 pub path_line_one : {line path other : List ℕ} → IsPathLine line path → IsPathLine line other → path ≡ other
@@ -20,14 +19,47 @@ path_line_one p q = (index_array_one p.array q.array).1
 abbrev SomeIndex : List ℕ → ℕ → Type 0
 SomeIndex t v = (e : ℕ) × (n : ℕ) × IsIndex t v e n
 
--- a number is an index, or no index stands where it stands
-number_index : (t : List ℕ) (v e : ℕ) → IsNumber t v e → SomeIndex t v ⊎ ¬ SomeIndex t v
-number_index t v e h = elim (cases_eq (byte t v) 45) [
-  | inl minus ↦ inr (λ x. x.2.unsigned minus)
-  | inr plain ↦ elim (cases_lt (digits_value 10 (slice_range t v e)) (2 ^ 64)) [
-    | inl fits ↦ inl (e, _, record { number = h; unsigned = plain; value = refl; fits = fits })
+-- a byte is a digit or it isn't
+is_digit_or_not : (b : ℕ) → IsDigit b ⊎ ¬ IsDigit b
+is_digit_or_not b = elim (cases_lt b 48) [
+  | inl low ↦ inr (λ d. omega (arith, d.0))
+  | inr high ↦ elim (cases_lt b 58) [ inl within ↦ inl (omega arith, omega arith) | inr above ↦ inr (λ d. omega (arith, d.1)) ]
+]
+
+-- a byte begins a fraction or an exponent, or it doesn't
+more_or_not : (b : ℕ) → BeginsMore b ⊎ ¬ BeginsMore b
+more_or_not b = elim (cases_eq b 46) [
+  | inl dot ↦ inl (inl dot)
+  | inr a ↦ elim (cases_eq b 101) [
+    | inl e ↦ inl (inr (inl e))
+    | inr c ↦ elim (cases_eq b 69) [
+      | inl e ↦ inl (inr (inr e))
+      | inr d ↦ inr (λ m. elim m [ inl x ↦ a x | inr (inl y) ↦ c y | inr (inr z) ↦ d z ])
+    ]
+  ]
+]
+
+-- an integer without a sign stands at v, or none does
+int_or_none : (t : List ℕ) (v : ℕ) → ((e : ℕ) × IsInt t v e) ⊎ ((e : ℕ) → ¬ (IsInt t v e))
+int_or_none t v = elim (cases_eq (byte t v) 48) [
+  | inl nought ↦ elim (is_digit_or_not (byte t (v + 1))) [
+    | inl digit ↦ inr (λ e n. elim n [ inl z ↦ z.1 digit | inr d ↦ omega (arith, nought, d.0) ])
+    | inr other ↦ inl (v + 1, inl (nought, other, refl))
+  ]
+  | inr more ↦ elim (is_digit_or_not (byte t v)) [
+    | inl digit ↦ inl (digits_end t v, inr (omega (arith, digit.0), digit.1, refl))
+    | inr other ↦ inr (λ e n. elim n [ inl z ↦ more z.0 | inr d ↦ other (omega (arith, d.0), d.1) ])
+  ]
+]
+
+-- an integer is an index, or no index stands where it stands
+int_index : (t : List ℕ) (v e : ℕ) → IsInt t v e → SomeIndex t v ⊎ ¬ SomeIndex t v
+int_index t v e h = elim (more_or_not (byte t e)) [
+  | inl more ↦ inr (λ x. let same : x.0 ≡ e = int_one t v x.0 e x.2.int h in x.2.whole (rw same more))
+  | inr ends ↦ elim (cases_lt (digits_value 10 (slice_range t v e)) (2 ^ 64)) [
+    | inl fits ↦ inl (e, _, record { int = h; whole = ends; value = refl; fits = fits })
     | inr large ↦ inr (λ x.
-        let same : x.0 ≡ e = number_one x.2.number h in
+        let same : x.0 ≡ e = int_one t v x.0 e x.2.int h in
         let value : x.1 ≡ digits_value 10 (slice_range t v e) = rw same at x.2.value in
         let fits = x.2.fits in
         omega arith)
@@ -36,14 +68,14 @@ number_index t v e h = elim (cases_eq (byte t v) 45) [
 
 -- an index stands at a place, or none does
 index_or_none : (t : List ℕ) (v : ℕ) → SomeIndex t v ⊎ ¬ SomeIndex t v
-index_or_none t v = elim (number_some t v) [
-  | inl h ↦ number_index t v h.0 h.1
-  | inr f ↦ inr (λ x. number_never_both x.2.number f.1)
+index_or_none t v = elim (int_or_none t v) [
+  | inl h ↦ int_index t v h.0 h.1
+  | inr never ↦ inr (λ x. never x.0 x.2.int)
 ]
 
 -- an index begins with a byte that isn't 0
 index_byte : {t : List ℕ} {v e n : ℕ} → IsIndex t v e n → byte t v ≢ 0
-index_byte x z = elim (number_begins x.number) [ inl minus ↦ omega arith | inr digit ↦ omega (arith, digit.0) ]
+index_byte {t} {v} {e} x z = let d = int_first t v e x.int in omega (arith, d.0, z)
 
 -- some indexes stand from v on
 abbrev SomeIndexes : List ℕ → ℕ → Type 0
@@ -66,7 +98,7 @@ from_index t v e n x further = elim (cases_eq (byte t (after_space t e)) 93) [
   | inr more ↦ elim (cases_eq (byte t (after_space t e)) 44) [
     | inr misfit ↦ inr (λ r. comma_or_bracket (goes x r.2) misfit more)
     | inl comma ↦
-        let l = number_longer x.number in
+        let l = int_longer t v e x.int in
         let m = after_space_later t e in
         let k = after_space_later t (after_space t e + 1) in
         behind_one x comma refl (further (after_space t (after_space t e + 1)) (omega arith))

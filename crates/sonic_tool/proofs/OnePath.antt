@@ -10,13 +10,13 @@ use Rattle.sonic_text.specs.declared.stop.Stop.{Stop}
 use Rattle.sonic_text.specs.Places.{byte, after_space}
 use Rattle.sonic_text.specs.Literals.{IsLiteral}
 use Rattle.sonic_text.specs.Numbers.{IsNumber}
-use Rattle.sonic_text.specs.Values.{IsValue, ElementsFit, kind_at}
-use Rattle.sonic_text.specs.Values.IsValue.{null_literal, true_literal, false_literal, number, empty_array, array}
-use Rattle.sonic_text.specs.Values.ElementsFit.{first_element, next_element}
-use Rattle.sonic_text.specs.Faults.{IsFault}
+use Rattle.sonic_tool.specs.Values.{IsValue, ElementsFit, kind_at}
+use Rattle.sonic_tool.specs.Values.IsValue.{null_literal, true_literal, false_literal, number, string, empty_array, array}
+use Rattle.sonic_tool.specs.Values.ElementsFit.{first_element, next_element}
+use Rattle.sonic_tool.specs.Faults.{IsFault}
 use Rattle.sonic_text.proofs.Numbers.{number_begins}
-use Rattle.sonic_text.proofs.Values.{elements_not_empty, elements_open, elements_before, elements_one, value_end_one, value_fault_one, value_never_both}
-use Rattle.sonic_text.proofs.Outcomes.{value_some_outcome}
+use Rattle.sonic_tool.proofs.Values.{elements_not_empty, elements_open, elements_before, elements_one, value_end_one, value_fault_one, value_never_both}
+use Rattle.sonic_tool.proofs.Outcomes.{value_some_outcome}
 use Rattle.sonic_tool.specs.declared.evaluate.Outcome.{Outcome}
 use Rattle.sonic_tool.specs.declared.evaluate.Outcome.TheVariants.{Fails, Cut}
 use Rattle.sonic_tool.specs.Paths.{Evaluates}
@@ -147,6 +147,7 @@ fails_in_value {i = i} {n} rest (array {n = m} {v} es x c q) none = elim (cases_
 fails_in_value {t} {i} rest (null_literal h) none = (_, no_array (null_literal h) (word_no_array (codes "null") t i (omega arith) (omega arith) h) refl)
 fails_in_value {t} {i} rest (true_literal h) none = (_, no_array (true_literal h) (word_no_array (codes "true") t i (omega arith) (omega arith) h) refl)
 fails_in_value {t} {i} rest (false_literal h) none = (_, no_array (false_literal h) (word_no_array (codes "false") t i (omega arith) (omega arith) h) refl)
+fails_in_value {t} {i} rest (string h) none = (_, no_array (string h) (λ b. let q = h.opens in omega arith) refl)
 fails_in_value rest (number h) none = (_, no_array (number h) (number_no_array h) refl)
 
 -- a path leads to some outcome

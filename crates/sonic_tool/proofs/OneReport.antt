@@ -1,9 +1,10 @@
 -- The words and the input have one report.
-use Rattle.std.proofs.Common.{◌≡◌, ◌⊎◌, inl, inr, ℕ, Bool, true, false, List, [], ◌∷◌, length, drop, codes, arith, refl, sym, ap, ◌∙◌}
+use Rattle.std.proofs.Common.{◌≡◌, ◌⊎◌, inl, inr, ℕ, Bool, true, false, List, [], ◌∷◌, length, drop, take, codes, arith, refl, sym, ap, ◌∙◌}
 use Rattle.std.proofs.lemmas.Bool.{cases_lt}
 use Rattle.std.proofs.lemmas.Slice.Eq.{bytes_eq-Decides}
 use Rattle.std.specs.Bool.{Decides}
-use Rattle.std.specs.Str.{bytes_eq}
+use Rattle.std.specs.Str.{bytes_eq, IsUtf8, is_utf8}
+use Rattle.std.proofs.lemmas.Str.{IsUtf8-from_is_utf8, is_utf8-from_IsUtf8}
 use Rattle.sonic_text.specs.Places.{after_space}
 use Rattle.sonic_tool.specs.declared.reading.TheConstants.{LIMIT}
 use Rattle.sonic_tool.specs.declared.status.Status.{Status}
@@ -11,8 +12,11 @@ use Rattle.sonic_tool.specs.Commands.{IsListed}
 use Rattle.sonic_tool.specs.Heads.{IsHead, IsFirstBad}
 use Rattle.sonic_tool.specs.Heads.IsFirstBad.{first_line, second_line}
 use Rattle.sonic_tool.specs.Paths.{IsPathLine}
-use Rattle.sonic_tool.specs.Reports.{line_of, status_of, ReportsPath, IsGetReport, IsReport, Reports, IsTheReport}
+use Rattle.sonic_tool.specs.Reports.{ReportsPath, IsLine, IsGetReport, IsReport, Reports, IsTheReport}
 use Rattle.std.specs.declared.option.Option.{Option}
+use Rattle.sonic_tool.specs.Reports.IsLine.{value_line, broken_line, failing_line, cut_line}
+use Rattle.sonic_tool.specs.declared.evaluate.Outcome.{Outcome}
+use Rattle.sonic_tool.specs.declared.evaluate.Outcome.TheVariants.{Found, Fails, Cut}
 use Rattle.sonic_tool.specs.Reports.IsGetReport.{no_line, bad_line, one_path}
 use Rattle.sonic_tool.specs.Reports.IsReport.{usage, large, get}
 use Rattle.sonic_tool.specs.Laws.{HasOneReport}
@@ -37,12 +41,45 @@ path_not_bad [] e p b = elim b [ ]
 path_not_bad {line = line} {path} (first ∷ rest) e p (first_line never q) = let same : line ≡ first = cc in never path (rw same at p)
 path_not_bad (first ∷ next ∷ rest) e p (second_line s q) = absurd cc
 
+-- some text and some status are told
+abbrev SomeText : (List ℕ → Status → Type 0) → Type 0
+SomeText told = (text : List ℕ) × (status : Status) × told text status
+
+-- an outcome has one line
+line_one : {document : List ℕ} {outcome : Outcome} {text other : List ℕ} {status ending : Status} → IsLine document outcome text status
+    → IsLine document outcome other ending → Same text status other ending
+line_one (value_line u q z) (value_line v p y) = (p ∙ sym q, y ∙ sym z)
+line_one (value_line u q z) (broken_line v p y) = absurd (v u)
+line_one (broken_line u q z) (value_line v p y) = absurd (u v)
+line_one (broken_line u q z) (broken_line v p y) = (p ∙ sym q, y ∙ sym z)
+line_one (failing_line q z) (failing_line p y) = (p ∙ sym q, y ∙ sym z)
+line_one (cut_line q z) (cut_line p y) = (p ∙ sym q, y ∙ sym z)
+
+-- as the test says
+utf8_by_test : (bytes : List ℕ) (b : Bool) → is_utf8 bytes ≡ b → IsUtf8 bytes ⊎ ¬ (IsUtf8 bytes)
+utf8_by_test bytes true e = inl (IsUtf8-from_is_utf8 bytes e)
+utf8_by_test bytes false e = inr (λ u. let t = is_utf8-from_IsUtf8 bytes u in absurd cc)
+
+-- bytes are UTF-8 or they aren't
+utf8_or_not : (bytes : List ℕ) → IsUtf8 bytes ⊎ ¬ (IsUtf8 bytes)
+utf8_or_not bytes = utf8_by_test bytes (is_utf8 bytes) refl
+
+-- an outcome has some line
+line_some : (document : List ℕ) (outcome : Outcome) → SomeText (IsLine document outcome)
+line_some document (Found i j) = elim (utf8_or_not (take j document)) [
+  | inl text ↦ (_, _, value_line text refl refl)
+  | inr broken ↦ (_, _, broken_line broken refl refl)
+]
+line_some document (Fails stop) = (_, _, failing_line refl refl)
+line_some document (Cut stop) = (_, _, cut_line refl refl)
+
 -- a path has one report in a document
 path_report_one : {document path text other : List ℕ} {status ending : Status} → ReportsPath document path text status → ReportsPath document path other ending
     → Same text status other ending
-path_report_one {document} {path} r s =
+path_report_one {document} {path} {other = other} {ending = ending} r s =
     let e = evaluates_one path s.evaluates r.evaluates in
-    (s.line ∙ ap (line_of document) e ∙ sym r.line, s.status_is ∙ ap status_of e ∙ sym r.status_is)
+    let moved : IsLine document r.outcome other ending = rw e at s.line in
+    line_one r.line moved
 
 -- an input has one report by `get`
 get_report_one : {input text other : List ℕ} {status ending : Status} → IsGetReport input text status → IsGetReport input other ending → Same text status other ending
@@ -77,10 +114,6 @@ report_one (get n l r) (usage m) = absurd (m n)
 report_one (get n l r) (large m k) = absurd (omega arith)
 report_one (get n l r) (get m k s) = get_report_one r s
 
--- some text and some status are told
-abbrev SomeText : (List ℕ → Status → Type 0) → Type 0
-SomeText told = (text : List ℕ) × (status : Status) × told text status
-
 -- a head of these lines has a report
 lines_report : (input : List ℕ) (lines : List (List ℕ)) (d : ℕ) → IsHead input 0 lines d → SomeText (IsGetReport input)
 lines_report input [] d h = (_, _, no_line h)
@@ -88,7 +121,8 @@ lines_report input (line ∷ []) d h = elim (path_or_none line) [
   | inr never ↦ (_, _, bad_line h (first_line never refl) refl)
   | inl p ↦
       let o = evaluates_some (drop d input) p.0 (after_space (drop d input) 0) in
-      (_, _, one_path h p.1 (record { outcome = o.0; evaluates = o.1; line = refl; status_is = refl }))
+      let l = line_some (drop d input) o.0 in
+      (_, _, one_path h p.1 (record { outcome = o.0; evaluates = o.1; line = l.2 }))
 ]
 lines_report input (line ∷ next ∷ lines) d h = elim (path_or_none line) [
   | inr never ↦ (_, _, bad_line h (first_line never refl) refl)

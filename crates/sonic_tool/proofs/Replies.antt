@@ -1,14 +1,17 @@
 -- A report of what was read is a report of what the source had left.
-use Rattle.std.proofs.Common.{◌≡◌, ℕ, ◌+◌, ◌<◌, ◌≤◌, List, [], ◌∷◌, ◌++◌, length, length-append, append-nil, arith, refl, sym, ap, ◌∙◌, Some, None, inl, inr, Bool, ◌↔◌, map, get_or}
+use Rattle.std.proofs.Common.{◌≡◌, ◌≢◌, ℕ, ◌+◌, ◌<◌, ◌≤◌, List, [], ◌∷◌, ◌++◌, length, length-append, append-nil, arith, refl, sym, ap, ◌∙◌, Some, None, inl, inr, Bool, ◌↔◌, map, get_or}
 use Rattle.std.specs.Prelude.{codes, IsTrue}
 use Rattle.std.specs.declared.option.Option.{Option}
 use Rattle.std.specs.Io.KnownBytes.{IsAtEnd}
 use Rattle.sonic_tool.specs.declared.reading.TheConstants.{LIMIT}
 use Rattle.sonic_tool.specs.declared.status.Status.{Status}
 use Rattle.sonic_tool.specs.declared.status.Status.TheVariants.{BadUsage, TooLarge}
-use Rattle.sonic_tool.specs.Commands.{IsListed}
+use Rattle.sonic_tool.specs.declared.evaluate.Outcome.{Outcome}
+use Rattle.sonic_tool.specs.Commands.{IsListed, IsOfInput, IsReported}
 use Rattle.sonic_tool.specs.Outside.{Gave}
-use Rattle.sonic_tool.specs.Reports.{IsGetReport, IsReply, Tells}
+use Rattle.sonic_tool.specs.Reports.{IsGetReport, IsLine, IsReply, Tells}
+use Rattle.sonic_tool.specs.Reports.IsGetReport.{no_line, bad_line, one_path}
+use Rattle.sonic_tool.specs.Reports.IsLine.{value_line, broken_line, failing_line, cut_line}
 use Rattle.sonic_tool.specs.Reports.IsReport.{usage, large, get}
 
 -- some input is what is left
@@ -70,5 +73,30 @@ only_get words word one (inr e) = let f : ◌≡◌ {A = List (List ℕ)} (word 
 -- a line of one word is a command where the word is one
 pub one_word_listed : (words : List (List ℕ)) (word : List ℕ) (b : Bool) → words ≡ word ∷ [] → (IsTrue b ↔ (word ≡ codes "get")) → (IsTrue b ↔ IsListed words)
 one_word_listed words word b one h = (λ t. inr (one ∙ ap (λ w. w ∷ []) (h.0 t)), λ l. h.1 (only_get words word one l))
+
+-- a line goes with a status of a whole input
+line_status : {document : List ℕ} {outcome : Outcome} {text : List ℕ} {ending : Status} → IsLine document outcome text ending → IsOfInput ending
+line_status (value_line u t e) = inl e
+line_status (broken_line u t e) = inr (inl e)
+line_status (failing_line t e) = inr (inl e)
+line_status (cut_line t e) = inr (inl e)
+
+-- a report by `get` ends with a status of a whole input
+pub get_status : {input text : List ℕ} {ending : Status} → IsGetReport input text ending → IsOfInput ending
+get_status (no_line h) = inl refl
+get_status (bad_line h b t) = inr (inr refl)
+get_status (one_path h p r) = line_status r.line
+
+-- such a status is no fault and no want of memory
+pub of_input_reported : (ending : Status) → IsOfInput ending → IsReported ending
+of_input_reported ending (inl e) = record { no_read_fault = λ f. cc; no_write_fault = λ f. cc; memory = λ f. cc }
+of_input_reported ending (inr (inl e)) = record { no_read_fault = λ f. cc; no_write_fault = λ f. cc; memory = λ f. cc }
+of_input_reported ending (inr (inr e)) = record { no_read_fault = λ f. cc; no_write_fault = λ f. cc; memory = λ f. cc }
+
+-- nor is it told of other words, or of an input that is too large
+pub of_input_listed : (ending : Status) → IsOfInput ending → (ending ≢ BadUsage) × (ending ≢ TooLarge)
+of_input_listed ending (inl e) = (λ f. cc, λ f. cc)
+of_input_listed ending (inr (inl e)) = (λ f. cc, λ f. cc)
+of_input_listed ending (inr (inr e)) = (λ f. cc, λ f. cc)
 
 pub ruleset replies = (usage_reply, large_reply, whole_reply)

@@ -3,8 +3,8 @@ use Rattle.std.proofs.Common.{◌≡◌, ◌≢◌, ℕ, ◌+◌, ◌-◌, ◌�
 use Rattle.sonic_error.specs.declared.code.ErrorCode.TheVariants.{ExpectedArrayCommaOrEnd}
 use Rattle.sonic_text.specs.declared.stop.Stop.{Stop}
 use Rattle.sonic_text.specs.Places.{after_space, bad}
-use Rattle.sonic_text.specs.Values.{IsValue, ElementsFit, array, next_element}
-use Rattle.sonic_text.specs.Faults.{IsFault, NothingFits, in_element, behind_element}
+use Rattle.sonic_tool.specs.Values.{IsValue, ElementsFit, array, next_element}
+use Rattle.sonic_tool.specs.Faults.{IsFault, NothingFits, in_element, behind_element}
 use Rattle.sonic_tool.specs.declared.skip.Begun.TheVariants.{Complete, InArray}
 use Rattle.sonic_tool.specs.declared.skip.Behind.TheVariants.{Comma, Bracket}
 use Rattle.sonic_tool.specs.declared.skip.State.TheVariants.{ValueDue, Ended}

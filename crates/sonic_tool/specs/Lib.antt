@@ -1,4 +1,5 @@
 pub mod Commands
+pub mod Faults
 pub mod Heads
 pub mod Laws
 pub mod Outside
@@ -6,3 +7,4 @@ pub mod Paths
 pub mod Replies
 pub mod Reports
 pub mod Skipping
+pub mod Values

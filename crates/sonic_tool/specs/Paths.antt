@@ -1,21 +1,25 @@
 -- A path is a list of indexes. What a line of a head says of it, and where it leads in a text.
-use Rattle.std.specs.Prelude.{◌≡◌, ◌≢◌, ℕ, ◌+◌, ◌-◌, ◌^◌, ◌<◌, ◌≤◌, List, [], ◌∷◌, length, slice_range}
+use Rattle.std.specs.Prelude.{◌≡◌, ◌≢◌, ◌⊎◌, ℕ, ◌+◌, ◌-◌, ◌^◌, ◌<◌, ◌≤◌, List, [], ◌∷◌, length, slice_range}
 use Rattle.std.specs.Str.Parse.{digits_value}
 use Rattle.sonic_error.specs.declared.code.ErrorCode.TheVariants.{Message, GetInEmptyArray, GetIndexOutOfArray}
 use Rattle.sonic_error.specs.declared.json_type.Note.TheVariants.{Mismatch}
 use Rattle.sonic_error.specs.declared.json_type.Wanted.TheVariants.{Array}
 use Rattle.sonic_text.specs.declared.stop.Stop.{Stop}
 use Rattle.sonic_text.specs.Places.{byte, after_space}
-use Rattle.sonic_text.specs.Numbers.{IsNumber}
-use Rattle.sonic_text.specs.Values.{IsValue, ElementsFit, kind_at}
-use Rattle.sonic_text.specs.Faults.{IsFault}
+use Rattle.sonic_text.specs.Numbers.{IsInt}
+use Rattle.sonic_tool.specs.Values.{IsValue, ElementsFit, kind_at}
+use Rattle.sonic_tool.specs.Faults.{IsFault}
 use Rattle.sonic_tool.specs.declared.evaluate.Outcome.{Outcome}
 use Rattle.sonic_tool.specs.declared.evaluate.Outcome.TheVariants.{Found, Fails, Cut}
 
--- from i to j stands a number that is n: it has no sign and fits in 64 bits
+-- a dot, an e or an E, which begins a fraction or an exponent
+abbrev pub BeginsMore : ℕ → Type 0
+BeginsMore b = (b ≡ 46) ⊎ (b ≡ 101) ⊎ (b ≡ 69)
+
+-- from i to j stands a number that is n: it has no sign, no fraction and no exponent, and fits in 64 bits
 pub record IsIndex (t : List ℕ) (i j n : ℕ) : Type 0 where
-  pub number : IsNumber t i j
-  pub unsigned : byte t i ≢ 45
+  pub int : IsInt t i j
+  pub whole : ¬ BeginsMore (byte t j)
   pub value : n ≡ digits_value 10 (slice_range t i j)
   pub fits : n < 2 ^ 64
 
@@ -37,10 +41,10 @@ pub record IsPathLine (line path : List ℕ) : Type 0 where
   pub nothing_behind : after_space line end ≡ length line
   pub few : length path ≤ 255
 
--- a span that was found lies within the text
+-- a span that was found lies within the text, and so does the place of a failing
 abbrev pub IsWithin : List ℕ → Outcome → Type 0
 IsWithin t (Found i j) = (i ≤ j) × (j ≤ length t)
-IsWithin t (Fails s) = Unit {0}
+IsWithin t (Fails s) = s.place ≤ length t
 IsWithin t (Cut s) = Unit {0}
 
 -- where the path leads from the place i, at which a value is due

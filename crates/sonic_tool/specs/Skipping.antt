@@ -1,7 +1,7 @@
 -- What a reader knows that goes through a value from left to right.
 use Rattle.std.specs.Prelude.{◌≡◌, ℕ, ◌+◌, ◌<◌, ◌≤◌, List, length}
 use Rattle.sonic_text.specs.Places.{byte, after_space}
-use Rattle.sonic_text.specs.Values.{IsValue, ElementsFit}
+use Rattle.sonic_tool.specs.Values.{IsValue, ElementsFit}
 use Rattle.sonic_tool.specs.declared.skip.Begun.{Begun}
 use Rattle.sonic_tool.specs.declared.skip.Begun.TheVariants.{Complete, InArray}
 use Rattle.sonic_tool.specs.declared.skip.Behind.{Behind}

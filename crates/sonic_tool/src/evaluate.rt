@@ -1,6 +1,6 @@
 ghost use Rattle.std.specs.Prelude.{◌≡◌, ◌≢◌, ◌<◌, ◌≤◌, ℕ, List, ◌∷◌, length, IfOk, IfErr};
 ghost use Rattle.sonic_text.specs.Places.{byte};
-ghost use Rattle.sonic_text.specs.Values.{ElementsFit, kind_at};
+ghost use Rattle.sonic_tool.specs.Values.{ElementsFit, kind_at};
 ghost use Rattle.sonic_tool.specs.Paths.{Evaluates, IsWithin};
 
 use crate::scan::{byte_at, skip_space};
@@ -99,6 +99,7 @@ fn kind_at(text: &[u8], place: usize) -> JsonType
     match byte_at(text, place) {
         b'n' => JsonType::Null,
         b't' | b'f' => JsonType::Boolean,
+        b'"' => JsonType::String,
         b'[' => JsonType::Array,
         _ => JsonType::Number,
     }

@@ -1,9 +1,10 @@
-ghost use Rattle.std.specs.Prelude.{◌≡◌, ◌↔◌, ◌+◌, ◌-◌, ◌^◌, ◌<◌, ◌≤◌, min, List, [], Some, None, length, take, drop, vec_capacity, IfOk, IsErr, IsOkUnless, OnErr, Contains};
+ghost use Rattle.std.specs.Prelude.{◌≡◌, ◌↔◌, ◌+◌, ◌-◌, ◌^◌, ◌<◌, ◌≤◌, min, List, [], Some, None, length, take, drop, vec_capacity, IfOk, IfErr, IsErr, OnErr, Contains};
+ghost use Rattle.sonic_error.specs.Errors.{error_code};
 ghost use Rattle.sonic_tool.specs.Outside.{Rose};
 
 use crate::sink::Sink;
 use crate::source::{Failed, Source};
-use sonic_error::ErrorCode;
+use sonic_error::{Error, ErrorCode};
 use std::alloc::Global;
 
 /// A source over bytes in memory. It never fails.
@@ -156,14 +157,14 @@ impl MemorySink {
         room: usize,
         piece: usize,
         fails: Vec<u64>,
-    ) -> Result<MemorySink, ErrorCode>
+    ) -> sonic_error::Result<MemorySink>
         requires { 1 ≤ piece }
         ensures empty { IfOk result (λ sink. ⟦<MemorySink as Sink>⟧.written sink ≡ Some []) }
         ensures calm { IfOk result (λ sink. ⟦<MemorySink as Sink>⟧.faults sink ≡ 0) }
-        ensures only_memory { IsOkUnless result ErrorCode.NoMemory }
+        ensures only_memory { IfErr result (λ error. error_code error ≡ ErrorCode.NoMemory) }
     {
         let Ok(held) = Vec::with_capacity(alloc, room) else {
-            return Err(ErrorCode::NoMemory);
+            return Err(Error::plain(ErrorCode::NoMemory));
         };
         let calls = Calls::new(fails);
         Ok(MemorySink {

@@ -1,9 +1,10 @@
 ghost use Rattle.std.specs.Prelude.{◌≡◌, ◌<◌, ◌≤◌, ℕ, List, length, None, IfOk, IfSome};
 ghost use Rattle.sonic_text.specs.Places.{byte};
-ghost use Rattle.sonic_tool.specs.Paths.{IsIndex, IndexesStand, IsIndexArray, IsPathLine};
+ghost use Rattle.sonic_text.specs.Numbers.{IsInt};
+ghost use Rattle.sonic_tool.specs.Paths.{BeginsMore, IsIndex, IndexesStand, IsIndexArray, IsPathLine};
 
-use crate::scan::{byte_at, skip_space};
-use crate::skip::{Behind, after_element, number_end};
+use crate::scan::{byte_at, skip_digits, skip_space};
+use crate::skip::{Behind, after_element};
 use sonic_text::whole_u64;
 use std::alloc::{AllocError, Global};
 
@@ -93,10 +94,7 @@ fn index_at(line: &[u8], start: usize) -> Option<Index>
     ensures some { IfSome result (λ i. (i.end ≤ length line.now) × IsIndex line.now start i.end i.value) }
     ensures none { result ≡ None → (e n : ℕ) → ¬ IsIndex line.now start e n }
 {
-    if byte_at(line, start) == b'-' {
-        return None;
-    }
-    let Ok(end) = number_end(line, start) else {
+    let Some(end) = index_end(line, start) else {
         return None;
     };
     let Ok(digits) = std::str::from_utf8(&line[start..end]) else {
@@ -108,5 +106,36 @@ fn index_at(line: &[u8], start: usize) -> Option<Index>
             Some(Index { value, end })
         }
         None => None,
+    }
+}
+
+// The end of the integer that stands at a place, where no fraction and no exponent begins behind it.
+#[tactic(auto, using(crate::proofs::Indexes::index_ends))]
+fn index_end(line: &[u8], start: usize) -> Option<usize>
+    requires { start ≤ length line.now }
+    ensures some { IfSome result (λ e. (start < e) × (e ≤ length line.now) × IsInt line.now start e
+        × ¬ BeginsMore (byte line.now e)) }
+    ensures none { result ≡ None → (e : ℕ) → IsInt line.now start e → BeginsMore (byte line.now e) }
+{
+    let Some(end) = int_end(line, start) else {
+        return None;
+    };
+    match byte_at(line, end) {
+        b'.' | b'e' | b'E' => None,
+        _ => Some(end),
+    }
+}
+
+// The end of the integer without a sign that stands at a place.
+fn int_end(line: &[u8], start: usize) -> Option<usize>
+    requires { start ≤ length line.now }
+    ensures some { IfSome result (λ e. (start < e) × (e ≤ length line.now) × IsInt line.now start e) }
+    ensures none { result ≡ None → (e : ℕ) → ¬ IsInt line.now start e }
+{
+    match byte_at(line, start) {
+        b'0' if byte_at(line, start + 1).is_ascii_digit() => None,
+        b'0' => Some(start + 1),
+        b'1'..=b'9' => Some(skip_digits(line, start)),
+        _ => None,
     }
 }

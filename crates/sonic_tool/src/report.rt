@@ -1,16 +1,17 @@
-ghost use Rattle.std.specs.Prelude.{◌≡◌, ◌≤◌, ℕ, length, drop, string_bytes, codes, IfOk};
-ghost use Rattle.sonic_text.specs.Places.{after_space};
-ghost use Rattle.sonic_tool.specs.Heads.{IsHead};
+ghost use Rattle.std.specs.Prelude.{◌≡◌, ◌≤◌, ◌++◌, length, drop, string_bytes, codes, IfOk, IfSome, None};
+ghost use Rattle.std.specs.Str.{IsUtf8};
 ghost use Rattle.sonic_tool.specs.Replies.{text_of};
-ghost use Rattle.sonic_tool.specs.Reports.{IsGetReport, ReportsPath, error_line, line_of, status_of, word_of, name_of};
-ghost use Rattle.sonic_error.specs.Codes.{category_of};
+ghost use Rattle.sonic_tool.specs.Reports.{IsGetReport, ReportsPath, line_of_error, word_of, name_of};
+ghost use Rattle.sonic_error.specs.Errors.{error_line, error_column, error_offset};
+ghost use Rattle.sonic_error.specs.Texts.{valid_up_to};
+ghost use Rattle.std.specs.Fmt.{decimal};
 
 use crate::evaluate::{Outcome, evaluate};
 use crate::head::{Head, read_head};
 use crate::reply::Reply;
 use crate::scan::skip_space;
 use crate::status::Status;
-use sonic_error::{Category, ErrorCode};
+use sonic_error::{Category, Error, ErrorCode};
 use std::alloc::{AllocError, Global};
 
 // What `get` writes of an input. All memory is taken here.
@@ -29,6 +30,7 @@ pub(crate) fn report(alloc: Global, input: Vec<u8>) -> Result<Reply, AllocError>
 }
 
 // What `get` writes of one path in the document that begins at a place.
+#[tactic(auto, using(crate::proofs::Reporting::paths))]
 fn report_path(
     alloc: Global,
     input: Vec<u8>,
@@ -36,44 +38,63 @@ fn report_path(
     path: &[usize],
 ) -> Result<Reply, AllocError>
     requires { document ≤ length input.items }
-    ensures { IfOk result (λ reply. ReportsPath (drop document input.items) path.now (text_of reply) reply.status) }
+    ensures { IfOk result (λ reply.
+        ReportsPath (drop document input.items) path.now (text_of reply) reply.status) }
 {
     let text = &input[document..];
     match evaluate(text, skip_space(text, 0), path) {
-        Outcome::Found(start, end) => {
-            let front = format!(in alloc; "{} ", end - start)?;
-            Ok(Reply::value(front, input, document + start, document + end))
-        }
-        Outcome::Fails(stop) | Outcome::Cut(stop) => report_error(alloc, stop.code),
+        Outcome::Found(start, end) => match broken_place(&text[..end]) {
+            Some(place) => report_error(alloc, ErrorCode::InvalidUTF8, text, place),
+            None => {
+                let front = format!(in alloc; "{} ", end - start)?;
+                Ok(Reply::value(front, input, document + start, document + end))
+            }
+        },
+        Outcome::Fails(stop) => report_error(alloc, stop.code, text, stop.place),
+        Outcome::Cut(stop) => report_error(alloc, stop.code, text, stop.place),
     }
 }
 
-// The line that tells an error of the document.
-fn report_error(alloc: Global, code: ErrorCode) -> Result<Reply, AllocError>
-    ensures text { IfOk result (λ reply. text_of reply ≡ error_line code) }
+// The first place at which the bytes aren't UTF-8.
+fn broken_place(bytes: &[u8]) -> Option<usize>
+    ensures none { result ≡ None → IsUtf8 bytes.now }
+    ensures some { IfSome result (λ place. ¬ IsUtf8 bytes.now
+        × (place ≡ valid_up_to bytes.now) × (place ≤ length bytes.now)) }
+{
+    match simdutf8::compat::from_utf8(bytes) {
+        Ok(_) => None,
+        Err(error) => Some(error.valid_up_to()),
+    }
+}
+
+// The line that tells an error of the document at a place.
+fn report_error(
+    alloc: Global,
+    code: ErrorCode,
+    document: &[u8],
+    place: usize,
+) -> Result<Reply, AllocError>
+    requires { place ≤ length document.now }
+    ensures text { IfOk result (λ reply. text_of reply ≡ line_of_error document.now code place) }
     ensures status { IfOk result (λ reply. reply.status ≡ Status.DocumentError) }
 {
-    let word = word(category(code));
+    let error = Error::syntax(code, document, place);
+    let word = word(error.classify());
     let name = name(code);
-    let line = format!(in alloc; "! {word} {name}\n")?;
+    let position = position(alloc, &error)?;
+    let line = format!(in alloc; "! {word} {name} {position}\n")?;
     Ok(Reply::made(alloc, Status::DocumentError, line))
 }
 
-// The family that a code belongs to.
-fn category(code: ErrorCode) -> Category
-    ensures { result ≡ category_of code }
+// The line, the column and the offset of an error.
+fn position(alloc: Global, error: &Error) -> Result<String, AllocError>
+    ensures { IfOk result (λ text. string_bytes text ≡ decimal (error_line error.now)
+        ++ codes " " ++ decimal (error_column error.now) ++ codes " " ++ decimal (error_offset error.now)) }
 {
-    match code {
-        ErrorCode::Message(_) => Category::TypeUnmatched,
-        ErrorCode::EofWhileParsing => Category::Eof,
-        ErrorCode::GetInEmptyArray | ErrorCode::GetIndexOutOfArray => Category::NotFound,
-        ErrorCode::NoMemory => Category::Memory,
-        ErrorCode::ExpectedArrayCommaOrEnd
-        | ErrorCode::InvalidLiteral
-        | ErrorCode::InvalidJsonValue
-        | ErrorCode::InvalidNumber
-        | ErrorCode::Unsupported => Category::Syntax,
-    }
+    let (line, column, offset) = (error.line(), error.column(), error.offset());
+    let start = format!(in alloc; "{line} {column}")?;
+    let text = format!(in alloc; "{start} {offset}")?;
+    Ok(text)
 }
 
 // The word for a family.
@@ -96,13 +117,35 @@ fn name(code: ErrorCode) -> &'static str
 {
     match code {
         ErrorCode::Message(_) => "Message",
+        ErrorCode::Io(_) => "Io",
         ErrorCode::EofWhileParsing => "EofWhileParsing",
+        ErrorCode::ExpectedColon => "ExpectedColon",
         ErrorCode::ExpectedArrayCommaOrEnd => "ExpectedArrayCommaOrEnd",
+        ErrorCode::ExpectedObjectCommaOrEnd => "ExpectedObjectCommaOrEnd",
         ErrorCode::InvalidLiteral => "InvalidLiteral",
         ErrorCode::InvalidJsonValue => "InvalidJsonValue",
+        ErrorCode::ExpectedObjectStart => "ExpectedObjectStart",
+        ErrorCode::ExpectedArrayStart => "ExpectedArrayStart",
+        ErrorCode::InvalidEscape => "InvalidEscape",
         ErrorCode::InvalidNumber => "InvalidNumber",
+        ErrorCode::NumberOutOfRange => "NumberOutOfRange",
+        ErrorCode::InvalidUnicodeCodePoint => "InvalidUnicodeCodePoint",
+        ErrorCode::InvalidUTF8 => "InvalidUTF8",
+        ErrorCode::ControlCharacterWhileParsingString => "ControlCharacterWhileParsingString",
+        ErrorCode::ExpectObjectKeyOrEnd => "ExpectObjectKeyOrEnd",
+        ErrorCode::TrailingComma => "TrailingComma",
+        ErrorCode::TrailingCharacters => "TrailingCharacters",
+        ErrorCode::RecursionLimitExceeded => "RecursionLimitExceeded",
+        ErrorCode::GetInEmptyObject => "GetInEmptyObject",
+        ErrorCode::GetUnknownKeyInObject => "GetUnknownKeyInObject",
         ErrorCode::GetInEmptyArray => "GetInEmptyArray",
         ErrorCode::GetIndexOutOfArray => "GetIndexOutOfArray",
+        ErrorCode::UnexpectedVisitType => "UnexpectedVisitType",
+        ErrorCode::InvalidSurrogateUnicodeCodePoint => "InvalidSurrogateUnicodeCodePoint",
+        ErrorCode::FloatMustBeFinite => "FloatMustBeFinite",
+        ErrorCode::ExpectedNumericKey => "ExpectedNumericKey",
+        ErrorCode::ExpectedQuote => "ExpectedQuote",
+        ErrorCode::SerExpectKeyIsStrOrNum => "SerExpectKeyIsStrOrNum",
         ErrorCode::NoMemory => "NoMemory",
         ErrorCode::Unsupported => "Unsupported",
     }

@@ -1,13 +1,12 @@
 ghost use Rattle.std.specs.Prelude.{◌≡◌, ◌<◌, ◌≤◌, ℕ, length, IfOk, IfErr, IsTrue, ◌↔◌, ◌⊎◌};
 ghost use Rattle.sonic_text.specs.Places.{byte, after_space, bad, IsDigit};
-ghost use Rattle.sonic_text.specs.Numbers.{IsInt, IsIntFault, IsNumber, IsNumberFault, after_minus};
-ghost use Rattle.sonic_text.specs.Values.{IsValue};
-ghost use Rattle.sonic_text.specs.Faults.{IsFault, NothingFits};
+ghost use Rattle.sonic_tool.specs.Values.{IsValue};
+ghost use Rattle.sonic_tool.specs.Faults.{IsFault, NothingFits};
 ghost use Rattle.sonic_tool.specs.Skipping.{IsBegun, IsBehind};
 
-use crate::scan::{byte_at, skip_digits, skip_space, stop_at};
+use crate::scan::{byte_at, skip_space, stop_at};
 use sonic_error::ErrorCode;
-use sonic_text::{Stop, literal_end};
+use sonic_text::{Stop, literal_end, number_end, string_end};
 
 // How far the beginning of a value leads.
 #[derive(Clone, Copy)]
@@ -36,52 +35,6 @@ enum State {
     Ended(usize),
 }
 
-// The place behind the minus sign, if one stands at `start`.
-fn skip_minus(text: &[u8], start: usize) -> usize
-    requires { start ≤ length text.now }
-    ensures place { result ≡ after_minus text.now start }
-    ensures later { start ≤ result }
-    ensures within { result ≤ length text.now }
-{
-    if byte_at(text, start) == b'-' {
-        start + 1
-    } else {
-        start
-    }
-}
-
-// The end of the integer without a sign that stands at a place.
-fn int_end(text: &[u8], start: usize) -> Result<usize, Stop>
-    requires { start ≤ length text.now }
-    ensures ok { IfOk result (λ j. (start < j) × (j ≤ length text.now) × IsInt text.now start j) }
-    ensures err { IfErr result (λ s. IsIntFault text.now start s) }
-{
-    match byte_at(text, start) {
-        b'0' if byte_at(text, start + 1).is_ascii_digit() => {
-            Err(stop_at(text, start + 1, ErrorCode::InvalidNumber))
-        }
-        b'0' => Ok(start + 1),
-        b'1'..=b'9' => Ok(skip_digits(text, start)),
-        _ => Err(stop_at(text, start, ErrorCode::InvalidNumber)),
-    }
-}
-
-// The end of the number that stands at a place.
-#[tactic(auto, using(crate::proofs::Begins::number_faults))]
-pub(crate) fn number_end(text: &[u8], start: usize) -> Result<usize, Stop>
-    requires { start ≤ length text.now }
-    ensures ok { IfOk result (λ j. (start < j) × (j ≤ length text.now) × IsNumber text.now start j) }
-    ensures err { IfErr result (λ s. IsNumberFault text.now start s) }
-{
-    match int_end(text, skip_minus(text, start)) {
-        Err(stop) => Err(stop),
-        Ok(end) => match byte_at(text, end) {
-            b'.' | b'e' | b'E' => Err(stop_at(text, end, ErrorCode::Unsupported)),
-            _ => Ok(end),
-        },
-    }
-}
-
 // Begins the number that stands at a place.
 #[tactic(auto, using(crate::proofs::Begins::beginnings))]
 fn begin_number(text: &[u8], place: usize) -> Result<Begun, Stop>
@@ -92,6 +45,20 @@ fn begin_number(text: &[u8], place: usize) -> Result<Begun, Stop>
 {
     match number_end(text, place) {
         Ok(end) => Ok(Begun::Complete(end)),
+        Err(stop) => Err(stop),
+    }
+}
+
+// Begins the string that stands at a place.
+#[tactic(auto, using(crate::proofs::Begins::beginnings))]
+fn begin_string(text: &[u8], place: usize) -> Result<Begun, Stop>
+    requires within { place ≤ length text.now }
+    requires quote { byte text.now place ≡ 34 }
+    ensures ok { IfOk result (λ begun. IsBegun text.now place begun) }
+    ensures err { IfErr result (λ s. IsFault text.now place s) }
+{
+    match string_end(text, place, false) {
+        Ok(string) => Ok(Begun::Complete(string.end)),
         Err(stop) => Err(stop),
     }
 }
@@ -116,7 +83,8 @@ pub(crate) fn begin(text: &[u8], place: usize) -> Result<Begun, Stop>
         b't' => literal_end(text, place, "true").map(Begun::Complete),
         b'f' => literal_end(text, place, "false").map(Begun::Complete),
         first if begins_number(first) => begin_number(text, place),
-        b'"' | b'{' => Err(stop_at(text, place, ErrorCode::Unsupported)),
+        b'"' => begin_string(text, place),
+        b'{' => Err(stop_at(text, place, ErrorCode::Unsupported)),
         _ => Err(stop_at(text, place, ErrorCode::InvalidJsonValue)),
     }
 }

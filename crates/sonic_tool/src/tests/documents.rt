@@ -19,6 +19,8 @@ fn finds_values(rt: HostRuntime) {
     check_found(&rt, b"falsehood", &[], 0, 5);
     check_found(&rt, b"-0", &[], 0, 2);
     check_found(&rt, b"120 ", &[], 0, 3);
+    check_found(&rt, b"-1.50e+7,", &[], 0, 8);
+    check_found(&rt, b"[\"]\",1]", &[1], 5, 6);
     check_found(&rt, b"[]", &[], 0, 2);
     check_found(&rt, b"[ 1 , [ 2 ] ]", &[1], 6, 11);
     check_found(&rt, b"[ 1 , [ 2 ] ]", &[1, 0], 8, 9);
@@ -45,6 +47,7 @@ fn fails_where_no_element_is(rt: HostRuntime) {
     check_fails(&rt, b"[[],[4]]", &[0, 0], 2, ErrorCode::GetInEmptyArray);
     check_fails(&rt, b"12", &[0], 1, mismatch(JsonType::Number));
     check_fails(&rt, b"null", &[0], 3, mismatch(JsonType::Null));
+    check_fails(&rt, b"\"abc\"", &[0], 4, mismatch(JsonType::String));
     check_fails(&rt, b"[true]", &[0, 0], 4, mismatch(JsonType::Boolean));
 }
 
@@ -65,10 +68,18 @@ fn is_cut_at_the_first_byte_that_does_not_fit(rt: HostRuntime) {
     check_cut(&rt, b"-a", &[], 1, ErrorCode::InvalidNumber);
     check_cut(&rt, b"01.5", &[], 1, ErrorCode::InvalidNumber);
     check_cut(&rt, b"-00", &[], 2, ErrorCode::InvalidNumber);
-    check_cut(&rt, b"0.5", &[], 1, ErrorCode::Unsupported);
-    check_cut(&rt, b"-0E", &[], 2, ErrorCode::Unsupported);
-    check_cut(&rt, b"12e", &[0], 2, ErrorCode::Unsupported);
-    check_cut(&rt, b"\"", &[], 0, ErrorCode::Unsupported);
+    check_cut(&rt, b"0.x", &[], 2, ErrorCode::InvalidNumber);
+    check_cut(&rt, b"-0E", &[], 3, ErrorCode::EofWhileParsing);
+    check_cut(&rt, b"12e+]", &[0], 4, ErrorCode::InvalidNumber);
+    check_cut(&rt, b"\"", &[], 1, ErrorCode::EofWhileParsing);
+    check_cut(
+        &rt,
+        b"\"a\x1f\"",
+        &[],
+        2,
+        ErrorCode::ControlCharacterWhileParsingString,
+    );
+    check_cut(&rt, b"[\"\\x\"]", &[0], 3, ErrorCode::InvalidEscape);
     check_cut(&rt, b"[{}]", &[1], 1, ErrorCode::Unsupported);
     check_cut(&rt, b"[", &[0], 1, ErrorCode::EofWhileParsing);
     check_cut(&rt, b"[,", &[0], 1, ErrorCode::InvalidJsonValue);

@@ -1,7 +1,7 @@
 // The grammar by recursive descent, as plain as it gets, beside the loop that the program runs.
 ghost use Rattle.std.specs.Prelude.{◌<◌, ◌≤◌, length, IfOk, IfErr};
-ghost use Rattle.sonic_text.specs.Values.{IsValue};
-ghost use Rattle.sonic_text.specs.Faults.{IsFault};
+ghost use Rattle.sonic_tool.specs.Values.{IsValue};
+ghost use Rattle.sonic_tool.specs.Faults.{IsFault};
 
 use crate::skip::{Begun, Behind, after_element, begin, skip_value};
 use sonic_text::Stop;

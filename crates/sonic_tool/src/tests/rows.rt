@@ -40,19 +40,26 @@ fn owned(alloc: Global, words: &[&str]) -> Result<Vec<String>, Fail> {
 }
 
 fn check(rt: &impl Abort, alloc: Global, row: Row) -> Result<(), Fail> {
-    check_run(rt, alloc, row.words, row.input, row.output, row.status)
+    check_run(
+        rt,
+        alloc,
+        row.words,
+        row.input.as_bytes(),
+        row.output,
+        row.status,
+    )
 }
 
 fn check_run(
     rt: &impl Abort,
     alloc: Global,
     words: &[&str],
-    input: &str,
+    input: &[u8],
     output: &str,
     ending: Status,
 ) -> Result<(), Fail> {
     let words = owned(alloc, words)?;
-    let bytes = Vec::from_slice(alloc, input.as_bytes())?;
+    let bytes = Vec::from_slice(alloc, input)?;
     let mut source = SureSource::new(bytes, 5);
     let mut sink = MemorySink::new(alloc, 4096, 3, Vec::new(alloc))
         .ok()
@@ -156,22 +163,99 @@ fn asks_for_nothing_without_a_line(rt: HostRuntime) -> Result<(), Fail> {
 #[test]
 fn tells_errors_of_the_document(rt: HostRuntime) -> Result<(), Fail> {
     let alloc = rt.alloc();
-    check_error(&rt, alloc, "[0]\n\n[1.5]", "! syntax Unsupported\n")?;
-    check_error(&rt, alloc, "[0]\n\n\"a\"", "! syntax Unsupported\n")?;
-    check_error(&rt, alloc, "[3]\n\n[1]", "! not-found GetIndexOutOfArray\n")?;
-    check_error(&rt, alloc, "[0]\n\n[ ]", "! not-found GetInEmptyArray\n")?;
-    check_error(&rt, alloc, "[0]\n\n5", "! type Message\n")?;
-    check_error(&rt, alloc, "[]\n\nnul", "! eof EofWhileParsing\n")?;
-    check_error(&rt, alloc, "[0]", "! eof EofWhileParsing\n")?;
-    check_error(&rt, alloc, "[]\n\nnx", "! syntax InvalidLiteral\n")?;
-    check_error(&rt, alloc, "[]\n\n-x", "! syntax InvalidNumber\n")?;
     check_error(
         &rt,
         alloc,
-        "[1]\n\n[1 2]",
-        "! syntax ExpectedArrayCommaOrEnd\n",
+        "[3]\n\n[1]",
+        "! not-found GetIndexOutOfArray 1 3 2\n",
     )?;
-    check_error(&rt, alloc, "[1]\n\n[1,]", "! syntax InvalidJsonValue\n")
+    check_error(
+        &rt,
+        alloc,
+        "[0]\n\n[ ]",
+        "! not-found GetInEmptyArray 1 3 2\n",
+    )?;
+    check_error(&rt, alloc, "[0]\n\n5", "! type Message 1 1 0\n")?;
+    check_error(&rt, alloc, "[0]\n\n\"a\"", "! type Message 1 3 2\n")?;
+    check_error(&rt, alloc, "[]\n\nnul", "! eof EofWhileParsing 1 3 2\n")?;
+    check_error(&rt, alloc, "[0]", "! eof EofWhileParsing 1 1 0\n")?;
+    check_error(&rt, alloc, "[]\n\nnx", "! syntax InvalidLiteral 1 2 1\n")?;
+    check_error(&rt, alloc, "[]\n\n-x", "! syntax InvalidNumber 1 2 1\n")?;
+    check_error(&rt, alloc, "[]\n\n01", "! syntax InvalidNumber 1 2 1\n")?;
+    check_error(
+        &rt,
+        alloc,
+        "[1]\n\n[\n1\r\n 2]",
+        "! syntax ExpectedArrayCommaOrEnd 3 2 6\n",
+    )?;
+    check_error(
+        &rt,
+        alloc,
+        "[1]\n\n[1,]",
+        "! syntax InvalidJsonValue 1 4 3\n",
+    )?;
+    check_error(&rt, alloc, "[0]\n\n[{}]", "! syntax Unsupported 1 2 1\n")
+}
+
+#[test]
+fn reads_strings_and_fractions(rt: HostRuntime) -> Result<(), Fail> {
+    let alloc = rt.alloc();
+    check_input(&rt, alloc, "[0]\n\n[1.5]", "3 1.5\n")?;
+    check_input(&rt, alloc, "[]\n\n1.2.3", "3 1.2\n")?;
+    check_input(&rt, alloc, "[]\n\n1230/(xxx", "4 1230\n")?;
+    check_input(
+        &rt,
+        alloc,
+        "[1]\n\n[-1e-9, \"a\\\"]\u{e9}\"]",
+        "8 \"a\\\"]\u{e9}\"\n",
+    )?;
+    check_input(
+        &rt,
+        alloc,
+        "[]\n\n\"\\ud83d\\ude00\"",
+        "14 \"\\ud83d\\ude00\"\n",
+    )?;
+    let escape = "! syntax InvalidUnicodeCodePoint 1 5 4\n";
+    check_error(&rt, alloc, "[1]\n\n[\"\\u\"abc\",1]", escape)?;
+    let surrogate = "! syntax InvalidSurrogateUnicodeCodePoint 1 5 4\n";
+    check_error(&rt, alloc, "[]\n\n\"\\ude00\"", surrogate)
+}
+
+// Text that isn't UTF-8 is told where it is, and only up to the end of what was found.
+#[test]
+fn tells_text_that_is_broken_before_the_end(rt: HostRuntime) -> Result<(), Fail> {
+    let alloc = rt.alloc();
+    let broken = b"[]\n\n\"222\x80\x90\"";
+    let line = "! syntax InvalidUTF8 1 5 4\n";
+    check_run(&rt, alloc, &[], broken, line, Status::DocumentError)?;
+    let overlong = b"[]\n\n\"\xc0\x80\"";
+    check_run(
+        &rt,
+        alloc,
+        &[],
+        overlong,
+        "! syntax InvalidUTF8 1 2 1\n",
+        Status::DocumentError,
+    )?;
+    let surrogate = b"[]\n\n\"a\xed\xa0\x80\"";
+    check_run(
+        &rt,
+        alloc,
+        &[],
+        surrogate,
+        "! syntax InvalidUTF8 1 3 2\n",
+        Status::DocumentError,
+    )?;
+    let cut = b"[1]\n\n[\"\xe2\x82\", 7]";
+    check_run(
+        &rt,
+        alloc,
+        &[],
+        cut,
+        "! syntax InvalidUTF8 1 3 2\n",
+        Status::DocumentError,
+    )?;
+    check_run(&rt, alloc, &[], b"[0]\n\n[1,\xff", "1 1\n", Status::Done)
 }
 
 #[test]
@@ -191,7 +275,7 @@ fn tells_bad_lines(rt: HostRuntime) -> Result<(), Fail> {
         &rt,
         alloc,
         "[18446744073709551615]\n\n[1]",
-        "! not-found GetIndexOutOfArray\n",
+        "! not-found GetIndexOutOfArray 1 3 2\n",
     )
 }
 

@@ -1,5 +1,5 @@
 use Rattle.std.proofs.Common.{refl}
-use Rattle.sonic_text.specs.Values.ElementsFit.{next_element}
+use Rattle.sonic_tool.specs.Values.ElementsFit.{next_element}
 use Rattle.sonic_tool.proofs.Following.{out_at_bracket}
 use Rattle.sonic_tool.proofs.evaluate.element_of_array.Goals as goal
 

@@ -1,5 +1,5 @@
 use Rattle.std.proofs.Common.{length, ◌≤◌}
-use Rattle.sonic_text.specs.Values.{ElementsFit}
+use Rattle.sonic_tool.specs.Values.{ElementsFit}
 use Rattle.sonic_tool.proofs.evaluate.element_of_array.Given as goal
 
 abbrev pub invariant-loop-passed : goal.invariant-loop-passed

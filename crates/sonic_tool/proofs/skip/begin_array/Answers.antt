@@ -1,5 +1,5 @@
 use Rattle.std.proofs.Common.{arith, refl}
-use Rattle.sonic_text.specs.Values.{empty_array}
+use Rattle.sonic_tool.specs.Values.{empty_array}
 use Rattle.sonic_tool.proofs.skip.begin_array.Goals as goal
 
 pub returns-then-byte_at-eq93 : goal.returns-then-byte_at-eq93

@@ -1,4 +1,4 @@
-use Rattle.sonic_text.specs.Faults.{number_fault}
+use Rattle.sonic_tool.specs.Faults.{number_fault}
 use Rattle.sonic_tool.proofs.skip.begin_number.Goals as goal
 
 pub returns-in-Err-clause-err : goal.returns-in-Err-clause-err

@@ -1,5 +1,5 @@
 use Rattle.std.proofs.Common.{length, ◌-◌, ◌<◌, ◌≤◌, ℕ}
-use Rattle.sonic_text.specs.Values.{ElementsFit}
+use Rattle.sonic_tool.specs.Values.{ElementsFit}
 use Rattle.sonic_tool.proofs.tests.plain.+value_end.Given as goal
 
 abbrev pub decreases-value_end : goal.decreases-value_end

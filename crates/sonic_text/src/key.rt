@@ -1,0 +1,48 @@
+// Keys compared as they are read (RFC 8259, section 8.3: names are equal if their chars are).
+ghost use Rattle.std.specs.Prelude.{◌≡◌, ◌≢◌, ℕ, ◌+◌, ◌≤◌, ◌++◌, List, length, take, false, IsTrue, ◌↔◌};
+ghost use Rattle.std.specs.Bool.{OnTrue};
+ghost use Rattle.sonic_text.specs.Strings.{IsString, strict};
+
+use crate::unescape::{escape_at, plain_end};
+use crate::utf8::codepoint_to_utf8;
+
+/// Whether the piece stands in the key behind the bytes that are done.
+fn goes_on(key: &[u8], done: usize, piece: &[u8]) -> bool
+    requires { done ≤ length key.now }
+    ensures yes { OnTrue result ((done + length piece.now ≤ length key.now)
+        × (take (done + length piece.now) key.now ≡ take done key.now ++ piece.now)) }
+    ensures no { result ≡ false → (rest : List ℕ) → key.now ≢ take done key.now ++ piece.now ++ rest }
+{
+    key[done..].starts_with(piece)
+}
+
+/// Whether the string from `start` to `end`, both quotes included, stands for the key.
+///
+/// Chars are compared, and not how they are written (RFC 8259, section 8.3): both `"a"` and
+/// `"\u0061"` are the same key as `a`. It takes no memory.
+pub fn same_key(text: &[u8], start: usize, end: usize, key: &str) -> bool
+    requires { (b : List ℕ) × IsString strict text.now start end b }
+    ensures { IsTrue result ↔ IsString strict text.now start end key.now }
+{
+    let key = key.as_bytes();
+    let mut place = start + 1;
+    let mut done = 0;
+    'chars: loop {
+        let stop = plain_end(text, place, end);
+        if !goes_on(key, done, &text[place..stop]) {
+            return false;
+        }
+        done += stop - place;
+        if stop + 1 == end {
+            return done == key.len();
+        }
+        let (code, next) = escape_at(text, stop);
+        let mut buffer = [0; 4];
+        let len = codepoint_to_utf8(code, &mut buffer);
+        if !goes_on(key, done, &buffer[..len]) {
+            return false;
+        }
+        done += len;
+        place = next;
+    }
+}

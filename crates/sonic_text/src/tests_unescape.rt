@@ -1,0 +1,97 @@
+// What no clause says: that the calls answer the worked examples of their documents.
+ghost use Rattle.std.specs.Prelude.{ℕ, List, length};
+ghost use Rattle.sonic_text.specs.Strings.{IsString, strict};
+
+use crate::{ESCAPED_TAB, codepoint_to_utf8, hex4, same_key, unescape_into};
+use std::alloc::Global;
+use std::process::Abort;
+
+#[test]
+fn reads_four_digits(rt: HostRuntime) {
+    assert_eq!(rt; hex4(b"0000"), Some(0));
+    assert_eq!(rt; hex4(b"00e9"), Some(0xE9));
+    assert_eq!(rt; hex4(b"FfFf"), Some(0xFFFF));
+    assert_eq!(rt; hex4(b"00g0"), None);
+    assert_eq!(rt; hex4(b"000/"), None);
+}
+
+fn check_utf8(rt: &impl Abort, cp: u32, bytes: &[u8]) {
+    let mut out = [0xAA; 4];
+    let len = codepoint_to_utf8(cp, &mut out);
+    assert!(rt; len <= 4, "{cp:x}");
+    assert_eq!(rt; &out[..len], bytes, "{cp:x}");
+    for behind in &out[len..] {
+        assert_eq!(rt; *behind, 0xAA, "{cp:x}");
+    }
+}
+
+#[test]
+fn writes_code_points(rt: HostRuntime) {
+    check_utf8(&rt, 0, b"\0");
+    check_utf8(&rt, 0x7F, b"\x7f");
+    check_utf8(&rt, 0x80, b"\xc2\x80");
+    check_utf8(&rt, 0x7FF, b"\xdf\xbf");
+    check_utf8(&rt, 0x800, b"\xe0\xa0\x80");
+    check_utf8(&rt, 0xD800, b"\xed\xa0\x80");
+    check_utf8(&rt, 0xFFFF, b"\xef\xbf\xbf");
+    check_utf8(&rt, 0x1_0000, b"\xf0\x90\x80\x80");
+    check_utf8(&rt, 0x10_FFFF, b"\xf4\x8f\xbf\xbf");
+    check_utf8(&rt, 0x11_0000, b"");
+    check_utf8(&rt, u32::MAX, b"");
+}
+
+#[test]
+fn knows_the_short_escapes(rt: HostRuntime) {
+    assert_eq!(rt; ESCAPED_TAB[b'n' as usize], b'\n');
+    assert_eq!(rt; ESCAPED_TAB[b't' as usize], b'\t');
+    assert_eq!(rt; ESCAPED_TAB[b'b' as usize], 8);
+    assert_eq!(rt; ESCAPED_TAB[b'f' as usize], 12);
+    assert_eq!(rt; ESCAPED_TAB[b'/' as usize], b'/');
+    assert_eq!(rt; ESCAPED_TAB[b'u' as usize], 0);
+    assert_eq!(rt; ESCAPED_TAB[b'N' as usize], 0);
+}
+
+fn check_bytes(rt: &impl Abort, alloc: Global, text: &[u8], lossy: bool, bytes: &[u8])
+    requires { (b : List ℕ) × IsString lossy text.now 0 (length text.now) b }
+{
+    let mut out = Vec::new(alloc);
+    let result = unescape_into(&mut out, text, 0, text.len(), lossy);
+    assert!(rt; result.is_ok(), "{text:?}");
+    assert_eq!(rt; &out[..], bytes, "{text:?}");
+}
+
+#[test]
+fn unescapes_strings(rt: HostRuntime) {
+    check_bytes(&rt, rt.alloc(), b"\"a\\u00e9\\n\"", false, b"a\xc3\xa9\n");
+    check_bytes(&rt, rt.alloc(), b"\"\\ud800x\"", true, b"\xef\xbf\xbdx");
+    check_bytes(
+        &rt,
+        rt.alloc(),
+        b"\"0123456789012345678901234567890123456789\\t0123456789\"",
+        false,
+        b"0123456789012345678901234567890123456789\t0123456789",
+    );
+    check_bytes(
+        &rt,
+        rt.alloc(),
+        b"\"\\ud83d\\ude00\"",
+        false,
+        b"\xf0\x9f\x98\x80",
+    );
+}
+
+fn is_key(text: &[u8], key: &str) -> bool
+    requires { (b : List ℕ) × IsString strict text.now 0 (length text.now) b }
+{
+    same_key(text, 0, text.len(), key)
+}
+
+#[test]
+fn compares_keys(rt: HostRuntime) {
+    assert!(rt; is_key(b"\"\"", ""));
+    assert!(rt; is_key(b"\"\\u0061\"", "a"));
+    assert!(rt; is_key(b"\"\\u00e9\"", "é"));
+    assert!(rt; !is_key(b"\"a\"", "b"));
+    assert!(rt; !is_key(b"\"a\"", "ab"));
+    assert!(rt; !is_key(b"\"ab\"", "a"));
+}
