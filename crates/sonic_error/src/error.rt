@@ -220,5 +220,3 @@ impl fmt::Debug for Error {
         fmt::Display::fmt(self, f)
     }
 }
-
-impl std::error::Error for Error {}

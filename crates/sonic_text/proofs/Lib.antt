@@ -2,12 +2,16 @@ pub mod Codepoints
 pub mod Decimals
 pub mod EscapeFaults
 pub mod Escapes
+pub mod FirstBytes
 pub mod HexDigits
 pub mod HexLemmas
 pub mod LiteralStrings
 pub mod Literals
 pub mod Numbers
+pub mod Objects
+pub mod Outcomes
 pub mod Places
 pub mod Strings
 pub mod Tables
 pub mod Unescaping
+pub mod Values

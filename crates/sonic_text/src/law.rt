@@ -1,7 +1,9 @@
-ghost use Rattle.std.specs.Prelude.{ℕ, ◌≤◌, List, length};
+ghost use Rattle.std.specs.Prelude.{ℕ, ◌≤◌, Bool, List, length};
+ghost use Rattle.sonic_text.specs.Faults.{IsFault};
 ghost use Rattle.sonic_text.specs.Laws.{HasOneOutcome};
 ghost use Rattle.sonic_text.specs.Literals.{IsLiteral, IsLiteralFault};
 ghost use Rattle.sonic_text.specs.Numbers.{IsNumber, IsNumberFault};
+ghost use Rattle.sonic_text.specs.Values.{IsValue};
 
 /// A law of the numbers, for every text and every place: either a number stands there and ends at
 /// exactly one place, or none does for exactly one reason, and never both.
@@ -20,4 +22,14 @@ pub fn number_has_one_outcome()
 pub fn literal_has_one_outcome()
     ensures { (word t : List ℕ) (i : ℕ) → i ≤ length t
         → HasOneOutcome (IsLiteral word t i) (IsLiteralFault word t i) }
+{}
+
+/// The law of values (RFC 8259, section 3), for both ways of reading, every text and every place:
+/// either a value stands there and ends at exactly one place, or none does for exactly one reason,
+/// and never both. So `[1,2]x` has the one end 5, and `{"a":}` the one fault, at 5.
+///
+/// The reason is a place and a code. So a reader whose clauses speak of these two has only one
+/// answer that they allow.
+pub fn value_has_one_outcome()
+    ensures { (m : Bool) (t : List ℕ) (i : ℕ) → HasOneOutcome (IsValue m t i) (IsFault m t i) }
 {}

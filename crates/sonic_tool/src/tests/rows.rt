@@ -50,7 +50,7 @@ fn check(rt: &impl Abort, alloc: Global, row: Row) -> Result<(), Fail> {
     )
 }
 
-fn check_run(
+pub fn check_run(
     rt: &impl Abort,
     alloc: Global,
     words: &[&str],
