@@ -1,5 +1,5 @@
 -- What an error tells, and what it is to tell of a text.
-use Rattle.std.specs.Prelude.{ℕ, ◌-◌, Option, Some, None, List, [], ◌++◌, slice_range, take}
+use Rattle.std.specs.Prelude.{◌≡◌, ℕ, ◌-◌, Option, Some, None, List, [], ◌++◌, slice_range, take}
 use Rattle.std.specs.declared.io.ErrorKind.{ErrorKind}
 use Rattle.std.specs.declared.io.ErrorKind.TheVariants.{UnexpectedEof, OutOfMemory, InvalidData}
 use Rattle.sonic_error.specs.declared.code.ErrorCode.{ErrorCode}
@@ -58,6 +58,22 @@ shown code text place =
     let end = fragment_end text offset in
     code_text code ++ position_text (line_of text place) (column_of text place) (slice_range text start end)
     (mask_text (offset - start) (end - offset - 1))
+
+-- the error tells this code at this place of the text
+pub record IsErrorAt (error : Error) (c : ErrorCode) (t : List ℕ) (p : ℕ) : Type 0 where
+  pub code : error_code error ≡ c
+  pub offset : error_offset error ≡ offset_of t p
+  pub line : error_line error ≡ line_of t p
+  pub column : error_column error ≡ column_of t p
+  pub text : error_text error ≡ shown c t p
+
+-- the error tells this code, and no place
+pub record IsPlainError (error : Error) (c : ErrorCode) : Type 0 where
+  pub code : error_code error ≡ c
+  pub offset : error_offset error ≡ 0
+  pub line : error_line error ≡ 0
+  pub column : error_column error ≡ 0
+  pub text : error_text error ≡ code_text c
 
 -- the kind of the error of reading or writing that is behind it
 abbrev pub io_kind_of : ErrorCode → Option ErrorKind

@@ -90,8 +90,6 @@ pub enum ErrorCode {
     SerExpectKeyIsStrOrNum,
     /// Memory ran out.
     NoMemory,
-    /// JSON that this version doesn't read yet: objects.
-    Unsupported,
 }
 
 impl ErrorCode {
@@ -155,7 +153,6 @@ impl fmt::Display for ErrorCode {
             Self::SerExpectKeyIsStrOrNum =>
                 "Expected the key to be string/bool/number when serializing map",
             Self::NoMemory => "out of memory",
-            Self::Unsupported => "Unsupported",
         };
         f.write_str(words)
     }

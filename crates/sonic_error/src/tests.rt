@@ -152,7 +152,6 @@ fn prints_codes(rt: HostRuntime) -> Result<(), Fail> {
             "Expected the key to be string/bool/number when serializing map",
         ),
         (ErrorCode::NoMemory, "out of memory"),
-        (ErrorCode::Unsupported, "Unsupported"),
     ];
     for (code, text) in table {
         let error = Error::plain(code);

@@ -1,3 +1,4 @@
+pub mod Ascii
 pub mod Codepoints
 pub mod Decimals
 pub mod EscapeFaults
@@ -11,6 +12,7 @@ pub mod Numbers
 pub mod Objects
 pub mod Outcomes
 pub mod Places
+pub mod Stops
 pub mod Strings
 pub mod Tables
 pub mod Unescaping

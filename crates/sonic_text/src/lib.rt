@@ -25,6 +25,7 @@ pub use key::same_key;
 pub use law::{literal_has_one_outcome, number_has_one_outcome, value_has_one_outcome};
 pub use literal::literal_end;
 pub use number::{number_end, whole_i64, whole_u64};
+pub use scan::{byte_at, skip_digits, skip_space, stop_at};
 pub use space::is_whitespace;
 pub use stop::Stop;
 pub use string::{StringEnd, string_end};

@@ -1,20 +1,26 @@
 ghost use Rattle.std.specs.Prelude.{◌≡◌, ◌<◌, ◌≤◌, length};
-ghost use Rattle.sonic_text.specs.Places.{byte, digits_end, bad, IsDigit};
+ghost use Rattle.sonic_text.specs.Places.{byte, after_space, digits_end, bad, IsDigit};
 
+use crate::space::is_whitespace;
 use crate::stop::Stop;
 use sonic_error::ErrorCode;
 
-// The byte at a place, and 0 behind the end, where no rule of the grammar asks for a 0.
+/// The byte at a place, and 0 behind the end, where no rule of the grammar asks for a 0.
+///
+/// So a byte that is missing needs no case of its own: `byte_at(b"[1", 1)` is `b'1'`, and
+/// `byte_at(b"[1", 2)` is 0.
 #[inline]
-pub(crate) fn byte_at(text: &[u8], place: usize) -> u8
+pub fn byte_at(text: &[u8], place: usize) -> u8
     ensures value { result ≡ byte text.now place }
     ensures within { 0 < result → place < length text.now }
 {
     if place < text.len() { text[place] } else { 0 }
 }
 
-// The stop at a place that holds no byte that fits; at the end of the text the end is the reason.
-pub(crate) fn stop_at(text: &[u8], place: usize, code: ErrorCode) -> Stop
+/// The stop at a place that holds no byte that fits; at the end of the text the end is the reason.
+///
+/// In `[1;` the place 2 stops with the code that is given, and the place 3 with `EofWhileParsing`.
+pub fn stop_at(text: &[u8], place: usize, code: ErrorCode) -> Stop
     requires { place ≤ length text.now }
     ensures { result ≡ bad text.now place code }
 {
@@ -26,9 +32,28 @@ pub(crate) fn stop_at(text: &[u8], place: usize, code: ErrorCode) -> Stop
     }
 }
 
-// The first place from `start` on that holds no digit, or the end.
+/// The first place from `start` on that holds no white space (RFC 8259, section 2), or the end.
+///
+/// `skip_space(b" \n1", 0)` is 2.
 #[inline]
-pub(crate) fn skip_digits(text: &[u8], start: usize) -> usize
+pub fn skip_space(text: &[u8], start: usize) -> usize
+    requires { start ≤ length text.now }
+    ensures place { result ≡ after_space text.now start }
+    ensures later { start ≤ result }
+    ensures within { result ≤ length text.now }
+{
+    let mut place = start;
+    while place < text.len() && is_whitespace(text[place]) {
+        place += 1;
+    }
+    place
+}
+
+/// The first place from `start` on that holds no digit, or the end.
+///
+/// `skip_digits(b"120]", 0)` is 3.
+#[inline]
+pub fn skip_digits(text: &[u8], start: usize) -> usize
     requires { start ≤ length text.now }
     ensures place { result ≡ digits_end text.now start }
     ensures later { start ≤ result }

@@ -10,7 +10,7 @@ use Rattle.std.proofs.lemmas.Fmt.{IsAscii-from_digits}
 use Rattle.std.proofs.lemmas.List.{length-take, length-drop, get_or-take, get_or-drop, append_assoc}
 use Rattle.sonic_text.specs.Places.{byte, after_space, IsDigit}
 use Rattle.sonic_text.specs.Numbers.{IsNumber, IsInt, IsE, IsWholeText}
-use Rattle.sonic_tool.specs.Faults.{NothingFits}
+use Rattle.sonic_text.specs.Faults.{NothingFits}
 use Rattle.sonic_text.proofs.Places.{byte_behind, digits_end_later}
 use Rattle.sonic_text.proofs.Decimals.{unsigned, numeral}
 use Rattle.sonic_tool.specs.Paths.{BeginsMore, IsIndex, IndexesStand, IsIndexArray, IsPathLine}
@@ -200,7 +200,7 @@ pub none_without_index : {t : List ℕ} {first due j : ℕ} {path whole : List �
 none_without_index {j = j} {whole = whole} f never r = let i = some_index (f.only j whole r).2 in never i.0 i.1 i.2
 
 -- nor where neither a comma nor the bracket stands behind one
-pub none_behind : {t : List ℕ} {first due e n j : ℕ} {path whole : List ℕ} → Follows t first due path → IsIndex t due e n → NothingFits t e
+pub none_behind : {t : List ℕ} {first due e n j : ℕ} {path whole : List ℕ} → Follows t first due path → IsIndex t due e n → NothingFits t e 93
     → ¬ IndexesStand t first j whole
 none_behind {j = j} {whole = whole} f x misfit r = comma_or_bracket (goes x (f.only j whole r).2) misfit.0 misfit.1
 

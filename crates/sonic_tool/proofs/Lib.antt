@@ -1,6 +1,3 @@
-pub mod Begins
-pub mod Descending
-pub mod FirstBytes
 pub mod Following
 pub mod Given
 pub mod Heads
@@ -9,10 +6,8 @@ pub mod OneHead
 pub mod OneLine
 pub mod OnePath
 pub mod OneReport
-pub mod Outcomes
 pub mod Replies
 pub mod Reporting
-pub mod Skipping
+pub mod Spaces
 pub mod Stops
 pub mod Taken
-pub mod Values

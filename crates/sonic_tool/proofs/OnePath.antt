@@ -10,26 +10,27 @@ use Rattle.sonic_text.specs.declared.stop.Stop.{Stop}
 use Rattle.sonic_text.specs.Places.{byte, after_space}
 use Rattle.sonic_text.specs.Literals.{IsLiteral}
 use Rattle.sonic_text.specs.Numbers.{IsNumber}
-use Rattle.sonic_tool.specs.Values.{IsValue, ElementsFit, kind_at}
-use Rattle.sonic_tool.specs.Values.IsValue.{null_literal, true_literal, false_literal, number, string, empty_array, array}
-use Rattle.sonic_tool.specs.Values.ElementsFit.{first_element, next_element}
-use Rattle.sonic_tool.specs.Faults.{IsFault}
+use Rattle.sonic_text.specs.Strings.{strict}
+use Rattle.sonic_text.specs.Values.{IsValue, ElementsFit}
+use Rattle.sonic_text.specs.Values.IsValue.{null_literal, true_literal, false_literal, number, string, empty_array, array, empty_object, object}
+use Rattle.sonic_text.specs.Values.ElementsFit.{first_element, next_element}
+use Rattle.sonic_text.specs.Faults.{IsFault}
 use Rattle.sonic_text.proofs.Numbers.{number_begins}
-use Rattle.sonic_tool.proofs.Values.{elements_not_empty, elements_open, elements_before, elements_one, value_end_one, value_fault_one, value_never_both}
-use Rattle.sonic_tool.proofs.Outcomes.{value_some_outcome}
+use Rattle.sonic_text.proofs.Values.{elements_not_empty, elements_open, elements_before, elements_one, members_open, value_end_one, value_fault_one, value_never_both}
+use Rattle.sonic_text.proofs.Outcomes.{value_some_outcome}
 use Rattle.sonic_tool.specs.declared.evaluate.Outcome.{Outcome}
 use Rattle.sonic_tool.specs.declared.evaluate.Outcome.TheVariants.{Fails, Cut}
-use Rattle.sonic_tool.specs.Paths.{Evaluates}
+use Rattle.sonic_tool.specs.Paths.{Evaluates, kind_at}
 use Rattle.sonic_tool.specs.Paths.Evaluates.{found, element, in_empty_array, out_of_array, no_array, cut_here, cut_before}
 use Rattle.sonic_tool.proofs.Following.{not_past_fault, not_past_bad}
 
 -- no element stands behind the first n of the array at i
 abbrev NoElement : List ℕ → ℕ → ℕ → Type 0
-NoElement t i n = (v : ℕ) → ¬ ElementsFit t i n v
+NoElement t i n = (v : ℕ) → ¬ ElementsFit strict t i n v
 
 -- an array of which m elements fit has the next one or not, by the outcome of the value that is due there
-next_or_none : (t : List ℕ) (i m u : ℕ) → ElementsFit t i m u → ((v : ℕ) × ElementsFit t i (suc m) v) ⊎ NoElement t i (suc m)
-next_or_none t i m u es = elim (value_some_outcome t u) [
+next_or_none : (t : List ℕ) (i m u : ℕ) → ElementsFit strict t i m u → ((v : ℕ) × ElementsFit strict t i (suc m) v) ⊎ NoElement t i (suc m)
+next_or_none t i m u es = elim (value_some_outcome strict t u) [
   | inr f ↦ inr (λ v fs. not_past_fault es (omega arith) f.1 fs)
   | inl x ↦ elim (cases_eq (byte t (after_space t x.0)) 44) [
     | inl c ↦ inl (after_space t (after_space t x.0 + 1), next_element es x.1 c refl (omega arith))
@@ -38,7 +39,7 @@ next_or_none t i m u es = elim (value_some_outcome t u) [
 ]
 
 -- an element stands behind the first n of the array at i, or none does
-element_or_none : (t : List ℕ) (i n : ℕ) → ((v : ℕ) × ElementsFit t i n v) ⊎ NoElement t i n
+element_or_none : (t : List ℕ) (i n : ℕ) → ((v : ℕ) × ElementsFit strict t i n v) ⊎ NoElement t i n
 element_or_none t i zero = elim (cases_eq (byte t i) 91) [
   | inr b ↦ inr (λ v fs. b (elements_open fs))
   | inl b ↦ elim (cases_eq (byte t (after_space t (i + 1))) 93) [
@@ -48,7 +49,7 @@ element_or_none t i zero = elim (cases_eq (byte t i) 91) [
 ]
 element_or_none t i (suc n) = elim (element_or_none t i n) [
   | inl x ↦ next_or_none t i n x.0 x.1
-  | inr none ↦ inr (λ v fs. let x = elements_before {m = n} fs (omega arith) in none x.u x.before)
+  | inr none ↦ inr (λ v fs. let x = elements_before {p = n} fs (omega arith) in none x.u x.before)
 ]
 
 -- why an index leads nowhere in a whole value
@@ -80,12 +81,12 @@ fails_at q j s code reason e r h = let p : j - 1 ≡ q = omega arith in cc
 
 -- where a path with a first index leads: on from an element, or nowhere since the value is whole or has a fault
 data Leads (t : List ℕ) (i n : ℕ) (rest : List ℕ) (o : Outcome) : Type 0 where
-  goes_on : {v : ℕ} → ElementsFit t i n v → Evaluates t v rest o → Leads t i n rest o
-  fails : {j : ℕ} → IsValue t i j → NoElement t i n → o ≡ Fails (record { place = j - 1; code = why t i }) → Leads t i n rest o
-  cuts : {s : Stop} → IsFault t i s → NoElement t i n → o ≡ Cut s → Leads t i n rest o
+  goes_on : {v : ℕ} → ElementsFit strict t i n v → Evaluates t v rest o → Leads t i n rest o
+  fails : {j : ℕ} → IsValue strict t i j → NoElement t i n → o ≡ Fails (record { place = j - 1; code = why t i }) → Leads t i n rest o
+  cuts : {s : Stop} → IsFault strict t i s → NoElement t i n → o ≡ Cut s → Leads t i n rest o
 
 -- behind the last element of an array there is no other
-none_behind_last : {t : List ℕ} {i m n v e : ℕ} → ElementsFit t i m v → m < n → IsValue t v e → byte t (after_space t e) ≡ 93 → NoElement t i n
+none_behind_last : {t : List ℕ} {i m n v e : ℕ} → ElementsFit strict t i m v → m < n → IsValue strict t v e → byte t (after_space t e) ≡ 93 → NoElement t i n
 none_behind_last es l x c w fs = not_past_bad es l x (λ d. omega arith) fs
 
 -- each outcome of a path with a first index is one of these
@@ -137,7 +138,7 @@ number_no_array : {t : List ℕ} {i j : ℕ} → IsNumber t i j → byte t i ≢
 number_no_array h b = elim (number_begins h) [ inl minus ↦ omega arith | inr digit ↦ omega (arith, digit.1) ]
 
 -- an index that leads to no element fails in a whole value
-fails_in_value : {t : List ℕ} {i n j : ℕ} (rest : List ℕ) → IsValue t i j → NoElement t i n → SomeEnd t i (n ∷ rest)
+fails_in_value : {t : List ℕ} {i n j : ℕ} (rest : List ℕ) → IsValue strict t i j → NoElement t i n → SomeEnd t i (n ∷ rest)
 fails_in_value rest (empty_array b c q) none = (_, in_empty_array b refl c refl)
 fails_in_value {i = i} {n} rest (array {n = m} {v} es x c q) none = elim (cases_order m n) [
   | inl e ↦ absurd (none v (rw (← e) es))
@@ -149,13 +150,16 @@ fails_in_value {t} {i} rest (true_literal h) none = (_, no_array (true_literal h
 fails_in_value {t} {i} rest (false_literal h) none = (_, no_array (false_literal h) (word_no_array (codes "false") t i (omega arith) (omega arith) h) refl)
 fails_in_value {t} {i} rest (string h) none = (_, no_array (string h) (λ b. let q = h.opens in omega arith) refl)
 fails_in_value rest (number h) none = (_, no_array (number h) (number_no_array h) refl)
+fails_in_value rest (empty_object b c q) none = (_, no_array (empty_object b c q) (λ d. omega (arith, b, d)) refl)
+fails_in_value rest (object ms y x c q) none =
+    (_, no_array (object ms y x c q) (λ d. let b = members_open ms in omega (arith, b, d)) refl)
 
 -- a path leads to some outcome
 pub evaluates_some : (t : List ℕ) (path : List ℕ) (i : ℕ) → SomeEnd t i path
-evaluates_some t [] i = elim (value_some_outcome t i) [ inl x ↦ (_, found x.1) | inr f ↦ (_, cut_here f.1) ]
+evaluates_some t [] i = elim (value_some_outcome strict t i) [ inl x ↦ (_, found x.1) | inr f ↦ (_, cut_here f.1) ]
 evaluates_some t (n ∷ rest) i = elim (element_or_none t i n) [
   | inl x ↦ let r = evaluates_some t rest x.0 in (r.0, element x.1 r.1)
-  | inr none ↦ elim (value_some_outcome t i) [
+  | inr none ↦ elim (value_some_outcome strict t i) [
     | inl x ↦ fails_in_value rest x.1 none
     | inr f ↦ (_, cut_before f.1 none)
   ]

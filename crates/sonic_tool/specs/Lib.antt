@@ -1,10 +1,7 @@
 pub mod Commands
-pub mod Faults
 pub mod Heads
 pub mod Laws
 pub mod Outside
 pub mod Paths
 pub mod Replies
 pub mod Reports
-pub mod Skipping
-pub mod Values

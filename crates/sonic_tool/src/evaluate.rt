@@ -1,12 +1,16 @@
-ghost use Rattle.std.specs.Prelude.{◌≡◌, ◌≢◌, ◌<◌, ◌≤◌, ℕ, List, ◌∷◌, length, IfOk, IfErr};
-ghost use Rattle.sonic_text.specs.Places.{byte};
-ghost use Rattle.sonic_tool.specs.Values.{ElementsFit, kind_at};
-ghost use Rattle.sonic_tool.specs.Paths.{Evaluates, IsWithin};
+ghost use Rattle.std.specs.Prelude.{◌≡◌, ◌<◌, ◌≤◌, ◌+◌, ℕ, List, ◌∷◌, length, IfOk, IfErr, OnOk};
+ghost use Rattle.sonic_text.specs.Places.{byte, after_space};
+ghost use Rattle.sonic_text.specs.Strings.{strict};
+ghost use Rattle.sonic_text.specs.Values.{IsValue, ElementsFit};
+ghost use Rattle.sonic_text.specs.Faults.{IsFault};
+ghost use Rattle.sonic_parser.specs.Parsers.{due, moved};
+ghost use Rattle.sonic_tool.specs.Paths.{Evaluates, IsWithin, kind_at};
 
-use crate::scan::{byte_at, skip_space};
-use crate::skip::{Behind, after_element, skip_value};
 use sonic_error::{ErrorCode, JsonType, Note, Wanted};
-use sonic_text::Stop;
+use sonic_input::Read;
+use sonic_parser::Parser;
+use sonic_text::{Stop, byte_at, stop_at};
+use std::alloc::{AllocError, Global};
 
 // Where a path leads.
 #[derive(Clone, Copy, Debug, PartialEq, Eq)]
@@ -19,77 +23,174 @@ pub(crate) enum Outcome {
     Cut(Stop),
 }
 
-// Where a path leads from a place at which a value is due.
-#[tactic(auto, using(crate::proofs::Following::outcomes))]
-pub(crate) fn evaluate(text: &[u8], start: usize, path: &[usize]) -> Outcome
-    requires { start ≤ length text.now }
-    ensures outcome { Evaluates text.now start path.now result }
-    ensures within { IsWithin text.now result }
+// Where a path leads from the first byte of a text that is no white space.
+pub(crate) fn evaluate(alloc: Global, text: &[u8], path: &[usize]) -> Result<Outcome, AllocError>
+    ensures outcome { IfOk result (λ o. Evaluates text.now (after_space text.now 0) path.now o) }
+    ensures within { IfOk result (λ o. IsWithin text.now o) }
 {
-    let mut place = start;
+    let mut parser = Parser::new(Read::from(text));
     for index in path {
-        match element(text, place, *index) {
-            Ok(next) => place = next,
-            Err(outcome) => return outcome,
+        match element(alloc, &mut parser, *index)? {
+            Ok(()) => {}
+            Err(outcome) => return Ok(outcome),
         }
     }
-    match skip_value(text, place) {
-        Ok(end) => Outcome::Found(place, end),
-        Err(stop) => Outcome::Cut(stop),
+    peek(&mut parser);
+    let start = parser.offset();
+    match skip(alloc, &mut parser)? {
+        Ok(end) => Ok(Outcome::Found(start, end)),
+        Err(stop) => Ok(Outcome::Cut(stop)),
     }
 }
 
-// The place where an element of the value is due, or why the index leads to none.
-#[tactic(auto, using(crate::proofs::Following::outcomes))]
-fn element(text: &[u8], place: usize, index: usize) -> Result<usize, Outcome>
-    requires { place ≤ length text.now }
-    ensures ok { IfOk result (λ v. (v ≤ length text.now) × ElementsFit text.now place index v) }
-    ensures err { IfErr result (λ o. (rest : List ℕ) → Evaluates text.now place (index ∷ rest) o) }
-    ensures within { IfErr result (λ o. IsWithin text.now o) }
+// Goes to an element of the value that is due, or says why the index leads to none.
+fn element(
+    alloc: Global,
+    parser: &mut Parser<'_>,
+    index: usize,
+) -> Result<Result<(), Outcome>, AllocError>
+    requires { parser.old.lossy ≡ strict }
+    ensures ok { IfOk result (λ step. OnOk step
+        (ElementsFit strict parser.old.text (due parser.old) index (due parser.new))) }
+    ensures cursor { IfOk result (λ step. OnOk step (parser.new ≡ moved parser.old parser.new.place)) }
+    ensures err { IfOk result (λ step. IfErr step (λ o. (rest : List ℕ)
+        → Evaluates parser.old.text (due parser.old) (index ∷ rest) o)) }
+    ensures within { IfOk result (λ step. IfErr step (λ o. IsWithin parser.old.text o)) }
 {
-    if byte_at(text, place) == b'[' {
-        return element_of_array(text, place, index);
+    if peek(parser) == b'[' {
+        return element_of_array(alloc, parser, index);
     }
-    match skip_value(text, place) {
+    let found = kind_at(parser.text(), parser.offset());
+    match skip(alloc, parser)? {
         Ok(end) => {
-            let found = kind_at(text, place);
             let wanted = Wanted::Array;
             let code = ErrorCode::Message(Note::Mismatch { found, wanted });
             let place = end - 1;
-            Err(Outcome::Fails(Stop { place, code }))
+            Ok(Err(Outcome::Fails(Stop { place, code })))
         }
-        Err(stop) => Err(Outcome::Cut(stop)),
+        Err(stop) => Ok(Err(Outcome::Cut(stop))),
     }
 }
 
 // The same where an array begins.
 #[tactic(auto, using(crate::proofs::Following::outcomes))]
-fn element_of_array(text: &[u8], start: usize, index: usize) -> Result<usize, Outcome>
-    requires within { start ≤ length text.now }
-    requires bracket { byte text.now start ≡ 91 }
-    ensures ok { IfOk result (λ v. (v ≤ length text.now) × ElementsFit text.now start index v) }
-    ensures err { IfErr result (λ o. (rest : List ℕ) → Evaluates text.now start (index ∷ rest) o) }
-    ensures span { IfErr result (λ o. IsWithin text.now o) }
+fn element_of_array(
+    alloc: Global,
+    parser: &mut Parser<'_>,
+    index: usize,
+) -> Result<Result<(), Outcome>, AllocError>
+    requires reads { parser.old.lossy ≡ strict }
+    requires bracket { byte parser.old.text (due parser.old) ≡ 91 }
+    ensures ok { IfOk result (λ step. OnOk step
+        (ElementsFit strict parser.old.text (due parser.old) index (due parser.new))) }
+    ensures cursor { IfOk result (λ step. OnOk step (parser.new ≡ moved parser.old parser.new.place)) }
+    ensures err { IfOk result (λ step. IfErr step (λ o. (rest : List ℕ)
+        → Evaluates parser.old.text (due parser.old) (index ∷ rest) o)) }
+    ensures span { IfOk result (λ step. IfErr step (λ o. IsWithin parser.old.text o)) }
 {
-    let mut due = skip_space(text, start + 1);
-    if byte_at(text, due) == b']' {
-        let (place, code) = (due, ErrorCode::GetInEmptyArray);
-        return Err(Outcome::Fails(Stop { place, code }));
+    pass_byte(parser);
+    if peek(parser) == b']' {
+        let (place, code) = (parser.offset(), ErrorCode::GetInEmptyArray);
+        return Ok(Err(Outcome::Fails(Stop { place, code })));
     }
-    for _passed in 0..index {
-        match skip_value(text, due) {
-            Ok(end) => match after_element(text, end) {
-                Ok(Behind::Comma(next)) => due = next,
-                Ok(Behind::Bracket(close)) => {
-                    let (place, code) = (close - 1, ErrorCode::GetIndexOutOfArray);
-                    return Err(Outcome::Fails(Stop { place, code }));
-                }
-                Err(stop) => return Err(Outcome::Cut(stop)),
-            },
-            Err(stop) => return Err(Outcome::Cut(stop)),
+    pass_elements(alloc, parser, index)
+}
+
+// Passes so many elements of an array, the first of which is due, or says why there is none behind
+// them.
+fn pass_elements(
+    alloc: Global,
+    parser: &mut Parser<'_>,
+    count: usize,
+) -> Result<Result<(), Outcome>, AllocError>
+    requires { parser.old.lossy ≡ strict }
+    ensures ok { IfOk result (λ step. OnOk step ((i : ℕ)
+        → ElementsFit strict parser.old.text i 0 (due parser.old)
+        → ElementsFit strict parser.old.text i count (due parser.new))) }
+    ensures cursor { IfOk result (λ step. OnOk step (parser.new ≡ moved parser.old parser.new.place)) }
+    ensures err { IfOk result (λ step. IfErr step (λ o. (i : ℕ) (rest : List ℕ)
+        → ElementsFit strict parser.old.text i 0 (due parser.old)
+        → Evaluates parser.old.text i (count ∷ rest) o)) }
+    ensures within { IfOk result (λ step. IfErr step (λ o. IsWithin parser.old.text o)) }
+{
+    for _passed in 0..count {
+        if let Err(stop) = skip(alloc, parser)? {
+            return Ok(Err(Outcome::Cut(stop)));
+        }
+        if let Err(outcome) = pass_comma(parser) {
+            return Ok(Err(outcome));
         }
     }
-    Ok(due)
+    Ok(Ok(()))
+}
+
+// Passes the comma behind an element, or says where an index of a later element leads.
+#[tactic(auto, using(crate::proofs::Following::outcomes))]
+fn pass_comma(parser: &mut Parser<'_>) -> Result<(), Outcome>
+    ensures comma { OnOk result (byte parser.old.text (due parser.old) ≡ 44) }
+    ensures cursor { OnOk result (parser.new ≡ moved parser.old (due parser.old + 1)) }
+    ensures err { IfErr result (λ o. (i m v n : ℕ) (rest : List ℕ)
+        → ElementsFit strict parser.old.text i m v → m < n
+        → IsValue strict parser.old.text v parser.old.place
+        → Evaluates parser.old.text i (n ∷ rest) o) }
+    ensures within { IfErr result (λ o. IsWithin parser.old.text o) }
+{
+    let first = peek(parser);
+    let place = parser.offset();
+    match first {
+        b',' => {
+            pass_byte(parser);
+            Ok(())
+        }
+        b']' => {
+            let code = ErrorCode::GetIndexOutOfArray;
+            Err(Outcome::Fails(Stop { place, code }))
+        }
+        _ => {
+            let stop = stop_at(parser.text(), place, ErrorCode::ExpectedArrayCommaOrEnd);
+            Err(Outcome::Cut(stop))
+        }
+    }
+}
+
+// Goes to the first byte that is no white space, and reads it, or 0 at the end of the text.
+fn peek(parser: &mut Parser<'_>) -> u8
+    ensures first { result ≡ byte parser.old.text (due parser.old) }
+    ensures cursor { parser.new ≡ moved parser.old (due parser.old) }
+{
+    match parser.skip_space_peek() {
+        Some(first) => first,
+        None => 0,
+    }
+}
+
+// Goes behind the first byte that is no white space.
+fn pass_byte(parser: &mut Parser<'_>)
+    requires { due parser.old < length parser.old.text }
+    ensures { parser.new ≡ moved parser.old (due parser.old + 1) }
+{
+    parser.skip_space();
+}
+
+// Skips the value that is due: its end, or the text's fault.
+fn skip(alloc: Global, parser: &mut Parser<'_>) -> Result<Result<usize, Stop>, AllocError>
+    requires { parser.old.lossy ≡ strict }
+    ensures ok { IfOk result (λ skipped. IfOk skipped (λ j. (due parser.old < j)
+        × (j ≤ length parser.old.text) × IsValue strict parser.old.text (due parser.old) j)) }
+    ensures cursor { IfOk result (λ skipped. IfOk skipped (λ j. parser.new ≡ moved parser.old j)) }
+    ensures err { IfOk result (λ skipped. IfErr skipped (λ s.
+        IsFault strict parser.old.text (due parser.old) s)) }
+{
+    match parser.skip_one(alloc) {
+        Ok(_) => Ok(Ok(parser.offset())),
+        Err(error) => match error.code() {
+            ErrorCode::NoMemory => Err(AllocError),
+            code => {
+                let place = parser.offset();
+                Ok(Err(Stop { place, code }))
+            }
+        },
+    }
 }
 
 // The kind of the value that stands at a place.
@@ -101,6 +202,7 @@ fn kind_at(text: &[u8], place: usize) -> JsonType
         b't' | b'f' => JsonType::Boolean,
         b'"' => JsonType::String,
         b'[' => JsonType::Array,
+        b'{' => JsonType::Object,
         _ => JsonType::Number,
     }
 }

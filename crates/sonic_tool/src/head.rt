@@ -2,7 +2,7 @@ ghost use Rattle.std.specs.Prelude.{◌≡◌, ◌≤◌, ◌↔◌, None, ℕ, 
 ghost use Rattle.sonic_tool.specs.Heads.{line_end, line_at, IsBlank, IsHead, Says};
 
 use crate::path::path_of;
-use crate::scan::skip_space;
+use sonic_text::skip_space;
 use std::alloc::{AllocError, Global};
 
 // What the head of an input says.

@@ -11,9 +11,7 @@ mod reading;
 mod reply;
 mod report;
 mod run;
-mod scan;
 mod sink;
-mod skip;
 mod source;
 mod status;
 #[cfg(test)]

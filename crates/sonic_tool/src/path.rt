@@ -1,11 +1,10 @@
 ghost use Rattle.std.specs.Prelude.{◌≡◌, ◌<◌, ◌≤◌, ℕ, List, length, None, IfOk, IfSome};
+ghost use Rattle.sonic_text.specs.Faults.{NothingFits};
 ghost use Rattle.sonic_text.specs.Places.{byte};
 ghost use Rattle.sonic_text.specs.Numbers.{IsInt};
-ghost use Rattle.sonic_tool.specs.Paths.{BeginsMore, IsIndex, IndexesStand, IsIndexArray, IsPathLine};
+ghost use Rattle.sonic_tool.specs.Paths.{BeginsMore, IsIndex, IsBehind, IndexesStand, IsIndexArray, IsPathLine};
 
-use crate::scan::{byte_at, skip_digits, skip_space};
-use crate::skip::{Behind, after_element};
-use sonic_text::whole_u64;
+use sonic_text::{byte_at, skip_digits, skip_space, whole_u64};
 use std::alloc::{AllocError, Global};
 
 // How many indexes a path line may have.
@@ -23,6 +22,15 @@ struct IndexArray {
 struct Index {
     value: usize,
     end: usize,
+}
+
+// What stands behind an index.
+#[derive(Clone, Copy)]
+enum Behind {
+    // A comma, and the next index is due here.
+    Comma(usize),
+    // The closing bracket, and the array ends here.
+    Bracket(usize),
 }
 
 // The path that a line says, if it is a path line.
@@ -78,13 +86,27 @@ fn indexes(alloc: Global, line: &[u8], first: usize) -> Result<Option<IndexArray
             return Ok(None);
         };
         path.push(index.value)?;
-        match after_element(line, index.end) {
-            Ok(Behind::Comma(next)) => due = next,
-            Ok(Behind::Bracket(end)) => return Ok(Some(IndexArray { path, end })),
-            Err(_) => return Ok(None),
+        match behind_index(line, index.end) {
+            Some(Behind::Comma(next)) => due = next,
+            Some(Behind::Bracket(end)) => return Ok(Some(IndexArray { path, end })),
+            None => return Ok(None),
         }
     }
     Ok(None)
+}
+
+// What stands behind the index that ended at a place, if it is a comma or the closing bracket.
+fn behind_index(line: &[u8], end: usize) -> Option<Behind>
+    requires { end ≤ length line.now }
+    ensures some { IfSome result (λ found. IsBehind line.now end found) }
+    ensures none { result ≡ None → NothingFits line.now end 93 }
+{
+    let place = skip_space(line, end);
+    match byte_at(line, place) {
+        b',' => Some(Behind::Comma(skip_space(line, place + 1))),
+        b']' => Some(Behind::Bracket(place + 1)),
+        _ => None,
+    }
 }
 
 // The index that stands at a place, if one does.

@@ -9,7 +9,6 @@ ghost use Rattle.std.specs.Fmt.{decimal};
 use crate::evaluate::{Outcome, evaluate};
 use crate::head::{Head, read_head};
 use crate::reply::Reply;
-use crate::scan::skip_space;
 use crate::status::Status;
 use sonic_error::{Category, Error, ErrorCode};
 use std::alloc::{AllocError, Global};
@@ -42,7 +41,7 @@ fn report_path(
         ReportsPath (drop document input.items) path.now (text_of reply) reply.status) }
 {
     let text = &input[document..];
-    match evaluate(text, skip_space(text, 0), path) {
+    match evaluate(alloc, text, path)? {
         Outcome::Found(start, end) => match broken_place(&text[..end]) {
             Some(place) => report_error(alloc, ErrorCode::InvalidUTF8, text, place),
             None => {
@@ -147,6 +146,5 @@ fn name(code: ErrorCode) -> &'static str
         ErrorCode::ExpectedQuote => "ExpectedQuote",
         ErrorCode::SerExpectKeyIsStrOrNum => "SerExpectKeyIsStrOrNum",
         ErrorCode::NoMemory => "NoMemory",
-        ErrorCode::Unsupported => "Unsupported",
     }
 }

@@ -2,5 +2,4 @@
 mod documents;
 mod faults;
 mod outside;
-mod plain;
 mod rows;

@@ -8,10 +8,9 @@ use std::test::Fail;
 // A document, and the report of the path of no index over it.
 type Fault = (&'static [u8], &'static str);
 
-const VALUES: [Fault; 16] = [
+const VALUES: [Fault; 15] = [
     (b"[]\n\n", "! eof EofWhileParsing 1 1 0\n"),
     (b"[]\n\n}", "! syntax InvalidJsonValue 1 1 0\n"),
-    (b"[]\n\n{}", "! syntax Unsupported 1 1 0\n"),
     (b"[]\n\nt", "! eof EofWhileParsing 1 1 0\n"),
     (b"[]\n\ntru", "! eof EofWhileParsing 1 3 2\n"),
     (b"[]\n\nnx", "! syntax InvalidLiteral 1 2 1\n"),
@@ -23,8 +22,73 @@ const VALUES: [Fault; 16] = [
     (b"[]\n\n[1 2]", "! syntax ExpectedArrayCommaOrEnd 1 4 3\n"),
     (b"[]\n\n[1,", "! eof EofWhileParsing 1 3 2\n"),
     (b"[]\n\n[1,]", "! syntax InvalidJsonValue 1 4 3\n"),
-    (b"[]\n\n[\n{", "! syntax Unsupported 2 1 2\n"),
+    (b"[]\n\n[\n{", "! eof EofWhileParsing 2 1 2\n"),
     (b"[]\n\n[[], [", "! eof EofWhileParsing 1 6 5\n"),
+];
+
+const KEYS: [Fault; 20] = [
+    (b"[]\n\n{", "! eof EofWhileParsing 1 1 0\n"),
+    (b"[]\n\n{ \n", "! eof EofWhileParsing 1 3 2\n"),
+    (b"[]\n\n{1", "! syntax ExpectObjectKeyOrEnd 1 2 1\n"),
+    (b"[]\n\n{a:1}", "! syntax ExpectObjectKeyOrEnd 1 2 1\n"),
+    (b"[]\n\n{null:1}", "! syntax ExpectObjectKeyOrEnd 1 2 1\n"),
+    (b"[]\n\n{{}:1}", "! syntax ExpectObjectKeyOrEnd 1 2 1\n"),
+    (b"[]\n\n{,}", "! syntax ExpectObjectKeyOrEnd 1 2 1\n"),
+    (b"[]\n\n{ ]", "! syntax ExpectObjectKeyOrEnd 1 3 2\n"),
+    (b"[]\n\n{\"a", "! eof EofWhileParsing 1 3 2\n"),
+    (b"[]\n\n{\"\\x\":1}", "! syntax InvalidEscape 1 4 3\n"),
+    (
+        b"[]\n\n{\"a\n\":1}",
+        "! syntax ControlCharacterWhileParsingString 1 4 3\n",
+    ),
+    (b"[]\n\n{\"a\"", "! eof EofWhileParsing 1 4 3\n"),
+    (b"[]\n\n{\"a\" ", "! eof EofWhileParsing 1 5 4\n"),
+    (b"[]\n\n{\"a\"}", "! syntax ExpectedColon 1 5 4\n"),
+    (b"[]\n\n{\"a\",1}", "! syntax ExpectedColon 1 5 4\n"),
+    (b"[]\n\n{\"a\" 1}", "! syntax ExpectedColon 1 6 5\n"),
+    (b"[]\n\n{\"a\":", "! eof EofWhileParsing 1 5 4\n"),
+    (b"[]\n\n{\"a\"::1}", "! syntax InvalidJsonValue 1 6 5\n"),
+    (b"[]\n\n{\"a\":}", "! syntax InvalidJsonValue 1 6 5\n"),
+    (b"[]\n\n{\"a\":tru}", "! syntax InvalidLiteral 1 9 8\n"),
+];
+
+const MEMBERS: [Fault; 18] = [
+    (b"[]\n\n{\"a\":1", "! eof EofWhileParsing 1 6 5\n"),
+    (
+        b"[]\n\n{\"a\":1:",
+        "! syntax ExpectedObjectCommaOrEnd 1 7 6\n",
+    ),
+    (
+        b"[]\n\n{\"a\":1 \"b\":2}",
+        "! syntax ExpectedObjectCommaOrEnd 1 8 7\n",
+    ),
+    (
+        b"[]\n\n{\"a\":1]",
+        "! syntax ExpectedObjectCommaOrEnd 1 7 6\n",
+    ),
+    (b"[]\n\n{\"a\":1,", "! eof EofWhileParsing 1 7 6\n"),
+    (b"[]\n\n{\"a\":1,}", "! syntax ExpectObjectKeyOrEnd 1 8 7\n"),
+    (b"[]\n\n{\"a\":1,,", "! syntax ExpectObjectKeyOrEnd 1 8 7\n"),
+    (
+        b"[]\n\n{\"a\":1,\n2",
+        "! syntax ExpectObjectKeyOrEnd 2 1 8\n",
+    ),
+    (b"[]\n\n{\"a\":1,\"b\"", "! eof EofWhileParsing 1 10 9\n"),
+    (b"[]\n\n{\"a\":1,\"b\"}", "! syntax ExpectedColon 1 11 10\n"),
+    (b"[]\n\n[{]", "! syntax ExpectObjectKeyOrEnd 1 3 2\n"),
+    (b"[]\n\n[{}}", "! syntax ExpectedArrayCommaOrEnd 1 4 3\n"),
+    (b"[]\n\n[{\"a\":1}", "! eof EofWhileParsing 1 8 7\n"),
+    (b"[]\n\n{\"a\":[}", "! syntax InvalidJsonValue 1 7 6\n"),
+    (
+        b"[]\n\n{\"a\":[1}",
+        "! syntax ExpectedArrayCommaOrEnd 1 8 7\n",
+    ),
+    (b"[]\n\n{\"a\":[1]", "! eof EofWhileParsing 1 8 7\n"),
+    (b"[]\n\n{\"a\":{]", "! syntax ExpectObjectKeyOrEnd 1 7 6\n"),
+    (
+        b"[]\n\n{\"a\":{}]",
+        "! syntax ExpectedObjectCommaOrEnd 1 8 7\n",
+    ),
 ];
 
 const NUMBERS: [Fault; 12] = [
@@ -142,7 +206,7 @@ const SURROGATES: [Fault; 20] = [
 #[test]
 fn tells_each_fault_at_its_place(rt: HostRuntime) -> Result<(), Fail> {
     let alloc = rt.alloc();
-    let tables: [&[Fault]; 4] = [&VALUES, &NUMBERS, &STRINGS, &SURROGATES];
+    let tables: [&[Fault]; 6] = [&VALUES, &KEYS, &MEMBERS, &NUMBERS, &STRINGS, &SURROGATES];
     for table in tables {
         for (input, line) in table {
             check_run(&rt, alloc, &[], input, line, Status::DocumentError)?;

@@ -194,7 +194,44 @@ fn tells_errors_of_the_document(rt: HostRuntime) -> Result<(), Fail> {
         "[1]\n\n[1,]",
         "! syntax InvalidJsonValue 1 4 3\n",
     )?;
-    check_error(&rt, alloc, "[0]\n\n[{}]", "! syntax Unsupported 1 2 1\n")
+    check_error(&rt, alloc, "[0]\n\n{\"a\":1}", "! type Message 1 7 6\n")
+}
+
+#[test]
+fn reads_objects(rt: HostRuntime) -> Result<(), Fail> {
+    let alloc = rt.alloc();
+    check_input(&rt, alloc, "[0]\n\n[{}]", "2 {}\n")?;
+    check_input(
+        &rt,
+        alloc,
+        "[]\n\n {\"a\": [1, {}], \"b\" : null } x",
+        "27 {\"a\": [1, {}], \"b\" : null }\n",
+    )?;
+    check_input(
+        &rt,
+        alloc,
+        "[1,0]\n\n[{\"a\":[]},[{\"k\":\n{}}]]",
+        "9 {\"k\":\n{}}\n",
+    )?;
+    check_input(&rt, alloc, "[1]\n\n[{\"]\":\"}\"},7,{", "1 7\n")?;
+    check_error(
+        &rt,
+        alloc,
+        "[1]\n\n[{\"a\":1,}, 7]",
+        "! syntax ExpectObjectKeyOrEnd 1 9 8\n",
+    )?;
+    check_error(
+        &rt,
+        alloc,
+        "[0,0]\n\n[{\"a\":1}, 7]",
+        "! type Message 1 8 7\n",
+    )?;
+    check_error(
+        &rt,
+        alloc,
+        "[1]\n\n[{\"a\":[]}]",
+        "! not-found GetIndexOutOfArray 1 10 9\n",
+    )
 }
 
 #[test]
@@ -321,16 +358,53 @@ fn refuses_other_words(rt: HostRuntime) -> Result<(), Fail> {
     )
 }
 
-// An array of so many opening brackets, then so many closing ones, under the empty path.
-fn brackets(alloc: Global, opening: usize, closing: usize) -> Result<Vec<u8>, Fail> {
-    let mut bytes = Vec::from_slice(alloc, b"[]\n\n")?;
-    for _ in 0..opening {
-        bytes.push(b'[')?;
+// 100,000 repetitions of a text.
+fn repeated(bytes: &mut Vec<u8>, text: &str) -> Result<(), Fail> {
+    for _ in 0..100_000 {
+        bytes.extend_from_slice(text.as_bytes())?;
     }
-    for _ in 0..closing {
-        bytes.push(b']')?;
-    }
+    Ok(())
+}
+
+// A number inside 100,000 repetitions of these brackets, under the path of the line.
+fn nested(alloc: Global, line: &str, opening: &str, closing: &str) -> Result<Vec<u8>, Fail> {
+    let mut bytes = Vec::from_slice(alloc, line.as_bytes())?;
+    repeated(&mut bytes, opening)?;
+    bytes.push(b'0')?;
+    repeated(&mut bytes, closing)?;
     Ok(bytes)
+}
+
+// What `get` writes of an input, where it has at most so many bytes.
+fn written(alloc: Global, input: Vec<u8>, room: usize) -> Result<(Status, Vec<u8>), Fail> {
+    let mut source = SureSource::new(input, 65_536);
+    let mut sink = MemorySink::new(alloc, room, 65_536, Vec::new(alloc))
+        .ok()
+        .ok_or("no memory")?;
+    let status = run(alloc, &owned(alloc, &[])?, &mut source, &mut sink);
+    Ok((status, Vec::from_slice(alloc, sink.written())?))
+}
+
+#[test]
+fn gives_arrays_of_any_depth(rt: HostRuntime) -> Result<(), Fail> {
+    let alloc = rt.alloc();
+    let mut input = Vec::from_slice(alloc, b"[]\n\n")?;
+    repeated(&mut input, "[")?;
+    let (status, text) = written(alloc, Vec::from_slice(alloc, &input)?, 99)?;
+    assert_eq!(rt; status, Status::DocumentError);
+    assert_eq!(rt;
+        text.as_slice(),
+        b"! eof EofWhileParsing 1 100000 99999\n".as_slice()
+    );
+    repeated(&mut input, "]")?;
+    let (status, text) = written(alloc, input, 200_008)?;
+    assert_eq!(rt; status, Status::Done);
+    let mut line = Vec::from_slice(alloc, b"200000 ")?;
+    repeated(&mut line, "[")?;
+    repeated(&mut line, "]")?;
+    line.push(b'\n')?;
+    assert!(rt; text == line);
+    Ok(())
 }
 
 fn status_of(alloc: Global, bytes: Vec<u8>) -> Result<Status, Fail> {
@@ -346,11 +420,42 @@ fn status_of(alloc: Global, bytes: Vec<u8>) -> Result<Status, Fail> {
 #[test]
 fn walks_to_any_depth(rt: HostRuntime) -> Result<(), Fail> {
     let alloc = rt.alloc();
-    let closed = brackets(alloc, 100_000, 100_000)?;
-    assert_eq!(rt; status_of(alloc, closed)?, Status::Done);
-    let cut = brackets(alloc, 100_000, 0)?;
-    assert_eq!(rt; status_of(alloc, cut)?, Status::DocumentError);
+    let pairs = [("[", "]"), ("{\"\":", "}"), ("[{\"\":", "}]")];
+    for (opening, closing) in pairs {
+        let closed = nested(alloc, "[]\n\n", opening, closing)?;
+        assert_eq!(rt; status_of(alloc, closed)?, Status::Done, "{opening}");
+        let cut = nested(alloc, "[]\n\n", opening, "")?;
+        assert_eq!(rt; status_of(alloc, cut)?, Status::DocumentError, "{opening}");
+        let second = nested(alloc, "[1]\n\n[7,", opening, closing)?;
+        assert_eq!(rt; status_of(alloc, second)?, Status::Done, "{opening}");
+    }
     Ok(())
+}
+
+fn check_deep(
+    rt: &impl Abort,
+    alloc: Global,
+    opening: &str,
+    closing: &str,
+    output: &str,
+) -> Result<(), Fail> {
+    let bytes = nested(alloc, "[]\n\n", opening, closing)?;
+    let (status, text) = written(alloc, bytes, 99)?;
+    assert_eq!(rt; status, Status::DocumentError, "{opening}");
+    assert_eq!(rt; text.as_slice(), output.as_bytes(), "{opening}");
+    Ok(())
+}
+
+// Behind the number the input ends, or the wrong bracket stands.
+#[test]
+fn tells_faults_at_any_depth(rt: HostRuntime) -> Result<(), Fail> {
+    let alloc = rt.alloc();
+    let arrays = "! eof EofWhileParsing 1 100001 100000\n";
+    check_deep(&rt, alloc, "[", "", arrays)?;
+    let objects = "! syntax ExpectedObjectCommaOrEnd 1 400002 400001\n";
+    check_deep(&rt, alloc, "{\"\":", "]", objects)?;
+    let both = "! syntax ExpectedArrayCommaOrEnd 1 500002 500001\n";
+    check_deep(&rt, alloc, "{\"\":[", "}]", both)
 }
 
 // A path line of so many indexes, and no document.
@@ -454,5 +559,15 @@ fn reads_nothing_for_other_words(rt: HostRuntime) -> Result<(), Fail> {
         &mut SureSink::new(),
     );
     assert_eq!(rt; status, Status::BadUsage);
+    Ok(())
+}
+
+#[test]
+fn a_new_sink_is_empty(rt: HostRuntime) -> Result<(), Fail> {
+    let alloc = rt.alloc();
+    let sink = MemorySink::new(alloc, 8, 1, Vec::new(alloc))
+        .ok()
+        .ok_or("no memory")?;
+    assert_eq!(rt; sink.written(), b"".as_slice());
     Ok(())
 }

@@ -1,13 +1,18 @@
-use Rattle.std.proofs.Common.{refl}
-use Rattle.sonic_tool.specs.Values.ElementsFit.{next_element}
-use Rattle.sonic_tool.proofs.Following.{out_at_bracket}
+use Rattle.std.proofs.Common.{◌∙◌}
+use Rattle.std.proofs.lemmas.Result.{IfOk-weaker, IfErr-weaker, on_ok_weaker}
+use Rattle.sonic_tool.proofs.Following.{first_due}
 use Rattle.sonic_tool.proofs.evaluate.element_of_array.Goals as goal
 
-pub returns-in-Ok-Bracket-clause-err : goal.returns-in-Ok-Bracket-clause-err
-returns-in-Ok-Bracket-clause-err c =
-    λ rest. out_at_bracket c.loop-passed.invariant.fit c.loop-passed-test.true c.in-Ok.ensures.ok.1 (rw c.in-Ok-Bracket.field-0-is at c.in-Ok-Bracket.ensures.ok)
+pub returns-clause-ok : goal.returns-clause-ok
+returns-clause-ok c =
+    let entered = rw c.pass_byte.ensures at c.peek.ensures.cursor in
+    let other = rw c.pass_byte.ensures at c.peek.ensures.first in
+    let first = first_due c.args.parser.now.text _ c.requires.bracket (λ bracket. c.if-peek-eq93.false (other ∙ bracket)) in
+    IfOk-weaker c.pass_elements.result _ _ (λ step. on_ok_weaker step (λ fit. fit _ first)) (rw entered at c.pass_elements.ensures.ok)
 
-pub loop-passed-preserved : goal.loop-passed-preserved
-loop-passed-preserved c =
-    let b = rw c.in-Ok-Comma.field-0-is at c.in-Ok-Comma.ensures.ok in
-    record { within = b.1; fit = next_element c.loop-passed.invariant.fit c.in-Ok.ensures.ok.1 b.2 b.3 refl }
+pub returns-clause-err : goal.returns-clause-err
+returns-clause-err c =
+    let entered = rw c.pass_byte.ensures at c.peek.ensures.cursor in
+    let other = rw c.pass_byte.ensures at c.peek.ensures.first in
+    let first = first_due c.args.parser.now.text _ c.requires.bracket (λ bracket. c.if-peek-eq93.false (other ∙ bracket)) in
+    IfOk-weaker c.pass_elements.result _ _ (λ step. IfErr-weaker step _ _ (λ o leads rest. leads _ rest first)) (rw entered at c.pass_elements.ensures.err)

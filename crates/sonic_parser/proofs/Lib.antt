@@ -1,0 +1,4 @@
+pub mod Begins
+pub mod Descending
+pub mod Parsing
+pub mod Skipping

@@ -1,0 +1,3 @@
+pub mod Parsers
+pub mod Skipping
+pub mod Views

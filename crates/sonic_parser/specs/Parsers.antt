@@ -1,0 +1,56 @@
+-- A parser, and what its calls do with the text that is left.
+use Rattle.std.specs.Prelude.{◌≡◌, ◌↔◌, ◌⊎◌, ℕ, ◌+◌, ◌<◌, Bool, List, slice_range}
+use Rattle.sonic_error.specs.declared.error.Error.{Error}
+use Rattle.sonic_error.specs.declared.code.ErrorCode.TheVariants.{NoMemory}
+use Rattle.sonic_error.specs.Errors.{IsErrorAt, IsPlainError}
+use Rattle.sonic_text.specs.declared.stop.Stop.{Stop}
+use Rattle.sonic_text.specs.Places.{byte, after_space}
+use Rattle.sonic_text.specs.Values.{IsValue}
+use Rattle.sonic_text.specs.Faults.{IsFault}
+use Rattle.sonic_parser.specs.declared.status.ParseStatus.{ParseStatus}
+use Rattle.sonic_parser.specs.declared.status.ParseStatus.TheVariants.{HasEscaped}
+
+-- a text, the place in it that is read next, the reader's mark, whether the text came as bytes that may be no UTF-8, and whether strings
+-- are read in the lossy way, which takes surrogate escapes that don't stand in pairs
+pub record Parsing : Type 0 where
+  pub text : List ℕ
+  pub place : ℕ
+  pub mark : ℕ
+  pub is_bytes : Bool
+  pub lossy : Bool
+
+-- the same parser at another place
+abbrev pub moved : Parsing → ℕ → Parsing
+moved parser place = record parser { place = place }
+
+-- the place where the next value is due
+abbrev pub due : Parsing → ℕ
+due parser = after_space parser.text parser.place
+
+-- what stands from i to j is a string with a backslash between its quotes
+abbrev pub IsEscapedString : List ℕ → ℕ → ℕ → Type 0
+IsEscapedString t i j = (byte t i ≡ 34) × (k : ℕ) × (i < k) × (k + 1 < j) × (byte t k ≡ 92)
+
+-- the value that was due was skipped, and this is its text
+pub record IsSkipped (before now : Parsing) (bytes : List ℕ) (needs : ParseStatus) : Type 0 where
+  pub value : IsValue before.lossy before.text (due before) now.place
+  pub span : bytes ≡ slice_range before.text (due before) now.place
+  pub status : (needs ≡ HasEscaped) ↔ IsEscapedString before.text (due before) now.place
+  pub cursor : now ≡ moved before now.place
+
+-- what is due isn't there, for this reason, and the parser has come to the place of the fault
+pub record IsStopped (Fails : Stop → Type 0) (before now : Parsing) (e : Error) : Type 0 where
+  pub stop : Stop
+  pub fault : Fails stop
+  pub error : IsErrorAt e stop.code before.text stop.place
+  pub cursor : now ≡ moved before stop.place
+
+-- there is no memory to skip the array or the object that is due, and the parser stands where it stood
+pub record IsOutOfMemory (before now : Parsing) (e : Error) : Type 0 where
+  pub container : (byte before.text (due before) ≡ 91) ⊎ (byte before.text (due before) ≡ 123)
+  pub error : IsPlainError e NoMemory
+  pub cursor : now ≡ before
+
+-- no value was skipped, as it has a fault, or for want of memory
+abbrev pub IsUnskipped : Parsing → Parsing → Error → Type 0
+IsUnskipped before now e = IsStopped (IsFault before.lossy before.text (due before)) before now e ⊎ IsOutOfMemory before now e

@@ -1,0 +1,13 @@
+-- What the fields of a `Parser` stand for.
+use Rattle.sonic_parser.specs.Parsers.{Parsing}
+use Rattle.sonic_parser.specs.declared.parser.Parser.TheInside.{Inside}
+
+-- the parser that callers see
+abbrev pub parsing_of : Inside → Parsing
+parsing_of parser = record {
+  text = parser.read.text;
+  place = parser.read.place;
+  mark = parser.read.mark;
+  is_bytes = parser.read.is_bytes;
+  lossy = parser.lossy;
+}

@@ -1,0 +1,5 @@
+// What no clause says: that calls answer the worked examples, and succeed where nothing is wrong.
+mod calls;
+mod depth;
+mod faults;
+mod plain;
