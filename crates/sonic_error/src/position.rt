@@ -63,20 +63,25 @@ fn line_at(json: &[u8], offset: usize) -> usize
     line
 }
 
+// The start of the line of the byte at `offset`, looked for from there back.
+fn line_start(json: &[u8], offset: usize) -> usize
+    requires { offset ≤ length json.now }
+    ensures within { result ≤ offset }
+    ensures start { offset - result ≡ length (after_last is_line_feed (take offset json.now)) }
+{
+    let mut start = offset;
+    while start > 0 && json[start - 1] != b'\n' {
+        start -= 1;
+    }
+    start
+}
+
 // The column of the byte at `offset`: carriage returns count as any other byte.
 fn column_at(json: &[u8], offset: usize) -> usize
     requires { offset ≤ length json.now }
     ensures { result ≡ 1 + length (after_last is_line_feed (take offset json.now)) }
 {
-    let before = &json[..offset];
-    let mut column = 1;
-    for byte in before {
-        column = match *byte {
-            b'\n' => 1,
-            _ => column + 1,
-        };
-    }
-    column
+    1 + (offset - line_start(json, offset))
 }
 
 impl fmt::Display for Position {

@@ -27,14 +27,6 @@ pub(crate) enum Behind {
     Bracket(usize),
 }
 
-// Whether a number begins with the byte.
-#[inline]
-fn begins_number(first: u8) -> bool
-    ensures { IsTrue result ↔ ((first ≡ 45) ⊎ IsDigit first) }
-{
-    first == b'-' || first.is_ascii_digit()
-}
-
 // Begins the number that stands at a place.
 #[tactic(auto, using(crate::proofs::Begins::beginnings))]
 fn begin_number(text: &[u8], place: usize, lossy: bool) -> Result<Begun, Stop>
@@ -96,6 +88,7 @@ fn begin_object(text: &[u8], place: usize, lossy: bool) -> Begun
 }
 
 // Begins the value that is due at a place.
+#[inline(always)]
 #[tactic(auto, using(crate::proofs::Begins::beginnings))]
 pub(crate) fn begin(text: &[u8], place: usize, lossy: bool) -> Result<Begun, Stop>
     requires { place ≤ length text.now }
@@ -106,7 +99,7 @@ pub(crate) fn begin(text: &[u8], place: usize, lossy: bool) -> Result<Begun, Sto
         b'"' => begin_string(text, place, lossy),
         b'{' => Ok(begin_object(text, place, lossy)),
         b'[' => Ok(begin_array(text, place, lossy)),
-        first if begins_number(first) => begin_number(text, place, lossy),
+        b'-' | b'0'..=b'9' => begin_number(text, place, lossy),
         b'n' => literal_end(text, place, "null").map(Begun::Complete),
         b't' => literal_end(text, place, "true").map(Begun::Complete),
         b'f' => literal_end(text, place, "false").map(Begun::Complete),
@@ -115,6 +108,7 @@ pub(crate) fn begin(text: &[u8], place: usize, lossy: bool) -> Result<Begun, Sto
 }
 
 // The place where the value of the member is due whose key is due at a place.
+#[inline]
 #[tactic(auto, using(crate::proofs::Begins::keys))]
 pub(crate) fn key_end(text: &[u8], place: usize, lossy: bool) -> Result<usize, Stop>
     requires { place ≤ length text.now }
@@ -137,6 +131,7 @@ pub(crate) fn key_end(text: &[u8], place: usize, lossy: bool) -> Result<usize, S
 }
 
 // What stands behind the element or the member whose value ended at a place.
+#[inline]
 pub(crate) fn after_value(text: &[u8], end: usize, object: bool) -> Result<Behind, Stop>
     requires { end ≤ length text.now }
     ensures ok { IfOk result (λ found. IsBehind text.now end (closing object) found) }

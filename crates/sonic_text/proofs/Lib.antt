@@ -6,6 +6,7 @@ pub mod Escapes
 pub mod FirstBytes
 pub mod HexDigits
 pub mod HexLemmas
+pub mod Keys
 pub mod LiteralStrings
 pub mod Literals
 pub mod Numbers

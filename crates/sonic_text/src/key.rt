@@ -1,10 +1,13 @@
 // Keys compared as they are read (RFC 8259, section 8.3: names are equal if their chars are).
 ghost use Rattle.std.specs.Prelude.{◌≡◌, ◌≢◌, ℕ, ◌+◌, ◌≤◌, ◌++◌, List, length, take, false, IsTrue, ◌↔◌};
 ghost use Rattle.std.specs.Bool.{OnTrue};
+ghost use Rattle.std.specs.Ordering.{nat_cmp};
+ghost use Rattle.std.specs.Cmp.Lexicographic.{slice_cmp};
 ghost use Rattle.sonic_text.specs.Strings.{IsString, strict};
 
 use crate::unescape::{escape_at, plain_end};
 use crate::utf8::codepoint_to_utf8;
+use std::cmp::Ordering;
 
 /// Whether the piece stands in the key behind the bytes that are done.
 fn goes_on(key: &[u8], done: usize, piece: &[u8]) -> bool
@@ -44,5 +47,50 @@ pub fn same_key(text: &[u8], start: usize, end: usize, key: &str) -> bool
         }
         done += len;
         place = next;
+    }
+}
+
+// How a text that goes on with the piece, where the key doesn't, compares with the key.
+fn piece_order(key: &[u8], done: usize, piece: &[u8]) -> Ordering
+    requires inside { done ≤ length key.now }
+    requires differs { (rest : List ℕ) → key.now ≢ take done key.now ++ piece.now ++ rest }
+    ensures { (rest : List ℕ)
+        → result ≡ slice_cmp nat_cmp (take done key.now ++ piece.now ++ rest) key.now }
+{
+    let left = &key[done..];
+    piece.cmp(&left)
+}
+
+/// How the text that the string from `start` to `end`, both quotes included, stands for compares
+/// with the key, byte by byte.
+///
+/// `"b"`, `"\u0062"` and `"ab"` are `Greater` than the key `a`, and `""` is `Less`. It takes no
+/// memory.
+pub fn compare_key(text: &[u8], start: usize, end: usize, key: &str) -> Ordering
+    requires { (b : List ℕ) × IsString strict text.now start end b }
+    ensures { (b : List ℕ) → IsString strict text.now start end b
+        → result ≡ slice_cmp nat_cmp b key.now }
+{
+    let key = key.as_bytes();
+    let mut place = start + 1;
+    let mut done = 0;
+    'chars: loop {
+        let stop = plain_end(text, place, end);
+        let piece = &text[place..stop];
+        if !goes_on(key, done, piece) {
+            return piece_order(key, done, piece);
+        }
+        done += stop - place;
+        if stop + 1 == end {
+            return done.cmp(&key.len());
+        }
+        let (code, behind) = escape_at(text, stop);
+        let mut buffer = [0; 4];
+        let count = codepoint_to_utf8(code, &mut buffer);
+        if !goes_on(key, done, &buffer[..count]) {
+            return piece_order(key, done, &buffer[..count]);
+        }
+        done += count;
+        place = behind;
     }
 }

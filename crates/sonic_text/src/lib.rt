@@ -21,7 +21,7 @@ mod unescape;
 mod utf8;
 
 pub use hex::hex4;
-pub use key::same_key;
+pub use key::{compare_key, same_key};
 pub use law::{literal_has_one_outcome, number_has_one_outcome, value_has_one_outcome};
 pub use literal::literal_end;
 pub use number::{number_end, whole_i64, whole_u64};

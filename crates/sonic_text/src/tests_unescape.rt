@@ -2,8 +2,11 @@
 ghost use Rattle.std.specs.Prelude.{ℕ, List, length};
 ghost use Rattle.sonic_text.specs.Strings.{IsString, strict};
 
-use crate::{ESCAPED_TAB, codepoint_to_utf8, hex4, same_key, unescape_into};
+use crate::{
+    ESCAPED_TAB, codepoint_to_utf8, compare_key, hex4, same_key, string_end, unescape_into,
+};
 use std::alloc::Global;
+use std::cmp::Ordering;
 use std::process::Abort;
 
 #[test]
@@ -94,4 +97,33 @@ fn compares_keys(rt: HostRuntime) {
     assert!(rt; !is_key(b"\"a\"", "b"));
     assert!(rt; !is_key(b"\"a\"", "ab"));
     assert!(rt; !is_key(b"\"ab\"", "a"));
+}
+
+fn order(text: &[u8], key: &str) -> Option<Ordering> {
+    if text.is_empty() || text[0] != b'"' {
+        return None;
+    }
+    match string_end(text, 0, false) {
+        Ok(end) => Some(compare_key(text, 0, end.end, key)),
+        Err(_) => None,
+    }
+}
+
+#[test]
+fn orders_keys(rt: HostRuntime) {
+    for (text, key, want) in [
+        (&b"\"\""[..], "", Ordering::Equal),
+        (&b"\"\""[..], "a", Ordering::Less),
+        (&b"\"a\""[..], "", Ordering::Greater),
+        (&b"\"\\u0061b\""[..], "ab", Ordering::Equal),
+        (&b"\"\\u0061b\""[..], "aa", Ordering::Greater),
+        (&b"\"\\u0061b\""[..], "ac", Ordering::Less),
+        (&b"\"\\u0061b\""[..], "abc", Ordering::Less),
+        (&b"\"x\\u00e9\""[..], "x", Ordering::Greater),
+        (&b"\"x\\u00e9\""[..], "x\u{c3}", Ordering::Greater),
+        (&b"\"x\\u00e9\""[..], "x\u{ea}", Ordering::Less),
+        (&b"\"\\ud83d\\ude00\""[..], "\u{ffff}", Ordering::Greater),
+    ] {
+        assert_eq!(rt; order(text, key), Some(want), "{key}");
+    }
 }

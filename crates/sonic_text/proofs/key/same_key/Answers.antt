@@ -6,19 +6,13 @@ use Rattle.std.proofs.lemmas.List.Edits.{length-between}
 use Rattle.std.specs.List.{slice_range}
 use Rattle.std.specs.Char.{encode_utf8}
 use Rattle.sonic_text.specs.Strings.{IsString, strict}
+use Rattle.sonic_text.proofs.Keys.{key_more}
 use Rattle.sonic_text.proofs.Unescaping.{IsReached, reached_start, reached_before, reached_plain, reached_escape, reached_char, reached_string, reached_all}
 use Rattle.sonic_text.proofs.key.same_key.Goals as goal
 
 -- a key that a string stands for goes on as the string does
 key_goes_on : {t : List ℕ} {start end p : ℕ} {b : List ℕ} (key c d : List ℕ) → key ≡ b → IsReached strict t start end p b (c ++ d) → ((rest : List ℕ) → key ≢ c ++ d ++ rest) → ⊥
 key_goes_on key c d e r h = h r.rest (e ∙ r.both)
-
--- one more piece of k bytes is done
-key_more : {t : List ℕ} {start end p : ℕ} {b : List ℕ} (key d : List ℕ) (n k : ℕ) → length d ≡ k → take (n + length d) key ≡ take n key ++ d
-    → IsReached strict t start end p b (take n key ++ d) → IsReached strict t start end p b (take (n + k) key)
-key_more key d n k l e r =
-    let a : take (n + k) key ≡ take n key ++ d = rw (← l) e in
-    rw a r
 
 -- at the end the string stands for the key if all of the key is done
 key_done : {t : List ℕ} {start end p : ℕ} {b : List ℕ} (key : List ℕ) (n : ℕ) → n ≡ length key → p + 1 ≡ end

@@ -1,0 +1,125 @@
+-- A cut is the root's fault, and a path that ends in a whole value ends before the fault of what is around it.
+use Rattle.std.proofs.Common.{◌≡◌, inl, inr, ℕ, ◌+◌, ◌-◌, ◌<◌, ◌≤◌, ◌==◌, ◌&&◌, List, [], ◌∷◌, Bool, true, false, if◌then◌else◌, arith}
+use Rattle.sonic_text.specs.declared.stop.Stop.{Stop}
+use Rattle.sonic_text.specs.Places.{byte, after_space}
+use Rattle.sonic_text.specs.Strings.{strict}
+use Rattle.sonic_text.specs.Trees.{Node, key, index}
+use Rattle.sonic_text.specs.Values.{IsValue}
+use Rattle.sonic_text.specs.Faults.{IsFault}
+use Rattle.sonic_text.proofs.Outcomes.{value_some_outcome}
+use Rattle.sonic_text.proofs.Values.{value-longer, value_end_one, value_fault_one, value_never_both}
+use Rattle.sonic_lazy.specs.Paths.{Outcome, found, lacks, fails, cut, nowhere, LeadsOn, Evaluates}
+use Rattle.sonic_lazy.specs.Paths.Evaluates.{stands, goes_on, leads_nowhere, cut_here, cut_before}
+use Rattle.sonic_lazy.proofs.Parts.{leads_to_fault, leads_later, part_before_end, part_before_fault}
+
+-- a path that leads nowhere in a whole value tells so at a place before n
+abbrev pub TellsBefore : ℕ → Outcome → Type 0
+TellsBefore n (found i j) = Unit {0}
+TellsBefore n (lacks q) = q < n
+TellsBefore n (fails s) = s.place < n
+TellsBefore n (cut s) = Unit {0}
+
+-- or at a place from n on
+abbrev pub TellsFrom : ℕ → Outcome → Type 0
+TellsFrom n (found i j) = Unit {0}
+TellsFrom n (lacks q) = n ≤ q
+TellsFrom n (fails s) = n ≤ s.place
+TellsFrom n (cut s) = Unit {0}
+
+-- what tells so is no cut
+abbrev IsUncut : Outcome → Type 0
+IsUncut (found i j) = Unit {0}
+IsUncut (lacks q) = Unit {0}
+IsUncut (fails s) = Unit {0}
+IsUncut (cut s) = ⊥
+
+-- what holds of two outcomes holds of each choice between them
+either : (P : Outcome → Type 0) (b : Bool) (x y : Outcome) → P x → P y → P (if b then x else y)
+either P true x y h g = h
+either P false x y h g = g
+
+-- it is told at the value's last byte
+nowhere_before : (t : List ℕ) (i q n : ℕ) (node : Node) → q < n → TellsBefore n (nowhere t i q node)
+nowhere_before t i q n (key k) l =
+    either (TellsBefore n) (byte t i == 123 && byte t (after_space t (i + 1)) == 125) _ _ l (either (TellsBefore n) (byte t i == 123) _ _ l l)
+nowhere_before t i q n (index k) l =
+    either (TellsBefore n) (byte t i == 91 && byte t (after_space t (i + 1)) == 93) _ _ l (either (TellsBefore n) (byte t i == 91) _ _ l l)
+
+-- and so from each place up to that byte on
+pub nowhere_from : (t : List ℕ) (i q n : ℕ) (node : Node) → n ≤ q → TellsFrom n (nowhere t i q node)
+nowhere_from t i q n (key k) l =
+    either (TellsFrom n) (byte t i == 123 && byte t (after_space t (i + 1)) == 125) _ _ l (either (TellsFrom n) (byte t i == 123) _ _ l l)
+nowhere_from t i q n (index k) l =
+    either (TellsFrom n) (byte t i == 91 && byte t (after_space t (i + 1)) == 93) _ _ l (either (TellsFrom n) (byte t i == 91) _ _ l l)
+
+-- it is no cut
+nowhere_uncut : (t : List ℕ) (i q : ℕ) (node : Node) → IsUncut (nowhere t i q node)
+nowhere_uncut t i q (key k) = either IsUncut (byte t i == 123 && byte t (after_space t (i + 1)) == 125) _ _ tt (either IsUncut (byte t i == 123) _ _ tt tt)
+nowhere_uncut t i q (index k) = either IsUncut (byte t i == 91 && byte t (after_space t (i + 1)) == 93) _ _ tt (either IsUncut (byte t i == 91) _ _ tt tt)
+
+-- what is told before a place is told before each later one
+before_later : (o : Outcome) {n m : ℕ} → TellsBefore n o → n ≤ m → TellsBefore m o
+before_later (found i j) h l = tt
+before_later (lacks q) h l = omega arith
+before_later (fails s) h l = omega arith
+before_later (cut s) h l = tt
+
+-- what is told from a place on is told from each earlier one on
+from_earlier : (o : Outcome) {n m : ℕ} → TellsFrom m o → n ≤ m → TellsFrom n o
+from_earlier (found i j) h l = tt
+from_earlier (lacks q) h l = omega arith
+from_earlier (fails s) h l = omega arith
+from_earlier (cut s) h l = tt
+
+-- in a whole value a node leads to a whole value, which ends before it
+pub part_of_whole : {t : List ℕ} {i v j : ℕ} {node : Node} → LeadsOn t i node v → IsValue strict t i j → (e : ℕ) × IsValue strict t v e × (e < j)
+part_of_whole {t} {v = v} l x = elim (value_some_outcome strict t v) [
+  | inl y ↦ (y.0, y.1, part_before_end l y.1 x)
+  | inr f ↦ absurd (value_never_both x (leads_to_fault l f.1))
+]
+
+-- in a whole value a path tells so before the value's end
+pub tells_before_end : {t : List ℕ} (path : List Node) {i j : ℕ} {o : Outcome} → Evaluates t i path o → IsValue strict t i j → TellsBefore j o
+tells_before_end [] (stands x) y = tt
+tells_before_end [] (cut_here f) y = tt
+tells_before_end (node ∷ rest) {o = o} (goes_on l a) y =
+    let p = part_of_whole l y in
+    let b = tells_before_end rest a p.1 in
+    before_later o b (omega (arith, p.2))
+tells_before_end {t} (node ∷ rest) {i} {j} (leads_nowhere {j = k} x none e) y =
+    let same : k ≡ j = value_end_one x y in
+    let l = value-longer x in
+    rw e (nowhere_before t i (k - 1) j node (omega arith))
+tells_before_end (node ∷ rest) (cut_before f none) y = tt
+
+-- a path tells so at or behind the place where it begins
+pub tells_from_start : {t : List ℕ} (path : List Node) {i : ℕ} {o : Outcome} → Evaluates t i path o → TellsFrom i o
+tells_from_start [] (stands x) = tt
+tells_from_start [] (cut_here f) = tt
+tells_from_start (node ∷ rest) {o = o} (goes_on l a) = let n = leads_later l in from_earlier o (tells_from_start rest a) (omega arith)
+tells_from_start {t} (node ∷ rest) {i} (leads_nowhere {j = j} x none e) =
+    let l = value-longer x in
+    rw e (nowhere_from t i (j - 1) i node (omega arith))
+tells_from_start (node ∷ rest) (cut_before f none) = tt
+
+-- a path tells so before the fault of the value at which it begins
+pub tells_before_fault : {t : List ℕ} (path : List Node) {i : ℕ} {o : Outcome} {r : Stop} → Evaluates t i path o → IsFault strict t i r
+    → TellsBefore r.place o
+tells_before_fault [] (stands x) f = tt
+tells_before_fault [] (cut_here g) f = tt
+tells_before_fault {t} (node ∷ rest) {i} {o} {r} (goes_on {v} l a) f = elim (value_some_outcome strict t v) [
+  | inl x ↦ before_later o (tells_before_end rest a x.1) (part_before_fault l x.1 f)
+  | inr g ↦
+      let same : g.0 ≡ r = value_fault_one (leads_to_fault l g.1) f in
+      let h : IsFault strict t v r = rw same at g.1 in
+      tells_before_fault rest a h
+]
+tells_before_fault (node ∷ rest) (leads_nowhere x none e) f = absurd (value_never_both x f)
+tells_before_fault (node ∷ rest) (cut_before g none) f = tt
+
+-- a cut is the fault of the value at which the path begins
+pub cut_is_fault : {t : List ℕ} (path : List Node) {i : ℕ} {s : Stop} → Evaluates t i path (cut s) → IsFault strict t i s
+cut_is_fault [] (cut_here f) = f
+cut_is_fault (node ∷ rest) (goes_on l a) = leads_to_fault l (cut_is_fault rest a)
+cut_is_fault {t} (node ∷ rest) {i} (leads_nowhere {j = j} x none e) = absurd (rw (← e) at (nowhere_uncut t i (j - 1) node))
+cut_is_fault (node ∷ rest) (cut_before f none) = f

@@ -1,0 +1,9 @@
+pub mod Agreeing
+pub mod BeforeFaults
+pub mod Gathered
+pub mod Nodes
+pub mod OneAnswer
+pub mod OnePath
+pub mod Parts
+pub mod Wholes
+pub mod Within

@@ -1,0 +1,8 @@
+use Rattle.sonic_lazy.proofs.Wholes.{lazy_one}
+use Rattle.sonic_lazy.proofs.lazyvalue.LazyValueClone.clone.Goals as goal
+
+-- the copy has the same text and the same mark
+pub returns : goal.returns
+returns c =
+    let value = c.args.self.now in
+    record { cases = lazy_one value.raw value.has_escaped _ value.whole }

@@ -1,0 +1,53 @@
+ghost use Rattle.std.specs.Prelude.{◌≡◌, ◌<◌, ℕ, Bool, List};
+ghost use Rattle.sonic_text.specs.declared.stop.Stop.{Stop};
+ghost use Rattle.sonic_text.specs.Documents.{IsRootFault};
+ghost use Rattle.sonic_text.specs.Trees.{Node};
+ghost use Rattle.sonic_lazy.specs.Answers.{IsAnswer};
+ghost use Rattle.sonic_lazy.specs.Laws.{ExactlyOne, MixNowhere};
+ghost use Rattle.sonic_lazy.specs.Paths.{Evaluates, Leads, lacks, fails, cut};
+
+/// The law of paths, for every text, every place and every path: it leads to an outcome, and there
+/// is no other.
+///
+/// So in `{"a":1,"a":2}` the path `["a"]` finds the `1`, and nothing else.
+pub fn path_has_one_outcome()
+    ensures { (t : List ℕ) (i : ℕ) (path : List Node) → ExactlyOne (Evaluates t i path) }
+{}
+
+/// A law of paths: where one is cut, it is by the fault of the whole text, the same for all.
+///
+/// So in `[1,{"a":2,]` both `[1, "b"]` and `[2]` are cut at the closing bracket, where a key is due.
+pub fn a_cut_is_the_root_fault()
+    ensures { (t : List ℕ) (path : List Node) (s : Stop) → Leads t path (cut s) → IsRootFault t s }
+{}
+
+/// A law of paths: one that fails, or lacks its key, does so before the fault of the text, if there
+/// is one.
+///
+/// So in `[{},1` the path `[0, "a"]` fails at the closing brace, and the end of the text, where a
+/// comma or a bracket is due, plays no part.
+pub fn outcomes_come_before_the_fault()
+    ensures fails { (t : List ℕ) (path : List Node) (s r : Stop) → IsRootFault t r
+        → Leads t path (fails s) → s.place < r.place }
+    ensures lacks { (t : List ℕ) (path : List Node) (q : ℕ) (r : Stop) → IsRootFault t r
+        → Leads t path (lacks q) → q < r.place }
+{}
+
+/// A law of two paths that don't mix keys and indexes behind one front: where both fail at one
+/// place, they fail for one reason.
+///
+/// Of `["a"]` and `[0]`, which do mix, the first fails in `7` as no object stands there, and the
+/// second as no array does, both at the `7`.
+pub fn fails_at_one_place_agree()
+    ensures { (t : List ℕ) (p q : List Node) (s r : Stop) → MixNowhere p q
+        → Leads t p (fails s) → Leads t q (fails r) → s.place ≡ r.place → s ≡ r }
+{}
+
+/// The law of answers, for every text, whether it came as bytes or not, and every list of paths:
+/// they have an answer, and no other.
+///
+/// So `["b"]` and `["a"]` over `{"a":1}x` are answered by nothing and by the `1`. The `x` plays no
+/// part, as the object ends before it.
+pub fn paths_have_one_answer()
+    ensures { (t : List ℕ) (is_bytes : Bool) (paths : List (List Node)) → ExactlyOne (IsAnswer t is_bytes paths) }
+{}

@@ -1,0 +1,13 @@
+//! Lazy values, and what paths of keys and indexes find in a text.
+#![tactic(auto)]
+
+mod law;
+mod lazyvalue;
+#[cfg(test)]
+mod tests;
+
+pub use law::{
+    a_cut_is_the_root_fault, fails_at_one_place_agree, outcomes_come_before_the_fault,
+    path_has_one_outcome, paths_have_one_answer,
+};
+pub use lazyvalue::LazyValue;

@@ -1,0 +1,9 @@
+pub mod Branches
+pub mod Fronts
+pub mod Growth
+pub mod Inserts
+pub mod Kids
+pub mod Labels
+pub mod NodeOrder
+pub mod Trees
+pub mod Walks

@@ -1,0 +1,37 @@
+use Rattle.std.proofs.Common.{◌<◌, ◌-◌, ◌∷◌, Ok, Err, Result, OnOk, OnErr, length, sym, ◌∙◌, subst, subst₂, arith}
+use Rattle.std.proofs.lemmas.List.{take_all}
+use Rattle.sonic_pointer.specs.Tries.{IsLine, IsTree}
+use Rattle.sonic_pointer.proofs.Trees.{tree_ended, tree_branched}
+use Rattle.sonic_pointer.proofs.commit.keep.Goals as goal
+
+-- what holds after Ok, and after Err, leads to the goal
+after : {T E A B C D G : Type 0} (r : Result T E) → OnOk r A → OnOk r B → OnErr r C → OnErr r D → (A → B → G) → (C → D → G) → G
+after (Ok x) a b c d ok err = ok a b
+after (Err e) a b c d ok err = err c d
+
+pub returns-then-leaving-len-clause-tree : goal.returns-then-leaving-len-clause-tree
+returns-then-leaving-len-clause-tree c =
+    let P = c.args.paths.now.items in
+    let E = c.args.root.now ∷ c.args.places.now.items in
+    let p = c.args.path in
+    let l = c.requires.leaving in
+    let e = c.end_path.ensures in
+    let all = take_all c.args.leaving.depth p (let a = c.requires.len in let b = c.if-leaving-len.true in omega arith) in
+    after c.end_path.result e.paths e.places e.same_paths e.same_places
+    (λ x y. subst₂ IsTree (sym x) (sym y) (tree_ended P E p c.args.leaving.at c.requires.tree l.inside (l.front ∙ all) l.unmixed))
+    (λ x y. subst₂ IsTree (sym x) (sym y) c.requires.tree)
+
+pub returns-clause-tree : goal.returns-clause-tree
+returns-clause-tree c =
+    let P = c.args.paths.now.items in
+    let E = c.args.root.now ∷ c.args.places.now.items in
+    let p = c.args.path in
+    let l = c.requires.leaving in
+    let e = c.branch_path.ensures in
+    let v = c.args.leaving in
+    let short = let a = c.requires.len in let b = c.if-leaving-len.false in let d = l.deep in let s : v.depth < length p = omega arith in s in
+    after c.branch_path.result e.paths e.places e.same_paths e.same_places
+    (λ x y. subst₂ IsTree (sym x) (sym y.is)
+    (tree_branched P E p v.at v.place v.depth y.line c.requires.tree l.inside l.front short (l.gap short) l.unmixed
+    (subst (λ n. IsLine (length P) (length E) v.depth (n - v.depth) y.line) c.requires.len y.is_line)))
+    (λ x y. subst₂ IsTree (sym x) (sym y) c.requires.tree)

@@ -1,0 +1,42 @@
+use Rattle.std.proofs.Common.{◌≡◌, length, refl, ap, ◌∙◌, subst, arith}
+use Rattle.std.proofs.lemmas.List.{get_or-map, length-map}
+use Rattle.sonic_text.specs.Trees.{index}
+use Rattle.sonic_pointer.specs.Nodes.{node_of, path_of}
+use Rattle.sonic_pointer.specs.Tries.{Entry, entry_at}
+use Rattle.sonic_pointer.specs.Shapes.{entries_of, IsLeaving}
+use Rattle.sonic_pointer.proofs.Walks.{step_down, mixed_here, leaving_here, ending_here}
+use Rattle.sonic_pointer.proofs.shape.Shape.walk.Goals as goal
+
+pub returns-then-mixes-clause-err : goal.returns-then-mixes-clause-err
+returns-then-mixes-clause-err c =
+    let long = length-map c.args.path.now node_of in
+    let i = c.loop-depth.invariant in (
+      refl,
+      mixed_here c.args.self.now c.loop-depth.at c.loop-depth.depth (path_of c.args.path.now) _ i.front (omega arith)
+          (get_or-map node_of c.args.path.now c.loop-depth.depth _ (index 0) (omega arith)) (c.mixes.ensures.0 c.if-mixes.true),
+    )
+
+pub returns-in-Err-clause-ok : goal.returns-in-Err-clause-ok
+returns-in-Err-clause-ok c =
+    let long = length-map c.args.path.now node_of in
+    let i = c.loop-depth.invariant in
+    leaving_here c.args.self.now c.loop-depth.at c.loop-depth.depth c.in-Err.place (path_of c.args.path.now) _ c.requires i.inside i.front (omega arith)
+    (get_or-map node_of c.args.path.now c.loop-depth.depth _ (index 0) (omega arith)) (c.in-Err.ensures.absent _ refl)
+    (λ h. let t = c.mixes.ensures.1 h in let f = c.if-mixes.false in absurd (cc))
+
+pub loop-depth-preserved : goal.loop-depth-preserved
+loop-depth-preserved c =
+    let long = length-map c.args.path.now node_of in
+    let i = c.loop-depth.invariant in
+    let kids : c.children.result.now ≡ (entry_at (entries_of c.args.self.now) c.loop-depth.at).children = c.children.ensures ∙ ap (λ (e : Entry). e.children) c.place.ensures in
+    let s = step_down c.args.self.now c.loop-depth.at c.in-Ok.i c.loop-depth.depth (path_of c.args.path.now) c.children.result.now c.requires i.inside i.front (omega arith) kids
+    (c.in-Ok.ensures.found _ (get_or-map node_of c.args.path.now c.loop-depth.depth _ (index 0) (omega arith))) in
+    record { inside = s.1; front = s.2 }
+
+pub returns-clause-ok : goal.returns-clause-ok
+returns-clause-ok c =
+    let long = length-map c.args.path.now node_of in
+    let i = c.loop-depth.invariant in
+    let end : c.loop-depth.depth ≡ length c.args.path.now = omega arith in
+    subst (λ d. IsLeaving c.args.self.now.paths.now (entries_of c.args.self.now) (path_of c.args.path.now) (record { at = c.loop-depth.at; depth = d; place = 0 })) end
+    (ending_here c.args.self.now c.loop-depth.at c.loop-depth.depth (path_of c.args.path.now) c.requires i.inside i.front (omega arith))

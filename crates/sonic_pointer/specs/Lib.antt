@@ -1,0 +1,10 @@
+pub mod Fields
+pub mod Nodes
+pub mod Owned
+pub mod Paths
+pub mod Places
+pub mod Shapes
+pub mod Trees
+pub mod Tries
+pub mod Views
+pub mod Wanted

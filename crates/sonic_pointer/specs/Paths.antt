@@ -1,0 +1,40 @@
+-- Lists of paths, which trees of paths stand for, and what a front of a path is followed by.
+use Rattle.std.specs.Prelude.{◌≡◌, ◌≢◌, ◌↔◌, ℕ, List, ◌∷◌, ◌++◌, Some, slice_get}
+use Rattle.std.specs.List.{Contains, AllPairs}
+use Rattle.std.specs.List.Sorted.{IsStrictlyIncreasing}
+use Rattle.sonic_text.specs.Trees.{Node}
+use Rattle.sonic_pointer.specs.Nodes.{is_key}
+
+-- a path: its nodes in order
+abbrev pub Path : Type 0
+Path = List Node
+
+-- some path begins with the nodes of the front
+pub record HasFront (paths : List Path) (front : Path) : Type 0 where
+  pub rest : Path
+  pub path : Contains paths (front ++ rest)
+
+-- in some path this node follows the front
+pub record HasNext (paths : List Path) (front : Path) (node : Node) : Type 0 where
+  pub rest : Path
+  pub path : Contains paths (front ++ node ∷ rest)
+
+-- some path of the list has an equal front, followed by a node of the other kind
+pub record IsMixed (paths : List Path) (path : Path) : Type 0 where
+  pub front : Path
+  pub node : Node
+  pub rest : Path
+  pub other : Node
+  pub is : path ≡ front ++ node ∷ rest
+  pub next : HasNext paths front other
+  pub kinds : is_key other ≢ is_key node
+
+-- the numbers of the paths that are equal to the front, rising
+pub record IsOrders (paths : List Path) (front : Path) (orders : List ℕ) : Type 0 where
+  pub rising : IsStrictlyIncreasing orders
+  pub exact : (number : ℕ) → Contains orders number ↔ (slice_get paths number ≡ Some front)
+
+-- the nodes that follow the front, each once
+pub record IsChildren (paths : List Path) (front : Path) (children : List Node) : Type 0 where
+  pub distinct : AllPairs ◌≢◌ children
+  pub exact : (node : Node) → Contains children node ↔ HasNext paths front node

@@ -1,0 +1,45 @@
+-- A kept tree as its calls read it.
+use Rattle.std.specs.Prelude.{◌≡◌, ◌≢◌, ℕ, ◌-◌, ◌<◌, ◌≤◌, List, ◌∷◌, ◌++◌, length, set, take, slice_index_or}
+use Rattle.sonic_text.specs.Trees.{Node, index}
+use Rattle.sonic_pointer.specs.Nodes.{is_key}
+use Rattle.sonic_pointer.specs.Paths.{Path, HasNext, IsMixed}
+use Rattle.sonic_pointer.specs.Tries.{Entry, Spot, spots_of, spot_at, front_at, labels, entry_at, with_child, IsGap, IsLine, IsTree}
+use Rattle.sonic_pointer.specs.declared.shape.Shape.{Shape}
+use Rattle.sonic_pointer.specs.declared.shape.Leaving.{Leaving}
+
+-- its places, the root first
+abbrev pub entries_of : Shape → List Entry
+entries_of shape = shape.root.now ∷ shape.places.now
+
+-- they hold a tree
+abbrev pub IsShape : Shape → Type 0
+IsShape shape = IsTree shape.paths.now (entries_of shape)
+
+-- its places with their fronts
+abbrev pub shape_spots : Shape → List Spot
+shape_spots shape = spots_of shape.paths.now (entries_of shape)
+
+-- the nodes that follow a place
+abbrev pub shape_labels : Shape → ℕ → List Node
+shape_labels shape at = labels (shape_spots shape) (spot_at (shape_spots shape) at)
+
+-- some node of the other kind follows the place
+pub record HasOtherKind (shape : Shape) (at : ℕ) (node : Node) : Type 0 where
+  pub other : Node
+  pub next : HasNext shape.paths.now (front_at (shape_spots shape) at) other
+  pub kinds : is_key other ≢ is_key node
+
+-- the path leaves the tree here, and mixes with no path of it
+pub record IsLeaving (paths : List Path) (entries : List Entry) (path : Path) (leaving : Leaving) : Type 0 where
+  pub inside : leaving.at < length entries
+  pub deep : leaving.depth ≤ length path
+  pub front : front_at (spots_of paths entries) leaving.at ≡ take leaving.depth path
+  pub gap : leaving.depth < length path
+      → IsGap (labels (spots_of paths entries) (spot_at (spots_of paths entries) leaving.at)) (slice_index_or path leaving.depth (index 0)) leaving.place
+  pub unmixed : ¬ IsMixed paths path
+
+-- new places for the path that comes next follow the old ones, from a new child of the place where the path leaves
+pub record Branches (paths : List Path) (old new : List Entry) (leaving : Leaving) (len : ℕ) : Type 0 where
+  pub line : List Entry
+  pub is_line : IsLine (length paths) (length old) leaving.depth (len - leaving.depth) line
+  pub is : new ≡ set old leaving.at (with_child (entry_at old leaving.at) leaving.place (length old)) ++ line

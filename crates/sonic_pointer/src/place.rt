@@ -1,0 +1,105 @@
+// The places of a tree.
+ghost use Rattle.std.specs.Prelude.{◌≡◌, ◌+◌, ◌≤◌, ◌∷◌, ◌++◌, [], IfOk, OnOk, OnErr, length};
+ghost use Rattle.sonic_pointer.specs.Tries.{with_order, with_child};
+
+use std::alloc::{AllocError, Global};
+use std::marker::Model;
+
+// A place of a tree: its front is the first `depth` nodes of the path with the number `path`.
+#[derive(Drop)]
+pub(crate) struct Place {
+    path: usize,
+    depth: usize,
+    orders: Vec<usize>,
+    children: Vec<usize>,
+}
+
+impl Model for Place {
+    ghost use Rattle.sonic_pointer.specs.Tries.{Entry};
+
+    ghost Value = { Entry };
+
+    ghost use Rattle.sonic_pointer.specs.Places.{entry_of};
+
+    ghost view = { entry_of };
+}
+
+impl Place {
+    // A place without orders or children.
+    pub(crate) fn new(alloc: Global, path: usize, depth: usize) -> Place
+        ensures { result ≡ record { path = path; depth = depth; orders = []; children = [] } }
+    {
+        Place {
+            path,
+            depth,
+            orders: Vec::new(alloc),
+            children: Vec::new(alloc),
+        }
+    }
+
+    // A place with one child.
+    pub(crate) fn with_child(
+        alloc: Global,
+        path: usize,
+        depth: usize,
+        child: usize,
+    ) -> Result<Place, AllocError>
+        ensures { IfOk result (λ made.
+            made ≡ record { path = path; depth = depth; orders = []; children = child ∷ [] }) }
+    {
+        let mut place = Place::new(alloc, path, depth);
+        place.add_child(0, child)?;
+        Ok(place)
+    }
+
+    // The place where the path ends.
+    pub(crate) fn with_order(alloc: Global, path: usize, depth: usize) -> Result<Place, AllocError>
+        ensures { IfOk result (λ made.
+            made ≡ record { path = path; depth = depth; orders = path ∷ []; children = [] }) }
+    {
+        let mut place = Place::new(alloc, path, depth);
+        place.add_order(path)?;
+        Ok(place)
+    }
+
+    pub(crate) fn path(&self) -> usize
+        ensures { result ≡ self.now.path }
+    {
+        self.path
+    }
+
+    pub(crate) fn depth(&self) -> usize
+        ensures { result ≡ self.now.depth }
+    {
+        self.depth
+    }
+
+    pub(crate) fn orders(&self) -> &[usize]
+        ensures { result.now ≡ self.now.orders }
+    {
+        self.orders.as_slice()
+    }
+
+    pub(crate) fn children(&self) -> &[usize]
+        ensures { result.now ≡ self.now.children }
+    {
+        self.children.as_slice()
+    }
+
+    pub(crate) fn add_order(&mut self, number: usize) -> Result<(), AllocError>
+        ensures ok { OnOk result (self.new ≡ with_order self.old number) }
+        ensures err { OnErr result (self.new ≡ self.old) }
+    {
+        self.orders.push(number)?;
+        Ok(())
+    }
+
+    pub(crate) fn add_child(&mut self, place: usize, child: usize) -> Result<(), AllocError>
+        requires { place ≤ length self.old.children }
+        ensures ok { OnOk result (self.new ≡ with_child self.old place child) }
+        ensures err { OnErr result (self.new ≡ self.old) }
+    {
+        self.children.insert(place, child)?;
+        Ok(())
+    }
+}

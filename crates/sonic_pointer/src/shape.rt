@@ -1,0 +1,121 @@
+// A tree as its calls read it.
+ghost use Rattle.std.specs.Prelude.{◌≡◌, ◌<◌, ◌↔◌, IsTrue, IfOk, IfErr, Some, length, slice_get};
+ghost use Rattle.sonic_text.specs.Trees.{Node};
+ghost use Rattle.sonic_pointer.specs.Nodes.{node_of, path_of};
+ghost use Rattle.sonic_pointer.specs.Paths.{Path, IsMixed};
+ghost use Rattle.sonic_pointer.specs.Tries.{entry_at, label_at, IsStep, IsGap};
+
+use crate::fault::PathError;
+use crate::node::PointerNode;
+use crate::owned::OwnedPath;
+use crate::place::Place;
+use crate::wanted::Wanted;
+use std::cmp::Ordering;
+
+// The parts of a tree, borrowed.
+#[derive(Clone, Copy)]
+pub(crate) struct Shape<'t> {
+    pub(crate) paths: &'t [OwnedPath],
+    pub(crate) root: &'t Place,
+    pub(crate) places: &'t [Place],
+}
+
+// Where a path leaves a tree: behind the place `at`, whose front is the first `depth` nodes of
+// the path, and whose children would have the next node at `place`.
+#[derive(Clone, Copy)]
+pub(crate) struct Leaving {
+    pub(crate) at: usize,
+    pub(crate) depth: usize,
+    pub(crate) place: usize,
+}
+
+impl<'t> Shape<'t> {
+    ghost use Rattle.sonic_pointer.specs.Wanted.{Stands};
+    ghost use Rattle.sonic_pointer.specs.Shapes.{entries_of, IsShape, shape_spots, shape_labels, HasOtherKind, IsLeaving};
+
+    // The place with this number, 0 for the root.
+    pub(crate) fn place(&self, at: usize) -> &'t Place
+        requires { at < length (entries_of self.now) }
+        ensures { result.now ≡ entry_at (entries_of self.now) at }
+    {
+        if at == 0 {
+            return self.root;
+        }
+        let places: &'t [Place] = self.places;
+        &places[at - 1]
+    }
+
+    // The node by which a child follows its parent.
+    pub(crate) fn label(&self, at: usize) -> PointerNode<'t>
+        requires shape { IsShape self.now }
+        requires step { (front : Path) × IsStep (shape_spots self.now) front at }
+        ensures { node_of result ≡ label_at (shape_spots self.now) at }
+    {
+        let place = self.place(at);
+        let paths: &'t [OwnedPath] = self.paths;
+        paths[place.path()].node(place.depth() - 1)
+    }
+
+    // The number of the child with this node, or where it would stand.
+    pub(crate) fn find(&self, at: usize, wanted: &Wanted<'_>) -> Result<usize, usize>
+        requires shape { IsShape self.now }
+        requires inside { at < length (entries_of self.now) }
+        requires known { (node : Node) × Stands wanted.now node }
+        ensures found { IfOk result (λ i. (node : Node) → Stands wanted.now node
+            → slice_get (shape_labels self.now at) i ≡ Some node) }
+        ensures absent { IfErr result (λ i. (node : Node) → Stands wanted.now node
+            → IsGap (shape_labels self.now at) node i) }
+    {
+        let children = self.place(at).children();
+        let mut low = 0;
+        let mut high = children.len();
+        while low < high {
+            let middle = low + (high - low) / 2;
+            match wanted.compare(self.label(children[middle])) {
+                Ordering::Less => high = middle,
+                Ordering::Equal => return Ok(middle),
+                Ordering::Greater => low = middle + 1,
+            }
+        }
+        Err(low)
+    }
+
+    // Whether some node of the other kind follows the place.
+    fn mixes(&self, at: usize, node: PointerNode<'_>) -> bool
+        requires shape { IsShape self.now }
+        requires inside { at < length (entries_of self.now) }
+        ensures { IsTrue result ↔ HasOtherKind self.now at (node_of node.entry) }
+    {
+        match self.place(at).children().first() {
+            None => false,
+            Some(child) => self.label(*child).is_key() != node.is_key(),
+        }
+    }
+
+    // Where the path leaves the tree, unless it mixes with a path of it.
+    pub(crate) fn walk(&self, path: &[PointerNode<'_>]) -> Result<Leaving, PathError>
+        requires { IsShape self.now }
+        ensures ok { IfOk result (λ leaving.
+            IsLeaving self.now.paths.now (entries_of self.now) (path_of path.now) leaving) }
+        ensures err { IfErr result (λ error.
+            (error ≡ PathError.Mixed) × IsMixed self.now.paths.now (path_of path.now)) }
+    {
+        let mut at = 0;
+        for (depth, node) in path.iter().enumerate() {
+            match self.find(at, &Wanted::Node(*node)) {
+                Ok(i) => at = self.place(at).children()[i],
+                Err(place) => {
+                    if self.mixes(at, *node) {
+                        return Err(PathError::Mixed);
+                    }
+                    return Ok(Leaving { at, depth, place });
+                }
+            }
+        }
+        Ok(Leaving {
+            at,
+            depth: path.len(),
+            place: 0,
+        })
+    }
+}

@@ -1,0 +1,114 @@
+// Trees of paths.
+ghost use Rattle.std.specs.Prelude.{◌≡◌, ◌<◌, ◌≤◌, ◌∷◌, ◌++◌, ◌↔◌, [], Err, OnOk, OnErr, length};
+ghost use Rattle.sonic_pointer.specs.Nodes.{path_of};
+ghost use Rattle.sonic_pointer.specs.Paths.{IsMixed};
+
+use crate::commit::keep;
+use crate::fault::PathError;
+use crate::node::PointerNode;
+use crate::owned::OwnedPath;
+use crate::place::Place;
+use crate::shape::Shape;
+use crate::view::TreeView;
+use std::alloc::Global;
+use std::marker::Model;
+
+/// A list of paths, kept so that all of them can be followed at once.
+///
+/// Paths may repeat. A clause sees the list; each path in it has its number from 0 on.
+///
+/// ```text
+/// let mut tree = PointerTree::new(alloc);
+/// tree.add_path(alloc, &pointer!["a", 1])?;
+/// tree.add_path(alloc, &pointer!["a", 0])?;
+/// assert_eq!(rt; tree.size(), 2);
+/// assert_eq!(rt; tree.add_path(alloc, &pointer!["a", "b"]), Err(PathError::Mixed));
+/// ```
+#[derive(Drop)]
+pub struct PointerTree {
+    paths: Vec<OwnedPath>,
+    root: Place,
+    places: Vec<Place>,
+}
+
+impl Model for PointerTree {
+    ghost use Rattle.std.specs.Prelude.{List};
+    ghost use Rattle.sonic_text.specs.Trees.{Node};
+
+    ghost Value = { List (List Node) };
+
+    ghost use Rattle.sonic_pointer.specs.Trees.{IsKept};
+
+    ghost view = { λ tree. tree.paths.items };
+
+    ghost invariant = { IsKept };
+}
+
+// The most nodes that a path of a tree has.
+const LIMIT: usize = 255;
+
+impl PointerTree {
+    /// The tree of no path. It takes no memory.
+    pub fn new(alloc: Global) -> PointerTree
+        ensures { result ≡ [] }
+    {
+        PointerTree {
+            paths: Vec::new(alloc),
+            root: Place::new(alloc, 0, 0),
+            places: Vec::new(alloc),
+        }
+    }
+
+    /// Appends the path, whose number is the size so far.
+    ///
+    /// It is refused, first, with more than 255 nodes. Then the nodes that follow one front have
+    /// to be of one kind: after `["a", 1]` the path `["a", "b"]` is `Mixed`, and `["a"]` isn't.
+    /// A refused path changes nothing.
+    pub fn add_path(&mut self, alloc: Global, path: &[PointerNode<'_>]) -> Result<(), PathError>
+        ensures ok { OnOk result (self.new ≡ self.old ++ path_of path.now ∷ []) }
+        ensures err { OnErr result (self.new ≡ self.old) }
+        ensures too_long { (result ≡ Err PathError.TooLong) ↔ (255 < length path.now) }
+        ensures mixed { (result ≡ Err PathError.Mixed)
+            ↔ ((length path.now ≤ 255) × IsMixed self.old (path_of path.now)) }
+    {
+        if path.len() > LIMIT {
+            return Err(PathError::TooLong);
+        }
+        let shape = Shape {
+            paths: self.paths.as_slice(),
+            root: &self.root,
+            places: self.places.as_slice(),
+        };
+        let leaving = shape.walk(path)?;
+        let copy = OwnedPath::new(alloc, path)?;
+        keep(
+            alloc,
+            &mut self.paths,
+            &mut self.root,
+            &mut self.places,
+            leaving,
+            path.len(),
+            copy,
+        )?;
+        Ok(())
+    }
+
+    /// The number of paths, of which equal ones count each.
+    pub fn size(&self) -> usize
+        ensures { result ≡ length self.now }
+    {
+        self.paths.len()
+    }
+
+    /// The place of the empty front.
+    pub fn view(&self) -> TreeView<'_>
+        ensures paths { result.paths ≡ self.now }
+        ensures front { result.front ≡ [] }
+    {
+        TreeView::of_root(Shape {
+            paths: self.paths.as_slice(),
+            root: &self.root,
+            places: self.places.as_slice(),
+        })
+    }
+}

@@ -1,0 +1,146 @@
+// Places of a tree.
+ghost use Rattle.std.specs.Prelude.{◌≡◌, ◌<◌, ◌∷◌, ◌++◌, ℕ, List, [], Some, IfSome, IfNone, length, slice_get};
+ghost use Rattle.sonic_text.specs.Strings.{IsString, strict};
+ghost use Rattle.sonic_text.specs.Trees.{Node, key, index};
+ghost use Rattle.sonic_pointer.specs.Nodes.{node_of};
+ghost use Rattle.sonic_pointer.specs.Paths.{HasNext, IsOrders, IsChildren};
+ghost use Rattle.sonic_pointer.specs.Views.{IsBranch};
+
+use crate::branch::Branch;
+use crate::node::PointerNode;
+use crate::place::Place;
+use crate::shape::Shape;
+use crate::wanted::Wanted;
+use std::marker::Model;
+
+/// A front of the paths in a tree, with the nodes that follow it.
+///
+/// A clause sees the tree's paths, the front and its children, the nodes that follow the front
+/// in some path. No call takes memory.
+///
+/// ```text
+/// let mut tree = PointerTree::new(alloc);
+/// tree.add_path(alloc, &pointer!["a", 1])?;
+/// tree.add_path(alloc, &pointer!["a"])?;
+/// let (node, view) = tree.view().child(0);
+/// assert_eq!(rt; node, PointerNode::Key("a"));
+/// assert_eq!(rt; view.orders(), &[1]);
+/// assert_eq!(rt; view.branch(), Branch::Indexes);
+/// assert_eq!(rt; view.of_index(1), Some(0));
+/// ```
+#[derive(Drop)]
+pub struct TreeView<'t> {
+    shape: Shape<'t>,
+    at: usize,
+}
+
+impl<'t> Model for TreeView<'t> {
+    ghost use Rattle.sonic_pointer.specs.Views.{View};
+
+    ghost Value = { View };
+
+    ghost use Rattle.sonic_pointer.specs.Fields.{view_of, IsView};
+
+    ghost view = { view_of };
+
+    ghost invariant = { IsView };
+}
+
+impl<'t> TreeView<'t> {
+    ghost use Rattle.sonic_pointer.specs.Shapes.{IsShape};
+    ghost use Rattle.sonic_pointer.specs.Wanted.{Stands};
+
+    pub(crate) fn of_root(shape: Shape<'t>) -> TreeView<'t>
+        requires { IsShape shape }
+        ensures paths { result.paths ≡ shape.entry.paths.now }
+        ensures front { result.front ≡ [] }
+    {
+        TreeView { shape, at: 0 }
+    }
+
+    /// The numbers of the paths that end here, rising: those of all equal paths.
+    pub fn orders(&self) -> &'t [usize]
+        ensures { IsOrders self.now.paths self.now.front result.now }
+    {
+        let place: &'t Place = self.shape.place(self.at);
+        place.orders()
+    }
+
+    /// What follows here.
+    ///
+    /// After the paths `["a", 1]` and `["a"]` it is `Keys` for the root and `Indexes` for `["a"]`.
+    pub fn branch(&self) -> Branch
+        ensures { IsBranch self.now.paths self.now.front result }
+    {
+        match self.shape.place(self.at).children().first() {
+            None => Branch::Leaf,
+            Some(child) => {
+                if self.shape.label(*child).is_key() {
+                    Branch::Keys
+                } else {
+                    Branch::Indexes
+                }
+            }
+        }
+    }
+
+    /// How many different nodes follow here.
+    pub fn count(&self) -> usize
+        ensures count { result ≡ length self.now.children }
+        ensures children { IsChildren self.now.paths self.now.front self.now.children }
+    {
+        self.shape.place(self.at).children().len()
+    }
+
+    /// One of the nodes that follow, with its place.
+    pub fn child(&self, i: usize) -> (PointerNode<'t>, TreeView<'t>)
+        requires { i < length self.now.children }
+        ensures node { slice_get self.now.children i ≡ Some (node_of result.0) }
+        ensures paths { result.1.paths ≡ self.now.paths }
+        ensures front { result.1.front ≡ self.now.front ++ node_of result.0 ∷ [] }
+    {
+        let at = self.shape.place(self.at).children()[i];
+        let node = self.shape.label(at);
+        let below = TreeView {
+            shape: self.shape,
+            at,
+        };
+        (node, below)
+    }
+
+    // The number of the child that is looked for, or `None`.
+    fn number_of(&self, wanted: &Wanted<'_>) -> Option<usize>
+        requires { (node : Node) × Stands wanted.now node }
+        ensures some { IfSome result (λ i. (node : Node) → Stands wanted.now node
+            → slice_get self.now.children i ≡ Some node) }
+        ensures none { IfNone result ((node : Node) → Stands wanted.now node
+            → ¬ HasNext self.now.paths self.now.front node) }
+    {
+        match self.shape.find(self.at, wanted) {
+            Ok(i) => Some(i),
+            Err(_) => None,
+        }
+    }
+
+    /// The number of the child whose key the string from `start` to `end`, both quotes included,
+    /// stands for, or `None`.
+    ///
+    /// Both strings `"a"` and `"\u0061"` find the key `a`.
+    pub fn of_key(&self, text: &[u8], start: usize, end: usize) -> Option<usize>
+        requires { (b : List ℕ) × IsString strict text.now start end b }
+        ensures some { IfSome result (λ i. (b : List ℕ) → IsString strict text.now start end b
+            → slice_get self.now.children i ≡ Some (key b)) }
+        ensures none { IfNone result ((b : List ℕ) → IsString strict text.now start end b
+            → ¬ HasNext self.now.paths self.now.front (key b)) }
+    {
+        self.number_of(&Wanted::Text { text, start, end })
+    }
+
+    /// The number of the child that is this index, or `None`.
+    pub fn of_index(&self, number: usize) -> Option<usize>
+        ensures some { IfSome result (λ i. slice_get self.now.children i ≡ Some (index number)) }
+        ensures none { IfNone result (¬ HasNext self.now.paths self.now.front (index number)) }
+    {
+        self.number_of(&Wanted::Node(PointerNode::Index(number)))
+    }
+}

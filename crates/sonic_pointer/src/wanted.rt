@@ -1,0 +1,63 @@
+// A node that is looked for.
+ghost use Rattle.std.specs.Prelude.{◌≡◌, ℕ, List};
+ghost use Rattle.sonic_text.specs.Strings.{IsString, strict};
+ghost use Rattle.sonic_text.specs.Trees.{Node, key};
+ghost use Rattle.sonic_pointer.specs.Nodes.{node_of, node_cmp};
+
+use crate::node::PointerNode;
+use sonic_text::compare_key;
+use std::cmp::Ordering;
+
+// What the children of a place are searched for.
+#[derive(Clone, Copy)]
+pub(crate) enum Wanted<'a> {
+    // This node.
+    Node(PointerNode<'a>),
+    // The key that the string from `start` to `end` stands for.
+    Text {
+        text: &'a [u8],
+        start: usize,
+        end: usize,
+    },
+}
+
+fn compare_nodes(left: PointerNode<'_>, right: PointerNode<'_>) -> Ordering
+    ensures { result ≡ node_cmp (node_of left.entry) (node_of right.entry) }
+{
+    match left {
+        PointerNode::Key(text) => match right {
+            PointerNode::Key(other) => text.cmp(other),
+            PointerNode::Index(_) => Ordering::Less,
+        },
+        PointerNode::Index(number) => match right {
+            PointerNode::Key(_) => Ordering::Greater,
+            PointerNode::Index(other) => number.cmp(&other),
+        },
+    }
+}
+
+fn compare_text(text: &[u8], start: usize, end: usize, node: PointerNode<'_>) -> Ordering
+    requires { (b : List ℕ) × IsString strict text.now start end b }
+    ensures { (b : List ℕ) → IsString strict text.now start end b
+        → result ≡ node_cmp (key b) (node_of node.entry) }
+{
+    match node {
+        PointerNode::Key(other) => compare_key(text, start, end, other),
+        PointerNode::Index(_) => Ordering::Less,
+    }
+}
+
+impl<'a> Wanted<'a> {
+    ghost use Rattle.sonic_pointer.specs.Wanted.{Stands};
+
+    pub(crate) fn compare(&self, node: PointerNode<'_>) -> Ordering
+        requires { (wanted : Node) × Stands self.now wanted }
+        ensures { (wanted : Node) → Stands self.now wanted
+            → result ≡ node_cmp wanted (node_of node.entry) }
+    {
+        match self {
+            Wanted::Node(wanted) => compare_nodes(*wanted, node),
+            Wanted::Text { text, start, end } => compare_text(*text, *start, *end, node),
+        }
+    }
+}
