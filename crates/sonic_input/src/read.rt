@@ -104,6 +104,26 @@ impl<'de> Read<'de> {
         }
     }
 
+    /// A cursor at the first byte of a slice whose bytes aren't looked at.
+    ///
+    /// The slice counts as bytes that may be no UTF-8, and there is no mark until
+    /// `check_invalid_utf8` looks for one. So what isn't read isn't looked at either.
+    pub fn unmarked(slice: JsonSlice<'de>) -> Read<'de>
+        ensures text { result.text ≡ slice_bytes slice.entry }
+        ensures place { result.place ≡ 0 }
+        ensures is_bytes { result.is_bytes ≡ true }
+        ensures is_shared { result.is_shared ≡ is_shared slice.entry }
+        ensures mark { result.mark ≡ usize.MAX }
+    {
+        Read {
+            input: slice,
+            text: slice.bytes(),
+            index: 0,
+            next_invalid_utf8: usize::MAX,
+            need_utf8_valid: true,
+        }
+    }
+
     /// How many bytes are left from the cursor on.
     ///
     /// Behind the first byte of `[1]` it is 2.

@@ -197,3 +197,14 @@ fn tells_the_mark_as_an_error(rt: HostRuntime) -> Result<(), Fail> {
     }
     Ok(())
 }
+
+#[test]
+fn an_unmarked_cursor_looks_at_nothing(rt: HostRuntime) {
+    let mut read = Read::unmarked(JsonSlice::Raw(b"1\xff"));
+    assert!(rt; read.need_utf8_valid());
+    assert_eq!(rt; read.next_invalid_utf8(), usize::MAX);
+    assert_eq!(rt; read.next(), Some(b'1'));
+    assert_eq!(rt; read.check_utf8_final(), Ok(()));
+    read.check_invalid_utf8();
+    assert_eq!(rt; read.next_invalid_utf8(), 1);
+}

@@ -18,11 +18,11 @@ use Rattle.sonic_lazy.proofs.Nodes.{leads_on_one}
 use Rattle.sonic_lazy.proofs.Parts.{elements_after, members_after}
 
 -- a whole value stands at v, and ends before w
-abbrev EndsBefore : List ℕ → ℕ → ℕ → Type 0
+abbrev pub EndsBefore : List ℕ → ℕ → ℕ → Type 0
 EndsBefore t v w = (e : ℕ) × IsValue strict t v e × (e < w)
 
 -- an element ends before a later one
-element_ends : {t : List ℕ} {i n m v w : ℕ} → ElementsFit strict t i n v → ElementsFit strict t i m w → n < m → EndsBefore t v w
+pub element_ends : {t : List ℕ} {i n m v w : ℕ} → ElementsFit strict t i n v → ElementsFit strict t i m w → n < m → EndsBefore t v w
 element_ends {t} {v = v} es fs l =
     let x = elements_before fs l in
     let same : x.u ≡ v = elements_one x.before es in
@@ -60,7 +60,7 @@ apart (indexes {n} {m}) (to_element es) (to_element fs) = elim (cases_order n m)
 ]
 
 -- a path fails in a whole value before that ends, and so before a path that begins behind it
-fails_before : {t : List ℕ} (p q : List Node) {v w : ℕ} {s r : Stop} → EndsBefore t v w → Evaluates t v p (fails s) → Evaluates t w q (fails r)
+pub fails_before : {t : List ℕ} (p q : List Node) {v w : ℕ} {s r : Stop} → EndsBefore t v w → Evaluates t v p (fails s) → Evaluates t w q (fails r)
     → s.place < r.place
 fails_before p q x a b =
     let before = tells_before_end p a x.1 in
@@ -68,7 +68,7 @@ fails_before p q x a b =
     omega (arith, before, from, x.2)
 
 -- a path that goes on fails before the last byte of a whole value
-fails_inside : {t : List ℕ} (b : Node) (p : List Node) {i j v : ℕ} {a : Node} {s r : Stop} → LeadsOn t i a v → Evaluates t v p (fails s) → IsValue strict t i j
+pub fails_inside : {t : List ℕ} (b : Node) (p : List Node) {i j v : ℕ} {a : Node} {s r : Stop} → LeadsOn t i a v → Evaluates t v p (fails s) → IsValue strict t i j
     → fails r ≡ nowhere t i (j - 1) b → s.place < r.place
 fails_inside {t} b p {i} {j} {r = r} l a x e =
     let part = part_of_whole l x in

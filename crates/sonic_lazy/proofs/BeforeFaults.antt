@@ -34,7 +34,7 @@ IsUncut (fails s) = Unit {0}
 IsUncut (cut s) = ⊥
 
 -- what holds of two outcomes holds of each choice between them
-either : (P : Outcome → Type 0) (b : Bool) (x y : Outcome) → P x → P y → P (if b then x else y)
+pub either : (P : Outcome → Type 0) (b : Bool) (x y : Outcome) → P x → P y → P (if b then x else y)
 either P true x y h g = h
 either P false x y h g = g
 

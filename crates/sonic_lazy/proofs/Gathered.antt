@@ -65,7 +65,7 @@ not_nearer : (o : Outcome) {os : List Outcome} → ((r : Stop) → o ≢ fails r
 not_nearer o other n = (n.0, nearest_later (λ r e. absurd (other r e)) n.1)
 
 -- what comes before one stop comes before each fail that is told there
-nearer_than : (n s : Stop) → n.place < s.place → (r : Stop) → fails s ≡ fails r → n.place < r.place
+pub nearer_than : (n s : Stop) → n.place < s.place → (r : Stop) → fails s ≡ fails r → n.place < r.place
 nearer_than n s l r e = let same : s ≡ r = cc in rw same at l
 
 -- one more outcome keeps a nearest stop, or is it

@@ -20,7 +20,7 @@ use Rattle.sonic_lazy.proofs.Gathered.{cut_or_none, lacks_or_none, furthest_or_n
 use Rattle.sonic_lazy.proofs.OnePath.{evaluates_one, evaluates_some}
 
 -- each path leads somewhere
-all_some : (t : List ℕ) (paths : List (List Node)) → (os : List Outcome) × AllLead t paths os
+pub all_some : (t : List ℕ) (paths : List (List Node)) → (os : List Outcome) × AllLead t paths os
 all_some t [] = ([], no_more)
 all_some t (path ∷ paths) =
     let o = evaluates_some t path (after_space t 0) in
@@ -33,7 +33,7 @@ all_one [] no_more no_more = refl
 all_one (path ∷ paths) (one_more l a) (one_more m b) = rw (evaluates_one path l m, all_one paths a b) refl
 
 -- where one is cut, it is by the root's fault
-cut_by_root : {t : List ℕ} {paths : List (List Node)} {os : List Outcome} (s : Stop) → AllLead t paths os → Contains os (cut s) → IsRootFault t s
+pub cut_by_root : {t : List ℕ} {paths : List (List Node)} {os : List Outcome} (s : Stop) → AllLead t paths os → Contains os (cut s) → IsRootFault t s
 cut_by_root s no_more c = absurd (none_in_empty (cut s) c)
 cut_by_root {t} s (one_more {path} {o = o} {os} l a) c = elim (first_or_later o (cut s) os c) [
   | inl e ↦ (let leads : Leads t path (cut s) = rw e at l in cut_is_fault path leads)

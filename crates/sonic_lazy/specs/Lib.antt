@@ -1,5 +1,9 @@
 pub mod Answers
+pub mod Causes
 pub mod Laws
 pub mod LazyValues
+pub mod Levels
 pub mod Paths
+pub mod Shown
+pub mod Walks
 pub mod Wholes

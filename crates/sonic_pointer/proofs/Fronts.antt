@@ -4,7 +4,12 @@ use Rattle.std.proofs.lemmas.List.Elements.{Contains-append_left, Contains-push,
 use Rattle.std.proofs.lemmas.List.{get_or_push, length_push, get_or_append_left}
 use Rattle.std.proofs.lemmas.Option.{slice_get-get_or, slice_get_within, get_or_from_slice_get}
 use Rattle.sonic_text.specs.Trees.{Node}
-use Rattle.sonic_pointer.specs.Paths.{Path, HasFront, HasNext, IsOrders}
+use Rattle.sonic_pointer.specs.Paths.{Path, HasNext, IsOrders}
+
+-- some path begins with the nodes of the front
+pub record HasFront (paths : List Path) (front : Path) : Type 0 where
+  pub rest : Path
+  pub path : Contains paths (front ++ rest)
 
 -- one path with two fronts, each followed by a node: one front is longer, or they are equal
 pub data Fork (g : Path) (n : Node) (f : Path) (m : Node) : Type 0 where

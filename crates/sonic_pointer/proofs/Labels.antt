@@ -3,9 +3,9 @@ use Rattle.std.proofs.Common.{◌≡◌, ◌≢◌, ℕ, ◌<◌, List, [], ◌�
 use Rattle.std.proofs.lemmas.List.{length-map, get_or-map}
 use Rattle.sonic_text.specs.Trees.{Node}
 use Rattle.sonic_pointer.specs.Nodes.{is_key}
-use Rattle.sonic_pointer.specs.Paths.{Path, HasFront, HasNext, IsMixed}
+use Rattle.sonic_pointer.specs.Paths.{Path, HasNext, IsMixed}
 use Rattle.sonic_pointer.specs.Tries.{Entry, Spot, entry_at, spots_of, spot_at, front_at, label_at, labels, IsStep, IsSpot, IsTree}
-use Rattle.sonic_pointer.proofs.Fronts.{longer, same, shorter, fork, next_of_front}
+use Rattle.sonic_pointer.proofs.Fronts.{HasFront, longer, same, shorter, fork, next_of_front}
 use Rattle.sonic_pointer.proofs.Trees.{spot_at-of, length-spots_of, sound_of}
 
 -- the nodes that follow the place with this number

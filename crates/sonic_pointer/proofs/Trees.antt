@@ -2,12 +2,12 @@
 use Rattle.std.proofs.Common.{◌≡◌, ◌≢◌, ◌⊎◌, Bool, true, false, ℕ, suc, ◌+◌, ◌-◌, ◌<◌, List, [], ◌∷◌, ◌++◌, length, get_or, set, take, drop, All, Contains, insert, refl, sym, ap, ◌∙◌, subst, inl, inr, arith, append-nil, length-append}
 use Rattle.std.proofs.lemmas.Bool.{cases_lt, cases_eq}
 use Rattle.std.proofs.lemmas.List.{length-map, length-set, get_or-map, get_or-set_same, get_or-set_other, get_or_append_left, get_or-append_right, get_or_past, get_or_push, take-append-drop, length-take-le, take_all, length-drop, drop_more}
-use Rattle.std.proofs.lemmas.List.Elements.{All-weaker, All-set, All-append, All-from_get_or, Contains-get_or}
+use Rattle.std.proofs.lemmas.List.Elements.{All-weaker, All-set, All-append, All-push, All-from_get_or, Contains-get_or}
 use Rattle.sonic_text.specs.Trees.{Node, index}
 use Rattle.sonic_pointer.specs.Nodes.{is_key}
-use Rattle.sonic_pointer.specs.Paths.{Path, HasFront, HasNext, IsMixed}
-use Rattle.sonic_pointer.specs.Tries.{Entry, Spot, entry_at, path_at, front_of, spot_of, spots_of, spot_at, front_at, labels, IsGap, IsSpot, IsInside, IsUnmixed, IsTree, IsLine, with_order, with_child}
-use Rattle.sonic_pointer.proofs.Fronts.{next_cases}
+use Rattle.sonic_pointer.specs.Paths.{Path, HasNext, IsMixed, IsUnmixed, IsShort}
+use Rattle.sonic_pointer.specs.Tries.{Entry, Spot, entry_at, path_at, front_of, spot_of, spots_of, spot_at, front_at, labels, IsGap, IsSpot, IsInside, IsTree, IsLine, with_order, with_child}
+use Rattle.sonic_pointer.proofs.Fronts.{HasFront, next_cases}
 use Rattle.sonic_pointer.proofs.Growth.{IsSound, IsEnded, trie_ended, first_same}
 use Rattle.sonic_pointer.proofs.Branches.{IsBranched, trie_branched}
 use Rattle.sonic_pointer.proofs.NodeOrder.{before_other}
@@ -118,9 +118,9 @@ module _ (P : List Path) (E : List Entry) (p : Path) (at : ℕ) (x : Entry) (lin
       All-append (IsInside (P ++ p ∷ [])) (set E at x) line (All-set (IsInside (P ++ p ∷ [])) E at x same (All-weaker (IsInside P) (IsInside (P ++ p ∷ [])) (λ e i. inside_more P p e i) E tree.inside)) new
 
 -- the path ends at a place that is there
-pub tree_ended : (P : List Path) (E : List Entry) (p : Path) (at : ℕ) → IsTree P E → at < length E → front_at (spots_of P E) at ≡ p → ¬ IsMixed P p
+pub tree_ended : (P : List Path) (E : List Entry) (p : Path) (at : ℕ) → IsTree P E → IsShort p → at < length E → front_at (spots_of P E) at ≡ p → ¬ IsMixed P p
     → IsTree (P ++ p ∷ []) (set E at (with_order (entry_at E at) (length P)))
-tree_ended P E p at tree l front pure =
+tree_ended P E p at tree small l front pure =
     let x = with_order (entry_at E at) (length P) in
     let same : set E at x ++ [] ≡ set E at x = append-nil (set E at x) in
     let S = spots_of P E in
@@ -138,6 +138,7 @@ tree_ended P E p at tree l front pure =
     subst (IsTree (P ++ p ∷ [])) same (record {
       inside = inside_of P E p at x [] tree refl refl l (λ k d i. absurd (let z : k < 0 = i in omega arith));
       trie = trie_ended tree.trie (sound_of P E tree.inside) ended;
+      short = All-push IsShort P p tree.short small;
       unmixed = unmixed_more p tree.unmixed pure;
     })
 
@@ -213,11 +214,11 @@ module _ (P : List Path) (E : List Entry) (p : Path) (at : ℕ) (x : Entry) (dep
           ]
 
 -- the path leaves the tree
-pub tree_branched : (P : List Path) (E : List Entry) (p : Path) (at place depth : ℕ) (line : List Entry) → IsTree P E → at < length E → front_at (spots_of P E) at ≡ take depth p
+pub tree_branched : (P : List Path) (E : List Entry) (p : Path) (at place depth : ℕ) (line : List Entry) → IsTree P E → IsShort p → at < length E → front_at (spots_of P E) at ≡ take depth p
     → depth < length p → IsGap (labels (spots_of P E) (spot_at (spots_of P E) at)) (get_or p depth (index 0)) place → ¬ IsMixed P p
     → IsLine (length P) (length E) depth (length p - depth) line
     → IsTree (P ++ p ∷ []) (set E at (with_child (entry_at E at) place (length E)) ++ line)
-tree_branched P E p at place depth line tree l front short gap pure is_line =
+tree_branched P E p at place depth line tree small l front short gap pure is_line =
     let x = with_child (entry_at E at) place (length E) in
     let S = spots_of P E in
     let S' = spots_of (P ++ p ∷ []) (set E at x ++ line) in
@@ -247,5 +248,6 @@ tree_branched P E p at place depth line tree l front short gap pure is_line =
     record {
       inside = inside_of P E p at x line tree refl refl l (line_inside P E p at x depth line short is_line);
       trie = trie_branched tree.trie (sound_of P E tree.inside) branched;
+      short = All-push IsShort P p tree.short small;
       unmixed = unmixed_more p tree.unmixed pure;
     }

@@ -1,5 +1,5 @@
 -- Lists of paths, which trees of paths stand for, and what a front of a path is followed by.
-use Rattle.std.specs.Prelude.{◌≡◌, ◌≢◌, ◌↔◌, ℕ, List, ◌∷◌, ◌++◌, Some, slice_get}
+use Rattle.std.specs.Prelude.{◌≡◌, ◌≢◌, ◌↔◌, ℕ, ◌≤◌, List, ◌∷◌, ◌++◌, Some, length, slice_get}
 use Rattle.std.specs.List.{Contains, AllPairs}
 use Rattle.std.specs.List.Sorted.{IsStrictlyIncreasing}
 use Rattle.sonic_text.specs.Trees.{Node}
@@ -8,6 +8,10 @@ use Rattle.sonic_pointer.specs.Nodes.{is_key}
 -- a path: its nodes in order
 abbrev pub Path : Type 0
 Path = List Node
+
+-- it has no more nodes than a path of a tree may have
+abbrev pub IsShort : Path → Type 0
+IsShort path = length path ≤ 255
 
 -- some path begins with the nodes of the front
 pub record HasFront (paths : List Path) (front : Path) : Type 0 where
@@ -28,6 +32,10 @@ pub record IsMixed (paths : List Path) (path : Path) : Type 0 where
   pub is : path ≡ front ++ node ∷ rest
   pub next : HasNext paths front other
   pub kinds : is_key other ≢ is_key node
+
+-- the nodes that follow one front have one kind
+abbrev pub IsUnmixed : List Path → Type 0
+IsUnmixed paths = (front : Path) (a b : Node) → HasNext paths front a → HasNext paths front b → is_key a ≡ is_key b
 
 -- the numbers of the paths that are equal to the front, rising
 pub record IsOrders (paths : List Path) (front : Path) (orders : List ℕ) : Type 0 where

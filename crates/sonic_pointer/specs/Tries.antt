@@ -3,8 +3,8 @@ use Rattle.std.specs.Prelude.{◌≡◌, ℕ, ◌+◌, ◌-◌, ◌<◌, ◌≤�
 use Rattle.std.specs.List.{All, AllPairs, Contains, insert}
 use Rattle.std.specs.declared.cmp.Ordering.TheVariants.{Less}
 use Rattle.sonic_text.specs.Trees.{Node, index}
-use Rattle.sonic_pointer.specs.Nodes.{is_key, node_cmp}
-use Rattle.sonic_pointer.specs.Paths.{Path, HasNext, IsOrders}
+use Rattle.sonic_pointer.specs.Nodes.{node_cmp}
+use Rattle.sonic_pointer.specs.Paths.{Path, HasNext, IsOrders, IsShort, IsUnmixed}
 
 -- a kept place: its front is the first nodes of a path, and its children are numbers of places
 pub record Entry : Type 0 where
@@ -92,10 +92,6 @@ pub record IsGap (nodes : List Node) (node : Node) (place : ℕ) : Type 0 where
 abbrev pub IsInside : List Path → Entry → Type 0
 IsInside paths entry = entry.depth ≤ length (path_at paths entry.path)
 
--- nodes that follow one front have one kind
-abbrev pub IsUnmixed : List Path → Type 0
-IsUnmixed paths = (front : Path) (a b : Node) → HasNext paths front a → HasNext paths front b → is_key a ≡ is_key b
-
 -- the place, once the path with this number ends there
 abbrev pub with_order : Entry → ℕ → Entry
 with_order entry number = record entry { orders = entry.orders ++ number ∷ [] }
@@ -114,4 +110,5 @@ pub record IsLine (number first depth count : ℕ) (line : List Entry) : Type 0 
 pub record IsTree (paths : List Path) (entries : List Entry) : Type 0 where
   pub inside : All (IsInside paths) entries
   pub trie : IsTrie paths (spots_of paths entries)
+  pub short : All IsShort paths
   pub unmixed : IsUnmixed paths

@@ -1,5 +1,6 @@
 // A path more in a tree: all memory is taken before anything changes.
 ghost use Rattle.std.specs.Prelude.{◌≡◌, ◌+◌, ◌-◌, ◌^◌, ◌<◌, ◌≤◌, ◌∷◌, ◌++◌, [], IfOk, OnOk, OnErr, length, set, vec_len, vec_capacity};
+ghost use Rattle.sonic_pointer.specs.Paths.{IsShort};
 ghost use Rattle.sonic_pointer.specs.Tries.{entry_at, with_order, with_child, IsLine, IsTree};
 ghost use Rattle.sonic_pointer.specs.Shapes.{IsLeaving, Branches};
 
@@ -137,6 +138,7 @@ pub(crate) fn keep(
     requires tree { IsTree paths.old.items (root.old ∷ places.old.items) }
     requires leaving { IsLeaving paths.old.items (root.old ∷ places.old.items) path leaving }
     requires len { len ≡ length path }
+    requires short { IsShort path }
     ensures tree { IsTree paths.new.items (root.new ∷ places.new.items) }
     ensures ok { OnOk result (paths.new.items ≡ paths.old.items ++ path ∷ []) }
     ensures err { OnErr result (paths.new.items ≡ paths.old.items) }

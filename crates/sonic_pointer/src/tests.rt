@@ -49,70 +49,86 @@ fn number_of(view: &TreeView<'_>, text: &[u8]) -> Option<usize> {
     }
 }
 
-fn check_child(
+// The place behind a path.
+fn at<'t>(tree: &'t PointerTree, path: &[PointerNode<'_>]) -> Option<TreeView<'t>> {
+    let mut view = tree.view();
+    for node in path {
+        view = below(&view, *node)?;
+    }
+    Some(view)
+}
+
+fn below<'t>(view: &TreeView<'t>, node: PointerNode<'_>) -> Option<TreeView<'t>> {
+    for i in 0..view.count() {
+        let (found, below) = view.child(i);
+        if found == node {
+            return Some(below);
+        }
+    }
+    None
+}
+
+fn check(
     rt: &impl Abort,
-    view: &TreeView<'_>,
-    i: usize,
-    node: PointerNode<'_>,
+    tree: &PointerTree,
+    path: &[PointerNode<'_>],
     orders: &[usize],
     branch: Branch,
     count: usize,
 ) {
-    match child(view, i) {
-        Some((found, below)) => {
-            assert_eq!(rt; found, node);
-            assert_eq!(rt; below.orders(), orders, "{node:?}");
-            assert_eq!(rt; below.branch(), branch, "{node:?}");
-            assert_eq!(rt; below.count(), count, "{node:?}");
+    match at(tree, path) {
+        Some(view) => {
+            assert_eq!(rt; view.orders(), orders, "{path:?}");
+            assert_eq!(rt; view.branch(), branch, "{path:?}");
+            assert_eq!(rt; view.count(), count, "{path:?}");
         }
-        None => panic!(rt; "no child {i}"),
+        None => panic!(rt; "no place {path:?}"),
     }
+}
+
+fn add(rt: &impl Abort, alloc: Global, tree: &mut PointerTree, path: &[PointerNode<'_>]) {
+    assert_eq!(rt; tree.add_path(alloc, path), Ok(()));
+}
+
+fn refuse(
+    rt: &impl Abort,
+    alloc: Global,
+    tree: &mut PointerTree,
+    path: &[PointerNode<'_>],
+    error: PathError,
+) {
+    assert_eq!(rt; tree.add_path(alloc, path), Err(error));
 }
 
 fn seven_paths(rt: &impl Abort, alloc: Global) -> PointerTree {
     let mut tree = PointerTree::new(alloc);
-    assert_eq!(rt;
-        tree.add_path(alloc, &pointer!["a", "a_b", "a_b_c"]),
-        Ok(())
-    );
-    assert_eq!(rt; tree.add_path(alloc, &pointer!["a", "a_b"]), Ok(()));
-    assert_eq!(rt; tree.add_path(alloc, &pointer!["a", "a_a", 1]), Ok(()));
-    assert_eq!(rt; tree.add_path(alloc, &pointer!["a"]), Ok(()));
-    assert_eq!(rt; tree.add_path(alloc, &pointer!["a"]), Ok(()));
-    assert_eq!(rt; tree.add_path(alloc, &pointer!["b", 2]), Ok(()));
-    assert_eq!(rt; tree.add_path(alloc, &pointer![]), Ok(()));
+    add(rt, alloc, &mut tree, &pointer!["a", "a_b", "a_b_c"]);
+    add(rt, alloc, &mut tree, &pointer!["a", "a_b"]);
+    add(rt, alloc, &mut tree, &pointer!["a", "a_a", 1]);
+    add(rt, alloc, &mut tree, &pointer!["a"]);
+    add(rt, alloc, &mut tree, &pointer!["a"]);
+    add(rt, alloc, &mut tree, &pointer!["b", 2]);
+    add(rt, alloc, &mut tree, &pointer![]);
     tree
 }
 
 fn check_seven(rt: &impl Abort, tree: &PointerTree) {
     assert_eq!(rt; tree.size(), 7);
-    let root = tree.view();
-    assert_eq!(rt; root.orders(), &[6][..]);
-    assert_eq!(rt; root.branch(), Branch::Keys);
-    assert_eq!(rt; root.count(), 2);
-    check_child(
+    check(rt, tree, &pointer![], &[6], Branch::Keys, 2);
+    check(rt, tree, &pointer!["a"], &[3, 4], Branch::Keys, 2);
+    check(rt, tree, &pointer!["b"], &[], Branch::Indexes, 1);
+    check(rt, tree, &pointer!["a", "a_a"], &[], Branch::Indexes, 1);
+    check(rt, tree, &pointer!["a", "a_b"], &[1], Branch::Keys, 1);
+    check(rt, tree, &pointer!["a", "a_a", 1], &[2], Branch::Leaf, 0);
+    check(
         rt,
-        &root,
+        tree,
+        &pointer!["a", "a_b", "a_b_c"],
+        &[0],
+        Branch::Leaf,
         0,
-        PointerNode::Key("a"),
-        &[3, 4],
-        Branch::Keys,
-        2,
     );
-    check_child(rt, &root, 1, PointerNode::Key("b"), &[], Branch::Indexes, 1);
-    if let Some((_, a)) = child(&root, 0) {
-        check_child(rt, &a, 0, PointerNode::Key("a_a"), &[], Branch::Indexes, 1);
-        check_child(rt, &a, 1, PointerNode::Key("a_b"), &[1], Branch::Keys, 1);
-        if let Some((_, b)) = child(&a, 1) {
-            check_child(rt, &b, 0, PointerNode::Key("a_b_c"), &[0], Branch::Leaf, 0);
-        }
-    }
-    if let Some((_, b)) = child(&root, 1) {
-        assert_eq!(rt; b.of_index(2), Some(0));
-        assert_eq!(rt; b.of_index(0), None);
-        assert_eq!(rt; number_of(&b, b"\"2\""), None);
-        check_child(rt, &b, 0, PointerNode::Index(2), &[5], Branch::Leaf, 0);
-    }
+    check(rt, tree, &pointer!["b", 2], &[5], Branch::Leaf, 0);
 }
 
 #[test]
@@ -120,12 +136,9 @@ fn keeps_seven_paths_and_refuses_two(rt: HostRuntime) {
     let mut tree = seven_paths(&rt, rt.alloc());
     check_seven(&rt, &tree);
     let long = [PointerNode::Index(0); 256];
-    assert_eq!(rt; tree.add_path(rt.alloc(), &long), Err(PathError::TooLong));
+    refuse(&rt, rt.alloc(), &mut tree, &long, PathError::TooLong);
     check_seven(&rt, &tree);
-    assert_eq!(rt;
-        tree.add_path(rt.alloc(), &pointer![0]),
-        Err(PathError::Mixed)
-    );
+    refuse(&rt, rt.alloc(), &mut tree, &pointer![0], PathError::Mixed);
     check_seven(&rt, &tree);
 }
 
@@ -133,72 +146,47 @@ fn keeps_seven_paths_and_refuses_two(rt: HostRuntime) {
 fn takes_paths_of_255_nodes(rt: HostRuntime) {
     let mut tree = PointerTree::new(rt.alloc());
     let long = [PointerNode::Index(7); 255];
-    assert_eq!(rt; tree.add_path(rt.alloc(), &long), Ok(()));
-    let mut view = tree.view();
-    let mut deep = 0usize;
-    for _ in 0..256 {
-        match child(&view, 0) {
-            Some((node, below)) => {
-                assert_eq!(rt; node, PointerNode::Index(7));
-                deep = deep.saturating_add(1);
-                view = below;
-            }
-            None => break,
-        }
-    }
-    assert_eq!(rt; deep, 255);
-    assert_eq!(rt; view.orders(), &[0][..]);
+    add(&rt, rt.alloc(), &mut tree, &long);
+    check(&rt, &tree, &long[..254], &[], Branch::Indexes, 1);
+    check(&rt, &tree, &long, &[0], Branch::Leaf, 0);
 }
 
 #[test]
-fn shows_an_empty_tree_and_repeats(rt: HostRuntime) {
-    let mut tree = PointerTree::new(rt.alloc());
+fn shows_an_empty_tree(rt: HostRuntime) {
+    let tree = PointerTree::new(rt.alloc());
     assert_eq!(rt; tree.size(), 0);
-    assert_eq!(rt; tree.view().orders().len(), 0);
-    assert_eq!(rt; tree.view().branch(), Branch::Leaf);
-    assert_eq!(rt; tree.view().count(), 0);
+    check(&rt, &tree, &pointer![], &[], Branch::Leaf, 0);
     assert_eq!(rt; tree.view().of_index(0), None);
     assert_eq!(rt; number_of(&tree.view(), b"\"a\""), None);
-    assert_eq!(rt; tree.add_path(rt.alloc(), &pointer![]), Ok(()));
-    assert_eq!(rt; tree.add_path(rt.alloc(), &pointer![3, "x"]), Ok(()));
-    assert_eq!(rt; tree.add_path(rt.alloc(), &pointer![3, "x"]), Ok(()));
-    assert_eq!(rt; tree.add_path(rt.alloc(), &pointer![]), Ok(()));
-    assert_eq!(rt; tree.add_path(rt.alloc(), &pointer![1, 1]), Ok(()));
-    assert_eq!(rt;
-        tree.add_path(rt.alloc(), &pointer![3, 1]),
-        Err(PathError::Mixed)
+}
+
+#[test]
+fn keeps_repeated_and_empty_paths(rt: HostRuntime) {
+    let mut tree = PointerTree::new(rt.alloc());
+    add(&rt, rt.alloc(), &mut tree, &pointer![]);
+    add(&rt, rt.alloc(), &mut tree, &pointer![3, "x"]);
+    add(&rt, rt.alloc(), &mut tree, &pointer![3, "x"]);
+    add(&rt, rt.alloc(), &mut tree, &pointer![]);
+    add(&rt, rt.alloc(), &mut tree, &pointer![1, 1]);
+    refuse(
+        &rt,
+        rt.alloc(),
+        &mut tree,
+        &pointer![3, 1],
+        PathError::Mixed,
     );
     assert_eq!(rt; tree.size(), 5);
-    assert_eq!(rt; tree.view().orders(), &[0, 3][..]);
-    check_child(
-        &rt,
-        &tree.view(),
-        0,
-        PointerNode::Index(1),
-        &[],
-        Branch::Indexes,
-        1,
-    );
-    check_child(
-        &rt,
-        &tree.view(),
-        1,
-        PointerNode::Index(3),
-        &[],
-        Branch::Keys,
-        1,
-    );
-    if let Some((_, three)) = child(&tree.view(), 1) {
-        check_child(
-            &rt,
-            &three,
-            0,
-            PointerNode::Key("x"),
-            &[1, 2],
-            Branch::Leaf,
-            0,
-        );
-    }
+    check(&rt, &tree, &pointer![], &[0, 3], Branch::Indexes, 2);
+    check(&rt, &tree, &pointer![1], &[], Branch::Indexes, 1);
+    check(&rt, &tree, &pointer![3], &[], Branch::Keys, 1);
+    check(&rt, &tree, &pointer![3, "x"], &[1, 2], Branch::Leaf, 0);
+    check_index(&rt, &tree.view(), 1, Some(0));
+    check_index(&rt, &tree.view(), 3, Some(1));
+    check_index(&rt, &tree.view(), 2, None);
+}
+
+fn check_index(rt: &impl Abort, view: &TreeView<'_>, number: usize, found: Option<usize>) {
+    assert_eq!(rt; view.of_index(number), found);
 }
 
 #[test]

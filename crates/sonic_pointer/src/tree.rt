@@ -1,7 +1,8 @@
 // Trees of paths.
 ghost use Rattle.std.specs.Prelude.{◌≡◌, ◌<◌, ◌≤◌, ◌∷◌, ◌++◌, ◌↔◌, [], Err, OnOk, OnErr, length};
+ghost use Rattle.std.specs.List.{All};
 ghost use Rattle.sonic_pointer.specs.Nodes.{path_of};
-ghost use Rattle.sonic_pointer.specs.Paths.{IsMixed};
+ghost use Rattle.sonic_pointer.specs.Paths.{IsMixed, IsShort, IsUnmixed};
 
 use crate::commit::keep;
 use crate::fault::PathError;
@@ -104,6 +105,8 @@ impl PointerTree {
     pub fn view(&self) -> TreeView<'_>
         ensures paths { result.paths ≡ self.now }
         ensures front { result.front ≡ [] }
+        ensures unmixed { IsUnmixed self.now }
+        ensures short { All IsShort self.now }
     {
         TreeView::of_root(Shape {
             paths: self.paths.as_slice(),

@@ -13,7 +13,7 @@ use Rattle.sonic_text.specs.Places.{byte, digits_end}
 use Rattle.sonic_text.specs.Numbers.{after_minus, after_sign, IsInt, IsFraction, IsExponent, IsE, IsNumber}
 
 -- from i to j stand ASCII bytes alone
-abbrev AreAscii : List ℕ → ℕ → ℕ → Type 0
+abbrev pub AreAscii : List ℕ → ℕ → ℕ → Type 0
 AreAscii t i j = (p : ℕ) → i ≤ p → p < j → byte t p < 128
 
 -- what stands one behind the other stands together
@@ -69,7 +69,7 @@ exponent t i j (inl h) =
 exponent t i j (inr h) = none t i j h.1
 
 -- each byte of a number is ASCII
-number_ascii : (t : List ℕ) (i j : ℕ) → IsNumber t i j → AreAscii t i j
+pub number_ascii : (t : List ℕ) (i j : ℕ) → IsNumber t i j → AreAscii t i j
 number_ascii t i j n =
     let d = after_minus t i in
     let rest = joined t n.int_end n.fraction_end j (fraction t n.int_end n.fraction_end n.fraction) (exponent t n.fraction_end j n.exponent) in

@@ -9,12 +9,16 @@ pub mod HexLemmas
 pub mod Keys
 pub mod LiteralStrings
 pub mod Literals
+pub mod NumberParts
 pub mod Numbers
 pub mod Objects
 pub mod Outcomes
+pub mod Parts
 pub mod Places
 pub mod Stops
+pub mod StringParts
 pub mod Strings
 pub mod Tables
 pub mod Unescaping
+pub mod ValueParts
 pub mod Values

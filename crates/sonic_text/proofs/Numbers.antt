@@ -85,11 +85,11 @@ exponent_some t i = elim (e_or_not (byte t i)) [
 ]
 
 -- a minus sign leads on
-after_minus_later : (t : List ℕ) (i : ℕ) → i ≤ after_minus t i
+pub after_minus_later : (t : List ℕ) (i : ℕ) → i ≤ after_minus t i
 after_minus_later t i = grind (arith, nat_tests)
 
 -- a sign leads on
-after_sign_later : (t : List ℕ) (i : ℕ) → i ≤ after_sign t i
+pub after_sign_later : (t : List ℕ) (i : ℕ) → i ≤ after_sign t i
 after_sign_later t i = grind (arith, nat_tests)
 
 -- an integer leads on
@@ -97,11 +97,11 @@ pub int_longer : (t : List ℕ) (i j : ℕ) → IsInt t i j → i < j
 int_longer t i j h = grind (arith, digits_end_later t i)
 
 -- a fraction leads on or is empty
-fraction_later : (t : List ℕ) (i j : ℕ) → IsFraction t i j → i ≤ j
+pub fraction_later : (t : List ℕ) (i j : ℕ) → IsFraction t i j → i ≤ j
 fraction_later t i j h = grind (arith, digits_end_later t (i + 1))
 
 -- an exponent leads on or is empty
-exponent_later : (t : List ℕ) (i j : ℕ) → IsExponent t i j → i ≤ j
+pub exponent_later : (t : List ℕ) (i j : ℕ) → IsExponent t i j → i ≤ j
 exponent_later t i j h = grind (arith, after_sign_later t (i + 1), digits_end_later t (after_sign t (i + 1)))
 
 -- a number leads on

@@ -1,20 +1,18 @@
 -- What a reader of a head learns from what it meets.
-use Rattle.std.proofs.Common.{◌≡◌, ◌⊎◌, inl, inr, ℕ, zero, suc, ◌+◌, ◌-◌, ◌<◌, ◌≤◌, List, [], ◌∷◌, length, drop, take, arith, refl}
+use Rattle.std.proofs.Common.{◌≡◌, ◌⊎◌, inl, inr, ℕ, zero, suc, ◌+◌, ◌<◌, ◌≤◌, List, [], ◌∷◌, length, drop, arith, refl}
 use Rattle.std.proofs.lemmas.Bool.{cases_order}
 use Rattle.std.proofs.lemmas.List.{length-drop}
 use Rattle.std.proofs.lemmas.List.Sums.{prefix_len-le-length}
 use Rattle.sonic_text.specs.Places.{after_space}
-use Rattle.sonic_tool.specs.Paths.{IsPathLine}
-use Rattle.sonic_tool.specs.Heads.{is_inside_line, line_end, line_at, IsBlank, IsHead, IsFirstBad}
+use Rattle.sonic_tool.specs.Heads.{is_inside_line, line_end, line_at, IsBlank, IsHead}
 use Rattle.sonic_tool.specs.Heads.IsHead.{blank_line, blank_end, last_line, one_more_line}
-use Rattle.sonic_tool.specs.Heads.IsFirstBad.{first_line}
 
 -- a line ends within the input
-line_end_within : (t : List ℕ) (i : ℕ) → i ≤ length t → line_end t i ≤ length t
+pub line_end_within : (t : List ℕ) (i : ℕ) → i ≤ length t → line_end t i ≤ length t
 line_end_within t i within = omega (arith, prefix_len-le-length is_inside_line (drop i t), length-drop i t)
 
 -- a place is at the end or before it
-before_end : (t : List ℕ) (p : ℕ) → p ≤ length t → (p < length t) ⊎ (p ≡ length t)
+pub before_end : (t : List ℕ) (p : ℕ) → p ≤ length t → (p < length t) ⊎ (p ≡ length t)
 before_end t p within = elim (cases_order p (length t)) [ inl e ↦ inr e | inr (inl l) ↦ inl l | inr (inr g) ↦ absurd (omega arith) ]
 
 -- a line is blank or it isn't
@@ -60,33 +58,3 @@ head_of_line t i within text = elim (before_end t (line_end t i) (line_end_withi
   | inl below ↦ let h = some_head t (line_end t i + 1) (omega arith) in (h.lines, h.document, one_more_line text below h.head)
   | inr e ↦ ([], length t, last_line text e refl)
 ]
-
--- a first line that says no path is bad
-pub first_is_bad : (t : List ℕ) → ¬ IsBlank t 0 → ((path : List ℕ) → ¬ IsPathLine (line_at t 0) path)
-    → (lines : List (List ℕ)) × (d : ℕ) × IsHead t 0 lines d × IsFirstBad lines 1
-first_is_bad t text never = let h = head_of_line t 0 (omega arith) text in (line_at t 0 ∷ h.0, h.1, h.2, first_line never refl)
-
-module _ (t : List ℕ) (end : ℕ) (line : end ≡ line_end t 0) (text : ¬ (IsBlank t 0)) where
-  -- a head whose first line ends here goes on behind it
-  line_then : {lines : List (List ℕ)} {d : ℕ} → end < length t → IsHead t (end + 1) lines d → IsHead t 0 (line_at t 0 ∷ lines) d
-  line_then {lines} {d} below h =
-      let moved : IsHead t (line_end t 0 + 1) lines d = rw (← line) h in
-      one_more_line text (rw (← line) below) moved
-
-  -- a second line that isn't blank is one more of the head
-  pub second_of_head : end < length t → ¬ (IsBlank t (end + 1)) → (next : List ℕ) × (lines : List (List ℕ)) × (d : ℕ) × IsHead t 0 (line_at t 0 ∷ next ∷ lines) d
-  second_of_head below more =
-      let h = head_of_line t (end + 1) (omega arith) more in
-      (line_at t (end + 1), h.0, h.1, line_then below h.2)
-
-  -- behind a blank second line the document begins
-  pub blank_second : (next : ℕ) → end < length t → IsBlank t (end + 1) → next ≡ line_end t (end + 1) → next < length t → IsHead t 0 (line_at t 0 ∷ []) (next + 1)
-  blank_second next below blank e l = line_then below (blank_line blank (rw (← e) l) (rw e refl))
-
-  -- at the end of the input it is empty
-  pub blank_second_end : (next : ℕ) → end < length t → IsBlank t (end + 1) → next ≡ line_end t (end + 1) → next ≡ length t → IsHead t 0 (line_at t 0 ∷ []) next
-  blank_second_end next below blank e l = line_then below (blank_end blank (rw (← e) l) l)
-
--- the first line as the reader has it
-pub first_line_text : (t : List ℕ) (end : ℕ) → end ≡ line_end t 0 → line_at t 0 ≡ take end t
-first_line_text t end e = let z : line_end t 0 - 0 ≡ end = omega arith in rw z refl

@@ -1,105 +1,72 @@
 -- The words and the input have one report.
-use Rattle.std.proofs.Common.{◌≡◌, ◌⊎◌, inl, inr, ℕ, Bool, true, false, List, [], ◌∷◌, length, drop, take, codes, arith, refl, sym, ap, ◌∙◌}
+use Rattle.std.proofs.Common.{◌≡◌, ◌⊎◌, inl, inr, ℕ, Bool, true, false, List, [], ◌∷◌, length, drop, codes, arith, refl, sym, ap, ◌∙◌}
 use Rattle.std.proofs.lemmas.Bool.{cases_lt}
 use Rattle.std.proofs.lemmas.Slice.Eq.{bytes_eq-Decides}
 use Rattle.std.specs.Bool.{Decides}
-use Rattle.std.specs.Str.{bytes_eq, IsUtf8, is_utf8}
-use Rattle.std.proofs.lemmas.Str.{IsUtf8-from_is_utf8, is_utf8-from_IsUtf8}
-use Rattle.sonic_text.specs.Places.{after_space}
+use Rattle.std.specs.Str.{bytes_eq}
+use Rattle.std.specs.declared.option.Option.{Option}
+use Rattle.sonic_pointer.specs.Paths.{Path}
+use Rattle.sonic_lazy.specs.Answers.{Answer, spans, error}
+use Rattle.sonic_lazy.proofs.OneAnswer.{answer_one}
 use Rattle.sonic_tool.specs.declared.reading.TheConstants.{LIMIT}
 use Rattle.sonic_tool.specs.declared.status.Status.{Status}
 use Rattle.sonic_tool.specs.Commands.{IsListed}
-use Rattle.sonic_tool.specs.Heads.{IsHead, IsFirstBad}
-use Rattle.sonic_tool.specs.Heads.IsFirstBad.{first_line, second_line}
-use Rattle.sonic_tool.specs.Paths.{IsPathLine}
-use Rattle.sonic_tool.specs.Reports.{ReportsPath, IsLine, IsGetReport, IsReport, Reports, IsTheReport}
-use Rattle.std.specs.declared.option.Option.{Option}
-use Rattle.sonic_tool.specs.Reports.IsLine.{value_line, broken_line, failing_line, cut_line}
-use Rattle.sonic_tool.specs.declared.evaluate.Outcome.{Outcome}
-use Rattle.sonic_tool.specs.declared.evaluate.Outcome.TheVariants.{Found, Fails, Cut}
-use Rattle.sonic_tool.specs.Reports.IsGetReport.{no_line, bad_line, one_path}
+use Rattle.sonic_tool.specs.Heads.{IsHead}
+use Rattle.sonic_tool.specs.Lines.{AreLines, IsFirstBadLine}
+use Rattle.sonic_tool.specs.Reports.{IsAnswerReport, ReportsPaths, IsGetReport, IsReport, Reports, IsTheReport}
+use Rattle.sonic_tool.specs.Reports.IsAnswerReport.{entry_lines, error_line}
+use Rattle.sonic_tool.specs.Reports.IsGetReport.{bad_line, answered}
 use Rattle.sonic_tool.specs.Reports.IsReport.{usage, large, get}
 use Rattle.sonic_tool.specs.Laws.{HasOneReport}
 use Rattle.sonic_tool.proofs.Heads.{some_head}
 use Rattle.sonic_tool.proofs.Replies.{only_get}
-use Rattle.sonic_tool.proofs.OneHead.{head_one, first_bad_one}
-use Rattle.sonic_tool.proofs.OneLine.{path_line_one, path_or_none}
-use Rattle.sonic_tool.proofs.OnePath.{evaluates_one, evaluates_some}
+use Rattle.sonic_tool.proofs.OneHead.{head_one}
+use Rattle.sonic_tool.proofs.LineOutcomes.{lines_one, first_bad_line_one, no_bad_line, lines_or_bad}
 
 -- one text and one status are told
 abbrev Same : List ℕ → Status → List ℕ → Status → Type 0
 Same text status other ending = (other ≡ text) × (ending ≡ status)
 
--- a head without a line has no bad line
-no_bad_line : {n : ℕ} (lines : List (List ℕ)) → lines ≡ [] → ¬ IsFirstBad lines n
-no_bad_line [] e b = elim b [ ]
-no_bad_line (line ∷ lines) e b = absurd cc
-
--- a head of one path line has no bad line either
-path_not_bad : {n : ℕ} {line path : List ℕ} (lines : List (List ℕ)) → lines ≡ line ∷ [] → IsPathLine line path → ¬ IsFirstBad lines n
-path_not_bad [] e p b = elim b [ ]
-path_not_bad {line = line} {path} (first ∷ rest) e p (first_line never q) = let same : line ≡ first = cc in never path (rw same at p)
-path_not_bad (first ∷ next ∷ rest) e p (second_line s q) = absurd cc
-
 -- some text and some status are told
 abbrev SomeText : (List ℕ → Status → Type 0) → Type 0
 SomeText told = (text : List ℕ) × (status : Status) × told text status
 
--- an outcome has one line
-line_one : {document : List ℕ} {outcome : Outcome} {text other : List ℕ} {status ending : Status} → IsLine document outcome text status
-    → IsLine document outcome other ending → Same text status other ending
-line_one (value_line u q z) (value_line v p y) = (p ∙ sym q, y ∙ sym z)
-line_one (value_line u q z) (broken_line v p y) = absurd (v u)
-line_one (broken_line u q z) (value_line v p y) = absurd (u v)
-line_one (broken_line u q z) (broken_line v p y) = (p ∙ sym q, y ∙ sym z)
-line_one (failing_line q z) (failing_line p y) = (p ∙ sym q, y ∙ sym z)
-line_one (cut_line q z) (cut_line p y) = (p ∙ sym q, y ∙ sym z)
+-- an answer has one report in a document
+answer_report_one : {document : List ℕ} {answer : Answer} {text other : List ℕ} {status ending : Status} → IsAnswerReport document answer text status
+    → IsAnswerReport document answer other ending → Same text status other ending
+answer_report_one (entry_lines q z) (entry_lines p y) = (p ∙ sym q, y ∙ sym z)
+answer_report_one (error_line q z) (error_line p y) = (p ∙ sym q, y ∙ sym z)
 
--- as the test says
-utf8_by_test : (bytes : List ℕ) (b : Bool) → is_utf8 bytes ≡ b → IsUtf8 bytes ⊎ ¬ (IsUtf8 bytes)
-utf8_by_test bytes true e = inl (IsUtf8-from_is_utf8 bytes e)
-utf8_by_test bytes false e = inr (λ u. let t = is_utf8-from_IsUtf8 bytes u in absurd cc)
+-- an answer has some report
+answer_report_some : (document : List ℕ) (answer : Answer) → SomeText (IsAnswerReport document answer)
+answer_report_some document (spans entries) = (_, _, entry_lines refl refl)
+answer_report_some document (error stop) = (_, _, error_line refl refl)
 
--- bytes are UTF-8 or they aren't
-utf8_or_not : (bytes : List ℕ) → IsUtf8 bytes ⊎ ¬ (IsUtf8 bytes)
-utf8_or_not bytes = utf8_by_test bytes (is_utf8 bytes) refl
-
--- an outcome has some line
-line_some : (document : List ℕ) (outcome : Outcome) → SomeText (IsLine document outcome)
-line_some document (Found i j) = elim (utf8_or_not (take j document)) [
-  | inl text ↦ (_, _, value_line text refl refl)
-  | inr broken ↦ (_, _, broken_line broken refl refl)
-]
-line_some document (Fails stop) = (_, _, failing_line refl refl)
-line_some document (Cut stop) = (_, _, cut_line refl refl)
-
--- a path has one report in a document
-path_report_one : {document path text other : List ℕ} {status ending : Status} → ReportsPath document path text status → ReportsPath document path other ending
-    → Same text status other ending
-path_report_one {document} {path} {other = other} {ending = ending} r s =
-    let e = evaluates_one path s.evaluates r.evaluates in
-    let moved : IsLine document r.outcome other ending = rw e at s.line in
-    line_one r.line moved
+-- paths have one report in a document
+paths_report_one : {document : List ℕ} {paths : List Path} {text other : List ℕ} {status ending : Status} → ReportsPaths document paths text status
+    → ReportsPaths document paths other ending → Same text status other ending
+paths_report_one {document} {paths} {other = other} {ending = ending} r s =
+    let e : s.answer ≡ r.answer = (answer_one document true paths).one s.answer r.answer s.answers r.answers in
+    let moved : IsAnswerReport document r.answer other ending = rw e at s.report in
+    answer_report_one r.report moved
 
 -- an input has one report by `get`
 get_report_one : {input text other : List ℕ} {status ending : Status} → IsGetReport input text status → IsGetReport input other ending → Same text status other ending
-get_report_one (no_line h) (no_line g) = (refl, refl)
-get_report_one (no_line h) (bad_line {lines} g b q) = absurd (no_bad_line lines (head_one g h).0 b)
-get_report_one (no_line h) (one_path g p r) = let e = (head_one g h).0 in absurd cc
-get_report_one (bad_line {lines} h b q) (no_line g) = absurd (no_bad_line lines (head_one h g).0 b)
 get_report_one (bad_line {lines} {n = n} h b q) (bad_line {n = m} g c p) =
-    let moved : IsFirstBad lines m = rw (head_one g h).0 at c in
-    (p ∙ rw (first_bad_one moved b) (sym q), refl)
-get_report_one (bad_line {lines} h b q) (one_path g p r) = absurd (path_not_bad lines (head_one h g).0 p b)
-get_report_one (one_path h p r) (no_line g) = let e = (head_one h g).0 in absurd cc
-get_report_one (one_path h p r) (bad_line {lines} g b q) = absurd (path_not_bad lines (head_one g h).0 p b)
-get_report_one {input} {other = other} {ending = ending} (one_path {line} {path} {d} h p r) (one_path {line = next} {path = whole} {d = e} g q s) =
+    let moved : IsFirstBadLine lines m = rw (head_one g h).0 at c in
+    (p ∙ rw (first_bad_line_one moved b) (sym q), refl)
+get_report_one (bad_line {lines} h b q) (answered {paths = paths} g a r) =
+    let moved : AreLines lines paths = rw (head_one g h).0 at a in
+    absurd (no_bad_line moved b)
+get_report_one (answered {lines} h a r) (bad_line {n = m} g b q) =
+    let moved : IsFirstBadLine lines m = rw (head_one g h).0 at b in
+    absurd (no_bad_line a moved)
+get_report_one {input} {other = other} {ending = ending} (answered {lines} {paths} {d} h a r) (answered {paths = others} {d = e} g b s) =
     let heads = head_one g h in
-    let same : next ≡ line = cc (heads.0) in
-    let moved : IsPathLine line whole = rw same at q in
-    let paths : whole ≡ path = path_line_one moved p in
-    let led : ReportsPath (drop d input) path other ending = rw (heads.1, paths) at s in
-    path_report_one r led
+    let moved : AreLines lines others = rw heads.0 at b in
+    let same : others ≡ paths = lines_one moved a in
+    let led : ReportsPaths (drop d input) paths other ending = rw (heads.1, same) at s in
+    paths_report_one r led
 
 -- the words and the input have one report
 report_one : {words : List (List ℕ)} {input text other : List ℕ} {status ending : Status} → IsReport words input text status → IsReport words input other ending
@@ -116,17 +83,12 @@ report_one (get n l r) (get m k s) = get_report_one r s
 
 -- a head of these lines has a report
 lines_report : (input : List ℕ) (lines : List (List ℕ)) (d : ℕ) → IsHead input 0 lines d → SomeText (IsGetReport input)
-lines_report input [] d h = (_, _, no_line h)
-lines_report input (line ∷ []) d h = elim (path_or_none line) [
-  | inr never ↦ (_, _, bad_line h (first_line never refl) refl)
-  | inl p ↦
-      let o = evaluates_some (drop d input) p.0 (after_space (drop d input) 0) in
-      let l = line_some (drop d input) o.0 in
-      (_, _, one_path h p.1 (record { outcome = o.0; evaluates = o.1; line = l.2 }))
-]
-lines_report input (line ∷ next ∷ lines) d h = elim (path_or_none line) [
-  | inr never ↦ (_, _, bad_line h (first_line never refl) refl)
-  | inl p ↦ (_, _, bad_line h (second_line p.1 refl) refl)
+lines_report input lines d h = elim (lines_or_bad [] lines) [
+  | inr b ↦ (_, _, bad_line h b.1 refl)
+  | inl a ↦
+      let one = answer_one (drop d input) true a.0 in
+      let r = answer_report_some (drop d input) one.some.0 in
+      (r.0, r.1, answered h a.1 (record { answer = one.some.0; answers = one.some.1; report = r.2 }))
 ]
 
 -- one word is a command or not

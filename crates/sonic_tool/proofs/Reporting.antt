@@ -1,69 +1,131 @@
 -- What the parts of a report give.
-use Rattle.std.proofs.Common.{◌≡◌, ℕ, List, [], ◌∷◌, ◌≤◌, ◌+◌, ◌-◌, arith, refl, ◌++◌, drop, take, length, Result, Ok, Err}
-use Rattle.std.specs.Prelude.{IfOk}
+use Rattle.std.proofs.Common.{◌≡◌, ◌≢◌, ℕ, ◌+◌, ◌-◌, ◌≤◌, Bool, true, List, [], ◌∷◌, length, map, drop, arith, refl, sym, if◌then◌else◌, false, ◌∙◌, Result, Ok, Err}
+use Rattle.std.specs.Prelude.{◌==◌, ◌&&◌, IfOk, IsErr}
+use Rattle.std.specs.List.{flat_map}
 use Rattle.std.specs.declared.alloc.AllocError.{AllocError}
-use Rattle.sonic_tool.specs.declared.reply.Reply.{Reply}
-use Rattle.sonic_tool.specs.Heads.{IsHead}
-use Rattle.sonic_tool.specs.Paths.{IsPathLine}
-use Rattle.sonic_tool.specs.Replies.{text_of}
-use Rattle.sonic_tool.specs.Reports.{IsGetReport, ReportsPath, line_of_error}
-use Rattle.sonic_tool.specs.Reports.IsLine.{value_line, broken_line, failing_line, cut_line}
-use Rattle.std.specs.Prelude.{codes, slice_range}
-use Rattle.std.proofs.lemmas.List.{drop-drop}
-use Rattle.std.specs.Fmt.{decimal}
-use Rattle.std.specs.Str.{IsUtf8}
-use Rattle.sonic_error.specs.Texts.{valid_up_to}
+use Rattle.std.specs.declared.option.Option.{Option}
+use Rattle.std.specs.declared.option.Option.TheVariants.{Some, None}
+use Rattle.sonic_error.specs.declared.error.Error.{Error}
 use Rattle.sonic_error.specs.declared.code.ErrorCode.{ErrorCode}
-use Rattle.sonic_error.specs.declared.code.ErrorCode.TheVariants.{InvalidUTF8}
+use Rattle.sonic_error.specs.declared.code.ErrorCode.TheVariants.{NoMemory}
+use Rattle.sonic_error.specs.Errors.{error_code, IsErrorAt}
 use Rattle.sonic_text.specs.declared.stop.Stop.{Stop}
-use Rattle.sonic_text.specs.Places.{after_space}
-use Rattle.sonic_tool.specs.declared.evaluate.Outcome.TheVariants.{Found, Fails, Cut}
+use Rattle.sonic_text.specs.Places.{byte, after_space}
+use Rattle.sonic_text.specs.Trees.{Node, key, index}
+use Rattle.sonic_text.proofs.Values.{value-longer}
+use Rattle.sonic_pointer.specs.Paths.{Path}
+use Rattle.sonic_lazy.specs.declared.lazyvalue.LazyValue.{LazyValue}
+use Rattle.sonic_lazy.specs.Answers.{Span, span_of, AllLead, no_more, one_more, ComeTo, no_path, finding, spans, error}
+use Rattle.sonic_lazy.specs.Paths.{Outcome, found, lacks, fails, cut, nowhere, Evaluates, stands, goes_on, leads_nowhere, Leads}
+use Rattle.sonic_lazy.specs.Shown.{Shows, shows_none, shows_span, ShowAll, no_more_values, one_more_value, AreValues}
+use Rattle.sonic_lazy.specs.Causes.{IsRefusal, out_of_memory}
+use Rattle.sonic_lazy.specs.Causes.IsRefusal.{answered as refused}
+use Rattle.sonic_lazy.proofs.Within.{value_within}
+use Rattle.sonic_tool.specs.declared.reply.Reply.{Reply}
 use Rattle.sonic_tool.specs.declared.status.Status.{Status}
 use Rattle.sonic_tool.specs.declared.status.Status.TheVariants.{Done, DocumentError}
-use Rattle.sonic_tool.specs.Paths.{Evaluates}
-use Rattle.sonic_tool.proofs.Stops.{cut_within}
-use Rattle.sonic_tool.specs.Reports.IsGetReport.{no_line, bad_line, one_path}
+use Rattle.sonic_tool.specs.Heads.{IsHead}
+use Rattle.sonic_tool.specs.Lines.{AreLines}
+use Rattle.sonic_tool.specs.Replies.{text_of, line_of_value, error_bytes}
+use Rattle.sonic_tool.specs.Reports.{IsGetReport, ReportsPaths, line_of_entry, line_of_error}
+use Rattle.sonic_tool.specs.Reports.IsAnswerReport.{entry_lines, error_line}
+use Rattle.sonic_tool.specs.Reports.IsGetReport.{bad_line, answered}
+use Rattle.sonic_tool.proofs.Indexes.{part_length}
 
--- the report of the one path is the report of the input
-pub report_one_path : (r : Result Reply AllocError) (input path : List ℕ) (d : ℕ)
-    → (line : List ℕ) × (d ≤ length input) × IsHead input 0 (line ∷ []) d × IsPathLine line path
-    → IfOk r (λ reply. ReportsPath (drop d input) path (text_of reply) reply.status) → IfOk r (λ reply. IsGetReport input (text_of reply) reply.status)
-report_one_path (Ok reply) input path d h p = one_path h.2 h.3 p
-report_one_path (Err error) input path d h p = tt
+-- a span of the text is in order and within it
+abbrev WithinEntry : List ℕ → Option Span → Type 0
+WithinEntry t None = Unit {0}
+WithinEntry t (Some (i, j)) = (i ≤ j) × (j ≤ length t)
 
--- a part of the rest of a text is a part of the text
-pub part_of_rest : (t : List ℕ) (d i j : ℕ) → slice_range (drop d t) i j ≡ slice_range t (d + i) (d + j)
-part_of_rest t d i j = let n : (d + j) - (d + i) ≡ j - i = omega arith in rw (n, drop-drop) refl
+-- what fails finds nothing
+fails_not_found : (s : Stop) (i j : ℕ) → fails s ≢ found i j
+fails_not_found s i j e = absurd cc
 
--- the report of an error is a report of the path
-pub error_report : (r : Result Reply AllocError) (document path : List ℕ) (code : ErrorCode) (place : ℕ)
-    → ((text : List ℕ) (status : Status) → text ≡ line_of_error document code place → status ≡ DocumentError → ReportsPath document path text status)
-    → IfOk r (λ reply. text_of reply ≡ line_of_error document code place) → IfOk r (λ reply. reply.status ≡ DocumentError)
-    → IfOk r (λ reply. ReportsPath document path (text_of reply) reply.status)
-error_report (Ok reply) document path code place told t s = told (text_of reply) reply.status t s
-error_report (Err error) document path code place told t s = tt
+-- nor does what lacks its key
+lacks_not_found : (q i j : ℕ) → lacks q ≢ found i j
+lacks_not_found q i j e = absurd cc
 
-module _ {document path text : List ℕ} {status : Status} where
-  -- a path that leads to a value of a text that is UTF-8 so far
-  pub report_value : {i j : ℕ} → Evaluates document (after_space document 0) path (Found i j) → IsUtf8 (take j document)
-      → text ≡ decimal (j - i) ++ codes " " ++ slice_range document i j ++ codes "\n" → status ≡ Done → ReportsPath document path text status
-  report_value goes utf8 t s = record { outcome = _; evaluates = goes; line = value_line utf8 t s }
+-- what is chosen of two outcomes that find nothing finds nothing
+neither_found : {i j : ℕ} (b : Bool) (x y : Outcome) → x ≢ found i j → y ≢ found i j → (if b then x else y) ≢ found i j
+neither_found true x y n m = n
+neither_found false x y n m = m
 
-  -- one that leads to a value, where the text isn't UTF-8 so far
-  pub report_broken : {i j p : ℕ} → Evaluates document (after_space document 0) path (Found i j) → ¬ IsUtf8 (take j document)
-      → p ≡ valid_up_to (take j document) → text ≡ line_of_error document InvalidUTF8 p → status ≡ DocumentError → ReportsPath document path text status
-  report_broken goes broken p t s = record { outcome = _; evaluates = goes; line = broken_line broken (rw (← p) t) s }
+-- a node that leads nowhere finds nothing
+nowhere_found : (t : List ℕ) (v q i j : ℕ) (node : Node) → nowhere t v q node ≢ found i j
+nowhere_found t v q i j (key k) =
+    let empty = byte t v == 123 && byte t (after_space t (v + 1)) == 125 in
+    let object = byte t v == 123 in
+    neither_found empty _ _ (fails_not_found _ i j) (neither_found object _ _ (lacks_not_found q i j) (fails_not_found _ i j))
+nowhere_found t v q i j (index n) =
+    let empty = byte t v == 91 && byte t (after_space t (v + 1)) == 93 in
+    let array = byte t v == 91 in
+    neither_found empty _ _ (fails_not_found _ i j) (neither_found array _ _ (fails_not_found _ i j) (fails_not_found _ i j))
 
-  -- one that leads nowhere
-  pub report_failing : {stop : Stop} → Evaluates document (after_space document 0) path (Fails stop) → text ≡ line_of_error document stop.code stop.place
-      → status ≡ DocumentError → ReportsPath document path text status
-  report_failing goes t s = record { outcome = _; evaluates = goes; line = failing_line t s }
+-- what a path finds is such a span
+found_within : {t : List ℕ} {v i j : ℕ} (path : List Node) → Evaluates t v path (found i j) → WithinEntry t (Some (i, j))
+found_within [] (stands x) = let l = value-longer x in (omega arith, value_within x)
+found_within (node ∷ rest) (goes_on leads e) = found_within rest e
+found_within {t} {v} {i} {j} (node ∷ rest) (leads_nowhere {j = k} x never e) = absurd (nowhere_found t v (k - 1) i j node (sym e))
 
-  -- one that is cut
-  pub report_cut : {stop : Stop} → Evaluates document (after_space document 0) path (Cut stop) → text ≡ line_of_error document stop.code stop.place
-      → status ≡ DocumentError → ReportsPath document path text status
-  report_cut goes t s = record { outcome = _; evaluates = goes; line = cut_line t s }
+-- the span of an outcome is one
+span_within : {t : List ℕ} (path : List Node) (o : Outcome) → Leads t path o → WithinEntry t (span_of o)
+span_within path (found i j) l = found_within path l
+span_within path (lacks q) l = tt
+span_within path (fails s) l = tt
+span_within path (cut s) l = tt
 
-pub ruleset paths = (report_value, report_broken, report_failing, report_cut, cut_within)
+-- the line of a value is the line of the entry that it shows
+line_same : {t : List ℕ} {entry : Option Span} {value : Option LazyValue} → WithinEntry t entry → Shows t entry value
+    → line_of_value value ≡ line_of_entry t entry
+line_same w shows_none = refl
+line_same {t} w (shows_span {i} {j} e) = rw (e, part_length t i j w.0 w.1) refl
 
-pub ruleset reports = (no_line, bad_line, one_path)
+-- the lines of values are the lines of the entries that they show
+lines_same : {t : List ℕ} {paths : List Path} {os : List Outcome} {entries : List (Option Span)} {values : List (Option LazyValue)} → AllLead t paths os
+    → entries ≡ map span_of os → ShowAll t entries values → flat_map line_of_value values ≡ flat_map (line_of_entry t) entries
+lines_same leads e no_more_values = refl
+lines_same no_more e (one_more_value s r) = absurd cc
+lines_same {t} (one_more {path} {o = o} {os} l a) e (one_more_value {entry} {entries} s r) =
+    let head : entry ≡ span_of o = cc in
+    let rest : entries ≡ map span_of os = cc in
+    let within : WithinEntry t entry = rw head (span_within path o l) in
+    rw (line_same within s, lines_same a rest r) refl
+
+-- the entries of an answer are the spans of its outcomes
+entries_of : {t : List ℕ} {is_bytes : Bool} {os : List Outcome} {entries : List (Option Span)} → ComeTo t is_bytes os (spans entries) → entries ≡ map span_of os
+entries_of no_path = refl
+entries_of (finding fail cuts reach text e) = e
+
+-- the line of an error is the line of its code and place
+error_same : {document : List ℕ} {told : Error} {code : ErrorCode} {place : ℕ} → IsErrorAt told code document place
+    → error_bytes told ≡ line_of_error document code place
+error_same h = rw (h.code, h.line, h.column, h.offset) refl
+
+module _ {document : List ℕ} {paths : List Path} where
+  -- the lines of the values are the report of the paths
+  pub report_values : {values : List (Option LazyValue)} {text : List ℕ} {status : Status} → AreValues document true paths values
+      → text ≡ flat_map line_of_value values → status ≡ Done → ReportsPaths document paths text status
+  report_values v q s =
+      let same = lines_same v.answer.lead (entries_of v.answer.come_to) v.shown in
+      record { answer = spans v.entries; answers = v.answer; report = entry_lines (q ∙ same) s }
+
+  -- the line of the error is the report of the paths
+  report_stop : {told : Error} {text : List ℕ} {status : Status} → IsRefusal document true paths told → ¬ (error_code told ≡ NoMemory) → text ≡ error_bytes told
+      → status ≡ DocumentError → ReportsPaths document paths text status
+  report_stop (out_of_memory plain) memory q s = absurd (memory plain.code)
+  report_stop (refused stop answers here) memory q s = record { answer = error stop; answers = answers; report = error_line (q ∙ error_same here) s }
+
+  -- so it is, where memory didn't run out
+  pub report_told : (r : Result Reply AllocError) (told : Error) → IsRefusal document true paths told → IfOk r (λ reply. text_of reply ≡ error_bytes told)
+      → IfOk r (λ reply. reply.status ≡ DocumentError) → (error_code told ≡ NoMemory → IsErr r)
+      → IfOk r (λ reply. ReportsPaths document paths (text_of reply) reply.status)
+  report_told (Ok reply) told e q s memory = report_stop e (λ n. let f = memory n in absurd cc) q s
+  report_told (Err none) told e q s memory = tt
+
+-- the report of the paths is the report of the input
+pub report_all : (r : Result Reply AllocError) (input : List ℕ) (paths : List Path) (d : ℕ) → (lines : List (List ℕ)) × (d ≤ length input) × IsHead input 0 lines d × AreLines lines paths
+    → IfOk r (λ reply. ReportsPaths (drop d input) paths (text_of reply) reply.status) → IfOk r (λ reply. IsGetReport input (text_of reply) reply.status)
+report_all (Ok reply) input paths d h p = answered h.2 h.3 p
+report_all (Err none) input paths d h p = tt
+
+pub ruleset reports = (bad_line)

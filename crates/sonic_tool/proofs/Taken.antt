@@ -1,5 +1,5 @@
 -- What a sink took of several pieces.
-use Rattle.std.proofs.Common.{◌≡◌, ℕ, ◌+◌, ◌-◌, ◌<◌, ◌≤◌, min, List, ◌++◌, length, get_or, take, drop, refl, sym, ap, ◌∙◌, arith, append_assoc, take-add, take-append-drop, take_all}
+use Rattle.std.proofs.Common.{◌≡◌, ℕ, ◌+◌, ◌-◌, ◌<◌, min, List, ◌++◌, length, get_or, take, drop, refl, sym, ap, ◌∙◌, arith, append_assoc, take-add, take-append-drop}
 use Rattle.std.specs.Prelude.{Some, None, Ok, Err, OnErr}
 use Rattle.std.specs.declared.result.Result.{Result}
 use Rattle.std.specs.List.{flat_map}
@@ -14,6 +14,11 @@ use Rattle.sonic_tool.specs.Outside.{Took, TookFront}
 pub on_err : {A E : Type 0} (result : Result A E) (P : Type 0) → P → OnErr result P
 on_err (Ok value) P holds = tt
 on_err (Err error) P holds = holds
+
+-- what follows from what holds of an error holds of it
+pub if_err : {A E : Type 0} (result : Result A E) {P Q : Type 0} → (P → Q) → OnErr result P → OnErr result Q
+if_err (Ok value) follows holds = tt
+if_err (Err error) follows holds = follows holds
 
 -- two pieces behind one another are one piece
 append_twice : (known : Option (List ℕ)) (xs ys : List ℕ)
@@ -34,7 +39,7 @@ took_more before between now bytes m n first second =
     ∙ ap (append_known before) (sym (take-add m n bytes))
 
 -- the whole is a front of itself
-took_whole : (before now : Option (List ℕ)) (bytes : List ℕ)
+pub took_whole : (before now : Option (List ℕ)) (bytes : List ℕ)
     → Took before now bytes
     → TookFront before now bytes
 took_whole before now bytes all =
@@ -78,13 +83,21 @@ took_pieces text before between now pieces i d below first (count, second) =
           ∙ ap (λ all. append_known before (take (length head + min count (length body)) all)) (sym whole),
     )
 
--- where all pieces were written, that is a front of them
-pub took_all_pieces : {P : Type 0} (text : P → List ℕ) (before between now : Option (List ℕ))
-    (pieces : List P) (i : ℕ)
-    → length pieces ≤ i
-    → Took before between (flat_map text (take i pieces))
-    → now ≡ between
-    → TookFront before now (flat_map text pieces)
-took_all_pieces text before between now pieces i past taken same =
-    took_whole before now (flat_map text pieces)
-    (same ∙ taken ∙ ap (λ some. append_known before (flat_map text some)) (take_all i pieces past))
+-- a text, and then another, are both
+pub took_behind : (before between now : Option (List ℕ)) (xs ys : List ℕ) → Took before between xs → Took between now ys → Took before now (xs ++ ys)
+took_behind before between now xs ys first second = second ∙ ap (λ known. append_known known ys) first ∙ append_twice before xs ys
+
+-- a front of the first is a front of both
+pub front_of_first : (before now : Option (List ℕ)) (xs ys : List ℕ) → TookFront before now xs → TookFront before now (xs ++ ys)
+front_of_first before now xs ys (count, taken) =
+    (min count (length xs), taken ∙ ap (append_known before) (sym (take-append-le (min count (length xs)) xs ys (omega arith) ∙ take_min count xs)))
+
+-- so is the first and a front of the other
+pub front_of_both : (before between now : Option (List ℕ)) (xs ys : List ℕ) → Took before between xs → TookFront between now ys → TookFront before now (xs ++ ys)
+front_of_both before between now xs ys first (count, second) = (
+  length xs + count,
+  second
+      ∙ ap (λ known. append_known known (take count ys)) first
+      ∙ append_twice before xs (take count ys)
+      ∙ ap (append_known before) (sym (take-append-add xs ys count)),
+)

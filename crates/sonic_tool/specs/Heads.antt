@@ -2,9 +2,6 @@
 use Rattle.std.specs.Prelude.{◌≡◌, ℕ, ◌+◌, ◌<◌, ◌≤◌, ◌==◌, Bool, not, List, [], ◌∷◌, length, drop, slice_range}
 use Rattle.std.specs.List.{prefix_len}
 use Rattle.sonic_text.specs.Places.{after_space}
-use Rattle.sonic_tool.specs.declared.head.Head.{Head}
-use Rattle.sonic_tool.specs.declared.head.Head.TheVariants.{NoLine, OneLine, BadLine}
-use Rattle.sonic_tool.specs.Paths.{IsPathLine}
 
 -- any byte but a line feed
 abbrev pub is_inside_line : ℕ → Bool
@@ -32,14 +29,3 @@ pub data IsHead (t : List ℕ) : ℕ → List (List ℕ) → ℕ → Type 0 wher
   last_line : {i d : ℕ} → ¬ IsBlank t i → line_end t i ≡ length t → d ≡ length t → IsHead t i (line_at t i ∷ []) d
   one_more_line : {i d : ℕ} {lines : List (List ℕ)} → ¬ IsBlank t i → line_end t i < length t → IsHead t (line_end t i + 1) lines d
       → IsHead t i (line_at t i ∷ lines) d
-
--- the first line of a head that is bad has this number, from 1: the first, if it says no path; else the second, if there is one
-pub data IsFirstBad : List (List ℕ) → ℕ → Type 0 where
-  first_line : {n : ℕ} {line : List ℕ} {lines : List (List ℕ)} → ((path : List ℕ) → ¬ IsPathLine line path) → n ≡ 1 → IsFirstBad (line ∷ lines) n
-  second_line : {n : ℕ} {line next path : List ℕ} {lines : List (List ℕ)} → IsPathLine line path → n ≡ 2 → IsFirstBad (line ∷ next ∷ lines) n
-
--- what the head of an input says
-abbrev pub Says : List ℕ → Head → Type 0
-Says t NoLine = (d : ℕ) × IsHead t 0 [] d
-Says t (OneLine path d) = (line : List ℕ) × (d ≤ length t) × IsHead t 0 (line ∷ []) d × IsPathLine line path.items
-Says t (BadLine n) = (lines : List (List ℕ)) × (d : ℕ) × IsHead t 0 lines d × IsFirstBad lines n

@@ -1,7 +1,9 @@
 pub mod Commands
 pub mod Heads
 pub mod Laws
+pub mod Lines
 pub mod Outside
 pub mod Paths
+pub mod Pieces
 pub mod Replies
 pub mod Reports

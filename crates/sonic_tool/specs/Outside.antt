@@ -1,6 +1,4 @@
 use Rattle.std.specs.Prelude.{◌≡◌, ℕ, ◌+◌, ◌-◌, ◌^◌, ◌≤◌, min, List, take}
-use Rattle.std.specs.Borrow.{Bor}
-use Rattle.std.specs.List.{flat_map}
 use Rattle.std.specs.declared.option.Option.{Option}
 use Rattle.std.specs.Io.KnownBytes.{prepend_known, append_known}
 
@@ -19,7 +17,3 @@ Took before now bytes = now ≡ append_known before bytes
 -- a front of these bytes was written behind the others
 abbrev pub TookFront : Option (List ℕ) → Option (List ℕ) → List ℕ → Type 0
 TookFront before now bytes = (count : ℕ) × Took before now (take count bytes)
-
--- the bytes of these pieces, one piece behind the other
-abbrev pub joined_bytes : List (Bor (List ℕ)) → List ℕ
-joined_bytes pieces = flat_map (λ piece. piece.now) pieces

@@ -1,7 +1,7 @@
 -- What a run writes, and the status that it ends with.
-use Rattle.std.specs.Prelude.{◌≡◌, ℕ, ◌-◌, ◌<◌, ◌≤◌, List, [], ◌∷◌, ◌++◌, length, drop, take, slice_range, codes, IfSome, Some}
+use Rattle.std.specs.Prelude.{◌≡◌, ℕ, ◌-◌, ◌<◌, ◌≤◌, true, List, ◌++◌, length, drop, slice_range, codes, IfSome, Some, None}
 use Rattle.std.specs.Fmt.{decimal}
-use Rattle.std.specs.Str.{IsUtf8}
+use Rattle.std.specs.List.{flat_map}
 use Rattle.std.specs.declared.option.Option.{Option}
 use Rattle.sonic_error.specs.declared.code.Category.{Category}
 use Rattle.sonic_error.specs.declared.code.Category.TheVariants.{Io as Outside, Syntax, TypeUnmatched, NotFound, Eof, Memory}
@@ -9,18 +9,16 @@ use Rattle.sonic_error.specs.declared.code.ErrorCode.{ErrorCode}
 use Rattle.sonic_error.specs.declared.code.ErrorCode.TheVariants.{Message, Io, EofWhileParsing, ExpectedColon, ExpectedArrayCommaOrEnd, ExpectedObjectCommaOrEnd, InvalidLiteral, InvalidJsonValue, ExpectedObjectStart, ExpectedArrayStart, InvalidEscape, InvalidNumber, NumberOutOfRange, InvalidUnicodeCodePoint, InvalidUTF8, ControlCharacterWhileParsingString, ExpectObjectKeyOrEnd, TrailingComma, TrailingCharacters, RecursionLimitExceeded, GetInEmptyObject, GetUnknownKeyInObject, GetInEmptyArray, GetIndexOutOfArray, UnexpectedVisitType, InvalidSurrogateUnicodeCodePoint, FloatMustBeFinite, ExpectedNumericKey, ExpectedQuote, SerExpectKeyIsStrOrNum, NoMemory}
 use Rattle.sonic_error.specs.Codes.{category_of}
 use Rattle.sonic_error.specs.Places.{offset_of, line_of, column_of}
-use Rattle.sonic_error.specs.Texts.{valid_up_to}
 use Rattle.sonic_text.specs.declared.stop.Stop.{Stop}
-use Rattle.sonic_text.specs.Places.{after_space}
-use Rattle.sonic_tool.specs.declared.evaluate.Outcome.{Outcome}
-use Rattle.sonic_tool.specs.declared.evaluate.Outcome.TheVariants.{Found, Fails, Cut}
+use Rattle.sonic_pointer.specs.Paths.{Path}
+use Rattle.sonic_lazy.specs.Answers.{Span, Answer, spans, error, IsAnswer}
 use Rattle.sonic_tool.specs.declared.reading.TheConstants.{LIMIT}
 use Rattle.sonic_tool.specs.declared.status.Status.{Status}
 use Rattle.sonic_tool.specs.declared.status.Status.TheVariants.{Done, DocumentError, BadUsage, BadLines, TooLarge}
 use Rattle.sonic_tool.specs.Commands.{IsListed}
-use Rattle.sonic_tool.specs.Heads.{IsHead, IsFirstBad}
+use Rattle.sonic_tool.specs.Heads.{IsHead}
+use Rattle.sonic_tool.specs.Lines.{AreLines, IsFirstBadLine}
 use Rattle.sonic_tool.specs.Outside.{Took, TookFront}
-use Rattle.sonic_tool.specs.Paths.{IsPathLine, Evaluates}
 
 -- the word for a family of errors
 abbrev pub word_of : Category → List ℕ
@@ -75,37 +73,32 @@ abbrev pub line_of_error : List ℕ → ErrorCode → ℕ → List ℕ
 line_of_error document code place =
     codes "! " ++ word_of (category_of code) ++ codes " " ++ name_of code ++ codes " " ++ position_of document place ++ codes "\n"
 
--- the line of a path that leads here
-pub data IsLine (document : List ℕ) : Outcome → List ℕ → Status → Type 0 where
-  -- the length of the value's text, and the text itself, where the document is UTF-8 up to the value's end
-  value_line : {i j : ℕ} {text : List ℕ} {status : Status} → IsUtf8 (take j document)
-      → text ≡ decimal (j - i) ++ codes " " ++ slice_range document i j ++ codes "\n" → status ≡ Done → IsLine document (Found i j) text status
-  -- where it isn't, the first broken place
-  broken_line : {i j : ℕ} {text : List ℕ} {status : Status} → ¬ IsUtf8 (take j document)
-      → text ≡ line_of_error document InvalidUTF8 (valid_up_to (take j document)) → status ≡ DocumentError → IsLine document (Found i j) text status
-  -- the place where the path leads nowhere, though the text fits so far
-  failing_line : {stop : Stop} {text : List ℕ} {status : Status} → text ≡ line_of_error document stop.code stop.place → status ≡ DocumentError
-      → IsLine document (Fails stop) text status
-  -- the text's fault
-  cut_line : {stop : Stop} {text : List ℕ} {status : Status} → text ≡ line_of_error document stop.code stop.place → status ≡ DocumentError
-      → IsLine document (Cut stop) text status
+-- the line of an entry: the length of the value's text, and the text itself, or a dash where a key is lacked
+abbrev pub line_of_entry : List ℕ → Option Span → List ℕ
+line_of_entry document None = codes "-\n"
+line_of_entry document (Some (i, j)) = decimal (j - i) ++ codes " " ++ slice_range document i j ++ codes "\n"
 
--- what `get` writes of a document where it follows this path, from the first byte that is no white space
-pub record ReportsPath (document path text : List ℕ) (status : Status) : Type 0 where
-  pub outcome : Outcome
-  pub evaluates : Evaluates document (after_space document 0) path outcome
-  pub line : IsLine document outcome text status
+-- what `get` writes of an answer: the lines of its entries, or the line of its error
+pub data IsAnswerReport (document : List ℕ) : Answer → List ℕ → Status → Type 0 where
+  entry_lines : {entries : List (Option Span)} {text : List ℕ} {status : Status} → text ≡ flat_map (line_of_entry document) entries → status ≡ Done
+      → IsAnswerReport document (spans entries) text status
+  error_line : {stop : Stop} {text : List ℕ} {status : Status} → text ≡ line_of_error document stop.code stop.place → status ≡ DocumentError
+      → IsAnswerReport document (error stop) text status
+
+-- what `get` writes of a document, in which it follows these paths
+pub record ReportsPaths (document : List ℕ) (paths : List Path) (text : List ℕ) (status : Status) : Type 0 where
+  pub answer : Answer
+  pub answers : IsAnswer document true paths answer
+  pub report : IsAnswerReport document answer text status
 
 -- what `get` writes of an input
 pub data IsGetReport (input : List ℕ) : List ℕ → Status → Type 0 where
-  -- a head without a line asks for nothing, whatever the document is
-  no_line : {d : ℕ} → IsHead input 0 [] d → IsGetReport input [] Done
   -- the first bad line is told by its number
-  bad_line : {lines : List (List ℕ)} {d n : ℕ} {text : List ℕ} → IsHead input 0 lines d → IsFirstBad lines n
+  bad_line : {lines : List (List ℕ)} {d n : ℕ} {text : List ℕ} → IsHead input 0 lines d → IsFirstBadLine lines n
       → text ≡ codes "! paths " ++ decimal n ++ codes "\n" → IsGetReport input text BadLines
-  -- the one path is followed in the document
-  one_path : {line path : List ℕ} {d : ℕ} {text : List ℕ} {status : Status} → IsHead input 0 (line ∷ []) d → IsPathLine line path
-      → ReportsPath (drop d input) path text status → IsGetReport input text status
+  -- the paths are followed in the document
+  answered : {lines : List (List ℕ)} {paths : List Path} {d : ℕ} {text : List ℕ} {status : Status} → IsHead input 0 lines d → AreLines lines paths
+      → ReportsPaths (drop d input) paths text status → IsGetReport input text status
 
 -- what a run with these words writes of an input
 pub data IsReport (words : List (List ℕ)) (input : List ℕ) : List ℕ → Status → Type 0 where

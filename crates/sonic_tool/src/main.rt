@@ -2,11 +2,13 @@
 #![tactic(auto)]
 
 mod edge;
-mod evaluate;
 mod head;
 mod law;
+mod line;
+mod lines;
 mod memory;
 mod path;
+mod pieces;
 mod reading;
 mod reply;
 mod report;
@@ -14,6 +16,7 @@ mod run;
 mod sink;
 mod source;
 mod status;
+mod sure;
 #[cfg(test)]
 mod tests;
 mod writing;

@@ -1,90 +1,51 @@
-ghost use Rattle.std.specs.Prelude.{◌≡◌, ◌++◌, ◌+◌, ◌≤◌, length, string_bytes, slice_range, codes};
+ghost use Rattle.std.specs.Prelude.{◌≡◌};
+ghost use Rattle.std.specs.List.{flat_map};
+ghost use Rattle.sonic_tool.specs.Replies.{line_bytes, text_of};
 
 use crate::status::Status;
 use std::alloc::Global;
 
-// A line, or its front.
+// A line of a report, with its line feed.
 #[derive(Debug, Drop)]
-pub(crate) enum Text {
+pub(crate) enum Line<'i> {
     Fixed(&'static str),
     Made(String),
+    // A front, a text of the input, and a line feed.
+    Value(String, &'i str),
 }
 
-impl Text {
-    ghost use Rattle.sonic_tool.specs.Replies.{text_bytes};
-
-    pub(crate) fn as_bytes(&self) -> &[u8]
-        ensures { result.now ≡ text_bytes self.now }
-    {
-        match self {
-            Text::Fixed(text) => text.as_bytes(),
-            Text::Made(text) => text.as_bytes(),
-        }
-    }
-}
-
-// A report that is ready to be written: a front, a part of the input, and a tail, with the status
-// that goes with them.
+// A report that is ready to be written: its first line, or nothing, and the lines behind it, with
+// the status that goes with them.
 #[derive(Debug, Drop)]
-pub(crate) struct Reply {
+pub(crate) struct Reply<'i> {
     pub(crate) status: Status,
-    pub(crate) front: Text,
-    pub(crate) input: Vec<u8>,
-    pub(crate) start: usize,
-    pub(crate) end: usize,
-    pub(crate) tail: &'static str,
-    ghost ordered: { start ≤ end },
-    ghost within: { end ≤ length input.items },
+    pub(crate) first: Line<'i>,
+    pub(crate) lines: Vec<Line<'i>>,
 }
 
-impl Reply {
-    ghost use Rattle.sonic_tool.specs.Replies.{text_of};
-
-    // A line that is fixed. It takes no memory.
-    pub(crate) fn fixed(alloc: Global, status: Status, line: &'static str) -> Reply
-        ensures text { text_of result ≡ line.entry.now }
+impl<'i> Reply<'i> {
+    // A report of one line. It takes no memory.
+    pub(crate) fn one(alloc: Global, status: Status, first: Line<'i>) -> Reply<'i>
+        ensures text { text_of result ≡ line_bytes first.entry }
         ensures status { result.status ≡ status }
     {
+        let lines = Vec::new(alloc);
         Reply {
             status,
-            front: Text::Fixed(line),
-            input: Vec::new(alloc),
-            start: 0,
-            end: 0,
-            tail: "",
+            first,
+            lines,
         }
     }
 
-    // A line that was made.
-    pub(crate) fn made(alloc: Global, status: Status, line: String) -> Reply
-        ensures text { text_of result ≡ string_bytes line }
-        ensures status { result.status ≡ status }
-    {
-        Reply {
-            status,
-            front: Text::Made(line),
-            input: Vec::new(alloc),
-            start: 0,
-            end: 0,
-            tail: "",
-        }
-    }
-
-    // A line of a front and a value's text, which stands in the input from `start` to `end`.
-    pub(crate) fn value(front: String, input: Vec<u8>, start: usize, end: usize) -> Reply
-        requires ordered { start ≤ end }
-        requires within { end ≤ length input.items }
-        ensures text { text_of result
-            ≡ string_bytes front ++ slice_range input.items start end ++ codes "\n" }
+    // A report of these lines.
+    pub(crate) fn all(lines: Vec<Line<'i>>) -> Reply<'i>
+        ensures text { text_of result ≡ flat_map line_bytes lines.entry.items }
         ensures status { result.status ≡ Status.Done }
     {
         Reply {
             status: Status::Done,
-            front: Text::Made(front),
-            input,
-            start,
-            end,
-            tail: "\n",
+            first: Line::Fixed(""),
+            lines,
         }
     }
 }

@@ -1,88 +1,101 @@
-ghost use Rattle.std.specs.Prelude.{◌≡◌, ◌≤◌, ◌++◌, length, drop, string_bytes, codes, IfOk, IfSome, None};
-ghost use Rattle.std.specs.Str.{IsUtf8};
-ghost use Rattle.sonic_tool.specs.Replies.{text_of};
-ghost use Rattle.sonic_tool.specs.Reports.{IsGetReport, ReportsPath, line_of_error, word_of, name_of};
-ghost use Rattle.sonic_error.specs.Errors.{error_line, error_column, error_offset};
-ghost use Rattle.sonic_error.specs.Texts.{valid_up_to};
+ghost use Rattle.std.specs.Prelude.{◌≡◌, ◌++◌, string_bytes, codes, IfOk, IsErr};
 ghost use Rattle.std.specs.Fmt.{decimal};
+ghost use Rattle.std.specs.List.{flat_map};
+ghost use Rattle.sonic_error.specs.Errors.{error_code, error_line, error_column, error_offset};
+ghost use Rattle.sonic_lazy.specs.LazyValues.{raw_bytes};
+ghost use Rattle.sonic_tool.specs.Replies.{line_bytes, text_of, line_of_value, error_bytes};
+ghost use Rattle.sonic_tool.specs.Reports.{IsGetReport, ReportsPaths, word_of, name_of};
 
-use crate::evaluate::{Outcome, evaluate};
-use crate::head::{Head, read_head};
-use crate::reply::Reply;
+use crate::lines::{Lines, read_lines};
+use crate::reply::{Line, Reply};
 use crate::status::Status;
 use sonic_error::{Category, Error, ErrorCode};
+use sonic_lazy::{LazyValue, get_many};
+use sonic_pointer::PointerTree;
 use std::alloc::{AllocError, Global};
+use std::borrow::CowStr;
 
 // What `get` writes of an input. All memory is taken here.
 #[tactic(auto, using(crate::proofs::Reporting::reports))]
-pub(crate) fn report(alloc: Global, input: Vec<u8>) -> Result<Reply, AllocError>
-    ensures { IfOk result (λ reply. IsGetReport input.items (text_of reply) reply.status) }
+pub(crate) fn report<'i>(alloc: Global, input: &'i [u8]) -> Result<Reply<'i>, AllocError>
+    ensures { IfOk result (λ reply. IsGetReport input.now (text_of reply) reply.status) }
 {
-    match read_head(alloc, &input)? {
-        Head::NoLine => Ok(Reply::fixed(alloc, Status::Done, "")),
-        Head::BadLine(number) => {
+    match read_lines(alloc, input)? {
+        Lines::Paths(tree, document) => report_paths(alloc, &input[document..], &tree),
+        Lines::Bad(number) => {
             let line = format!(in alloc; "! paths {number}\n")?;
-            Ok(Reply::made(alloc, Status::BadLines, line))
+            Ok(Reply::one(alloc, Status::BadLines, Line::Made(line)))
         }
-        Head::OneLine(path, document) => report_path(alloc, input, document, &path),
     }
 }
 
-// What `get` writes of one path in the document that begins at a place.
-#[tactic(auto, using(crate::proofs::Reporting::paths))]
-fn report_path(
+// What `get` writes of a document, in which it follows the paths of a tree.
+fn report_paths<'i>(
     alloc: Global,
-    input: Vec<u8>,
-    document: usize,
-    path: &[usize],
-) -> Result<Reply, AllocError>
-    requires { document ≤ length input.items }
-    ensures { IfOk result (λ reply.
-        ReportsPath (drop document input.items) path.now (text_of reply) reply.status) }
+    document: &'i [u8],
+    tree: &PointerTree,
+) -> Result<Reply<'i>, AllocError>
+    ensures { IfOk result (λ reply. ReportsPaths document.now tree.now (text_of reply) reply.status) }
 {
-    let text = &input[document..];
-    match evaluate(alloc, text, path)? {
-        Outcome::Found(start, end) => match broken_place(&text[..end]) {
-            Some(place) => report_error(alloc, ErrorCode::InvalidUTF8, text, place),
-            None => {
-                let front = format!(in alloc; "{} ", end - start)?;
-                Ok(Reply::value(front, input, document + start, document + end))
-            }
-        },
-        Outcome::Fails(stop) => report_error(alloc, stop.code, text, stop.place),
-        Outcome::Cut(stop) => report_error(alloc, stop.code, text, stop.place),
+    match get_many(alloc, document, tree) {
+        Ok(values) => Ok(Reply::all(value_lines(alloc, values.as_slice())?)),
+        Err(error) => report_error(alloc, &error),
     }
 }
 
-// The first place at which the bytes aren't UTF-8.
-fn broken_place(bytes: &[u8]) -> Option<usize>
-    ensures none { result ≡ None → IsUtf8 bytes.now }
-    ensures some { IfSome result (λ place. ¬ IsUtf8 bytes.now
-        × (place ≡ valid_up_to bytes.now) × (place ≤ length bytes.now)) }
-{
-    match simdutf8::compat::from_utf8(bytes) {
-        Ok(_) => None,
-        Err(error) => Some(error.valid_up_to()),
-    }
-}
-
-// The line that tells an error of the document at a place.
-fn report_error(
+// The lines of the values.
+fn value_lines<'i>(
     alloc: Global,
-    code: ErrorCode,
-    document: &[u8],
-    place: usize,
-) -> Result<Reply, AllocError>
-    requires { place ≤ length document.now }
-    ensures text { IfOk result (λ reply. text_of reply ≡ line_of_error document.now code place) }
+    values: &[Option<LazyValue<'i>>],
+) -> Result<Vec<Line<'i>>, AllocError>
+    ensures { IfOk result (λ lines. flat_map line_bytes lines.items ≡ flat_map line_of_value values.now) }
+{
+    let mut lines = Vec::new(alloc);
+    for value in values {
+        lines.push(value_line(alloc, value)?)?;
+    }
+    Ok(lines)
+}
+
+// The line of a value, or of none.
+fn value_line<'i>(alloc: Global, value: &Option<LazyValue<'i>>) -> Result<Line<'i>, AllocError>
+    ensures { IfOk result (λ line. line_bytes line ≡ line_of_value value.now) }
+{
+    match value {
+        None => Ok(Line::Fixed("-\n")),
+        Some(value) => {
+            let text = value_text(value);
+            let front = format!(in alloc; "{} ", text.len())?;
+            Ok(Line::Value(front, text))
+        }
+    }
+}
+
+// The text of a value, as long as the input lives.
+fn value_text<'i>(value: &LazyValue<'i>) -> &'i str
+    ensures { result.now ≡ raw_bytes value.now }
+{
+    match value.as_raw_cow() {
+        CowStr::Borrowed(text) => text,
+        // A value borrows its text, so this never comes.
+        CowStr::Owned(_) => "",
+    }
+}
+
+// The line that tells an error of the document, unless memory ran out.
+fn report_error<'i>(alloc: Global, error: &Error) -> Result<Reply<'i>, AllocError>
+    ensures text { IfOk result (λ reply. text_of reply ≡ error_bytes error.now) }
     ensures status { IfOk result (λ reply. reply.status ≡ Status.DocumentError) }
+    ensures memory { error_code error.now ≡ ErrorCode.NoMemory → IsErr result }
 {
-    let error = Error::syntax(code, document, place);
+    if let ErrorCode::NoMemory = error.code() {
+        return Err(AllocError);
+    }
     let word = word(error.classify());
-    let name = name(code);
-    let position = position(alloc, &error)?;
+    let name = name(error.code());
+    let position = position(alloc, error)?;
     let line = format!(in alloc; "! {word} {name} {position}\n")?;
-    Ok(Reply::made(alloc, Status::DocumentError, line))
+    Ok(Reply::one(alloc, Status::DocumentError, Line::Made(line)))
 }
 
 // The line, the column and the offset of an error.

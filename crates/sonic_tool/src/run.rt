@@ -1,24 +1,24 @@
-ghost use Rattle.std.specs.Prelude.{◌≡◌, ◌≢◌, ◌⊎◌, ◌+◌, ◌++◌, ◌↔◌, ℕ, List, length, map, string_bytes, codes, IsTrue, IfOk, OnOk, OnErr, IsErrOf, IsOkAnd};
+ghost use Rattle.std.specs.Prelude.{◌≡◌, ◌≢◌, ◌⊎◌, ◌+◌, ◌↔◌, ℕ, List, length, map, string_bytes, codes, IsTrue, IsOk, IfOk, IsErrOf, IsOkAnd};
 ghost use Rattle.std.specs.Io.KnownBytes.{IsAtEnd};
 ghost use Rattle.sonic_tool.specs.declared.reading.TheConstants.{LIMIT};
 ghost use Rattle.sonic_tool.specs.Commands.{IsListed, IsReported, IsOfInput};
-ghost use Rattle.sonic_tool.specs.Outside.{Rose, Gave, Took, TookFront};
-ghost use Rattle.sonic_tool.specs.Replies.{text_of};
-ghost use Rattle.sonic_tool.specs.Reports.{IsReply, IsTheReport, Reports, BreaksOff};
+ghost use Rattle.sonic_tool.specs.Outside.{Rose, Gave};
+ghost use Rattle.sonic_tool.specs.Replies.{text_of, IsAsked, IsAnswered};
+ghost use Rattle.sonic_tool.specs.Reports.{IsTheReport, Reports, BreaksOff};
 
 use crate::reading::{ReadError, read_all};
-use crate::reply::Reply;
+use crate::reply::{Line, Reply};
 use crate::report::report;
 use crate::sink::Sink;
 use crate::source::{Failed, Source};
 use crate::status::Status;
 use crate::writing::deliver;
-use std::alloc::Global;
+use std::alloc::{AllocError, Global};
 
 /// Reads the whole input, and writes its report.
 ///
 /// `words` are the words of the command line behind the program's name. No word and the one word
-/// `get` are the command that follows the path of the input's head; all others are answered by
+/// `get` are the command that follows the paths of the input's head; all others are answered by
 /// `! usage`, and the source isn't read. All memory is taken before the first byte is written.
 pub fn run<S: Source, K: Sink>(
     alloc: Global,
@@ -49,41 +49,32 @@ pub fn run<S: Source, K: Sink>(
     ensures large { result ≡ Status.TooLarge → (bytes : List ℕ) × (length bytes ≡ LIMIT + 1)
         × Gave (S.left source.old) (S.left source.new) bytes }
 {
-    let reply = match prepare(alloc, words, source) {
-        Ok(reply) => reply,
+    let request = match prepare(alloc, words, source) {
+        Ok(request) => request,
         Err(Unprepared::Fault) => return Status::ReadFault,
         Err(Unprepared::Memory) => return Status::NoMemory,
     };
-    match send(sink, &reply) {
+    let Ok(reply) = answer(alloc, &request) else {
+        return Status::NoMemory;
+    };
+    match deliver(sink, &reply) {
         Ok(()) => reply.status,
         Err(Failed) => Status::WriteFault,
     }
 }
 
-// Writes a report, and finishes the sink.
-fn send<K: Sink>(sink: &mut K, reply: &Reply) -> Result<(), Failed>
-    ensures all { OnOk result (Took (K.written sink.old) (K.written sink.new) (text_of reply.now)) }
-    ensures front { OnErr result (TookFront (K.written sink.old) (K.written sink.new) (text_of reply.now)) }
-    ensures cause { OnErr result (Rose (K.faults sink.old) (K.faults sink.new)) }
-{
-    let front = reply.front.as_bytes();
-    let value = &reply.input[reply.start..reply.end];
-    let tail = reply.tail.as_bytes();
-    send_parts(sink, front, value, tail)
+// What is to be answered.
+#[derive(Drop)]
+enum Request {
+    // Words that are no command.
+    Usage,
+    // More bytes than an input may have.
+    Large,
+    // An input that was read to its end.
+    Input(Vec<u8>),
 }
 
-// Writes three parts one behind the other, and finishes the sink.
-fn send_parts<K: Sink>(sink: &mut K, front: &[u8], value: &[u8], tail: &[u8]) -> Result<(), Failed>
-    ensures all { OnOk result
-        (Took (K.written sink.old) (K.written sink.new) (front.now ++ value.now ++ tail.now)) }
-    ensures broken { OnErr result
-        (TookFront (K.written sink.old) (K.written sink.new) (front.now ++ value.now ++ tail.now)) }
-    ensures cause { OnErr result (Rose (K.faults sink.old) (K.faults sink.new)) }
-{
-    deliver(sink, &[front, value, tail])
-}
-
-// Why there is no report to write.
+// Why there is nothing to answer.
 #[derive(Clone, Copy)]
 enum Unprepared {
     // A read failed.
@@ -92,31 +83,38 @@ enum Unprepared {
     Memory,
 }
 
-// Reads the input and makes its report. All memory that a run takes is taken here.
-#[tactic(auto, using(crate::proofs::Replies::replies))]
-fn prepare<S: Source>(alloc: Global, words: &[String], source: &mut S) -> Result<Reply, Unprepared>
-    ensures reply { IfOk result (λ reply.
-        IsReply (map string_bytes words.now) (S.left source.old) (text_of reply) reply.status) }
-    ensures ending { IfOk result (λ reply. IsReported reply.status) }
+// Looks at the words, and reads the input.
+fn prepare<S: Source>(
+    alloc: Global,
+    words: &[String],
+    source: &mut S,
+) -> Result<Request, Unprepared>
+    ensures asked { IfOk result
+        (IsAsked (map string_bytes words.now) (S.left source.old) (S.left source.new)) }
     ensures cause { IsErrOf result Unprepared.Fault → Rose (S.faults source.old) (S.faults source.new) }
     ensures unlisted { ¬ IsListed (map string_bytes words.now) → (source.new ≡ source.old)
-        × IsOkAnd result (λ reply. reply.status ≡ Status.BadUsage) }
-    ensures listed { IfOk result (λ reply. reply.status ≡ Status.BadUsage → ¬ IsListed (map string_bytes words.now)) }
-    ensures whole { IfOk result (λ reply. IsOfInput reply.status → IsAtEnd (S.left source.new)) }
-    ensures large { IfOk result (λ reply. reply.status ≡ Status.TooLarge → (bytes : List ℕ)
-        × (length bytes ≡ LIMIT + 1) × Gave (S.left source.old) (S.left source.new) bytes) }
+        × IsOkAnd result (λ request. request ≡ Request.Usage) }
 {
     if !is_listed(words) {
-        return Ok(Reply::fixed(alloc, Status::BadUsage, "! usage\n"));
+        return Ok(Request::Usage);
     }
     match read_all(alloc, source) {
-        Ok(input) => match report(alloc, input) {
-            Ok(reply) => Ok(reply),
-            Err(_) => Err(Unprepared::Memory),
-        },
-        Err(ReadError::TooLarge) => Ok(Reply::fixed(alloc, Status::TooLarge, "! large\n")),
+        Ok(input) => Ok(Request::Input(input)),
+        Err(ReadError::TooLarge) => Ok(Request::Large),
         Err(ReadError::Fault) => Err(Unprepared::Fault),
         Err(ReadError::Memory) => Err(Unprepared::Memory),
+    }
+}
+
+// Makes the report. All memory that it takes is taken here.
+fn answer<'i>(alloc: Global, request: &'i Request) -> Result<Reply<'i>, AllocError>
+    ensures answered { IfOk result (λ reply. IsAnswered request.now (text_of reply) reply.status) }
+    ensures usage { request.now ≡ Request.Usage → IsOk result }
+{
+    match request {
+        Request::Usage => Ok(Reply::one(alloc, Status::BadUsage, Line::Fixed("! usage\n"))),
+        Request::Large => Ok(Reply::one(alloc, Status::TooLarge, Line::Fixed("! large\n"))),
+        Request::Input(input) => report(alloc, input),
     }
 }
 

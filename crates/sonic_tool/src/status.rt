@@ -1,7 +1,7 @@
 /// How a run ended, by the number that the process ends with.
 #[derive(Clone, Copy, Debug, PartialEq, Eq)]
 pub enum Status {
-    /// The path leads to a value, or there is no path, and the report is written.
+    /// Each path leads to a value or lacks its key, and the report is written.
     Done = 0,
     /// The report is the one line of an error of the document.
     DocumentError = 1,

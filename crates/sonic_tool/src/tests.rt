@@ -1,5 +1,6 @@
 // What no clause says: rows from outside, that calls succeed where nothing is wrong, and the edge.
 mod documents;
 mod faults;
+mod lines;
 mod outside;
 mod rows;

@@ -1,139 +1,189 @@
-// Where paths lead in documents, with places: expected values by the grammar, not by the program.
-use crate::evaluate::{Outcome, evaluate};
-use sonic_error::{ErrorCode, JsonType, Note, Wanted};
-use sonic_text::Stop;
+// Where paths lead in documents: expected values by the grammar, not by the program.
+use super::rows::check_run;
+use crate::status::Status;
 use std::alloc::Global;
 use std::process::Abort;
 use std::test::Fail;
 
-// A document, a path, and the span that it leads to.
-type Found = (&'static [u8], &'static [usize], (usize, usize));
+// An input, and its report.
+type Row = (&'static [u8], &'static str);
 
-const FOUND: [Found; 22] = [
-    (b"null", &[], (0, 4)),
-    (b"true,", &[], (0, 4)),
-    (b"falsehood", &[], (0, 5)),
-    (b"-0", &[], (0, 2)),
-    (b"120 ", &[], (0, 3)),
-    (b"-1.50e+7,", &[], (0, 8)),
-    (b"[\"]\",1]", &[1], (5, 6)),
-    (b"[]", &[], (0, 2)),
-    (b"\n [7]", &[], (2, 5)),
-    (b"\n [7]", &[0], (3, 4)),
-    (b"[ 1 , [ 2 ] ]", &[1], (6, 11)),
-    (b"[ 1 , [ 2 ] ]", &[1, 0], (8, 9)),
-    (b"[0,1,2,", &[2], (5, 6)),
-    (b"{}", &[], (0, 2)),
-    (b"{ \n} }", &[], (0, 4)),
-    (b"{\"a\":1}]", &[], (0, 7)),
-    (b"{\"\" :{ } , \"\":[{}]}", &[], (0, 19)),
-    (b"{\"}\\\"\":[\"]\"]}", &[], (0, 13)),
-    (b"[{},{\"k\" : [ ] , \"k\":2}]", &[1], (4, 23)),
-    (b"[{\"k\":[1,2]},[3,{}]]", &[1, 1], (16, 18)),
-    (b"[[{\"k\":0}],", &[0, 0], (2, 9)),
-    (b"[{\"\\ud83d\\ude00\":0},5", &[1], (20, 21)),
+// One path of indexes that leads to a value.
+const FOUND: [Row; 22] = [
+    (b"[]\n\nnull", "4 null\n"),
+    (b"[]\n\ntrue,", "4 true\n"),
+    (b"[]\n\nfalsehood", "5 false\n"),
+    (b"[]\n\n-0", "2 -0\n"),
+    (b"[]\n\n120 ", "3 120\n"),
+    (b"[]\n\n-1.50e+7,", "8 -1.50e+7\n"),
+    (b"[1]\n\n[\"]\",1]", "1 1\n"),
+    (b"[]\n\n[]", "2 []\n"),
+    (b"[]\n\n\n [7]", "3 [7]\n"),
+    (b"[0]\n\n\n [7]", "1 7\n"),
+    (b"[1]\n\n[ 1 , [ 2 ] ]", "5 [ 2 ]\n"),
+    (b"[1,0]\n\n[ 1 , [ 2 ] ]", "1 2\n"),
+    (b"[2]\n\n[0,1,2,", "1 2\n"),
+    (b"[]\n\n{}", "2 {}\n"),
+    (b"[]\n\n{ \n} }", "4 { \n}\n"),
+    (b"[]\n\n{\"a\":1}]", "7 {\"a\":1}\n"),
+    (
+        b"[]\n\n{\"\" :{ } , \"\":[{}]}",
+        "19 {\"\" :{ } , \"\":[{}]}\n",
+    ),
+    (b"[]\n\n{\"}\\\"\":[\"]\"]}", "13 {\"}\\\"\":[\"]\"]}\n"),
+    (
+        b"[1]\n\n[{},{\"k\" : [ ] , \"k\":2}]",
+        "19 {\"k\" : [ ] , \"k\":2}\n",
+    ),
+    (b"[1,1]\n\n[{\"k\":[1,2]},[3,{}]]", "2 {}\n"),
+    (b"[0,0]\n\n[[{\"k\":0}],", "7 {\"k\":0}\n"),
+    (b"[1]\n\n[{\"\\ud83d\\ude00\":0},5", "1 5\n"),
 ];
 
-fn check(
-    rt: &impl Abort,
-    alloc: Global,
-    text: &[u8],
-    path: &[usize],
-    outcome: Outcome,
-) -> Result<(), Fail> {
-    assert_eq!(rt; evaluate(alloc, text, path)?, outcome, "{text:?}");
+// One that leads nowhere, though the text fits so far.
+const FAILING: [Row; 14] = [
+    (b"[0]\n\n[]", "! not-found GetInEmptyArray 1 2 1\n"),
+    (b"[7]\n\n[ \n]", "! not-found GetInEmptyArray 2 1 3\n"),
+    (b"[1]\n\n[1]", "! not-found GetIndexOutOfArray 1 3 2\n"),
+    (b"[2]\n\n[1, 2 ]", "! not-found GetIndexOutOfArray 1 7 6\n"),
+    (b"[0,0]\n\n[[],[4]]", "! not-found GetInEmptyArray 1 3 2\n"),
+    (b"[1]\n\n[{}]", "! not-found GetIndexOutOfArray 1 4 3\n"),
+    (
+        b"[1]\n\n[{\"a\":[0,1]}]",
+        "! not-found GetIndexOutOfArray 1 13 12\n",
+    ),
+    (b"[0]\n\n 12", "! type Message 1 3 2\n"),
+    (b"[0]\n\nnull", "! type Message 1 4 3\n"),
+    (b"[0]\n\n\"abc\"", "! type Message 1 5 4\n"),
+    (b"[0,0]\n\n[true]", "! type Message 1 5 4\n"),
+    (b"[0]\n\n{}", "! type Message 1 2 1\n"),
+    (b"[0]\n\n{\"a\":[1]}", "! type Message 1 9 8\n"),
+    (b"[0,0]\n\n[{\"a\":0}]", "! type Message 1 8 7\n"),
+];
+
+// One that is cut by the fault of the text.
+const CUT: [Row; 31] = [
+    (b"[]\n\n", "! eof EofWhileParsing 1 1 0\n"),
+    (b"[0]\n\n \n", "! eof EofWhileParsing 1 2 1\n"),
+    (b"[]\n\n}", "! syntax InvalidJsonValue 1 1 0\n"),
+    (b"[]\n\n\xef\xbb\xbf1", "! syntax InvalidJsonValue 1 1 0\n"),
+    (b"[0]\n\ntr", "! eof EofWhileParsing 1 2 1\n"),
+    (b"[]\n\ntrUe", "! syntax InvalidLiteral 1 3 2\n"),
+    (b"[0]\n\n[fals]", "! syntax InvalidLiteral 1 6 5\n"),
+    (b"[]\n\n-", "! eof EofWhileParsing 1 1 0\n"),
+    (b"[]\n\n-a", "! syntax InvalidNumber 1 2 1\n"),
+    (b"[]\n\n01.5", "! syntax InvalidNumber 1 2 1\n"),
+    (b"[]\n\n-00", "! syntax InvalidNumber 1 3 2\n"),
+    (b"[]\n\n0.x", "! syntax InvalidNumber 1 3 2\n"),
+    (b"[]\n\n-0E", "! eof EofWhileParsing 1 3 2\n"),
+    (b"[0]\n\n12e+]", "! syntax InvalidNumber 1 5 4\n"),
+    (b"[]\n\n\"", "! eof EofWhileParsing 1 1 0\n"),
+    (
+        b"[]\n\n\"a\x1f\"",
+        "! syntax ControlCharacterWhileParsingString 1 3 2\n",
+    ),
+    (b"[0]\n\n[\"\\x\"]", "! syntax InvalidEscape 1 4 3\n"),
+    (b"[0]\n\n[", "! eof EofWhileParsing 1 1 0\n"),
+    (b"[0]\n\n[,", "! syntax InvalidJsonValue 1 2 1\n"),
+    (b"[1]\n\n[1", "! eof EofWhileParsing 1 2 1\n"),
+    (b"[1]\n\n[1 ;", "! syntax ExpectedArrayCommaOrEnd 1 4 3\n"),
+    (b"[1]\n\n[1,", "! eof EofWhileParsing 1 3 2\n"),
+    (b"[1]\n\n[1, ]", "! syntax InvalidJsonValue 1 5 4\n"),
+    (b"[]\n\n[1}", "! syntax ExpectedArrayCommaOrEnd 1 3 2\n"),
+    (
+        b"[1]\n\n[[1][2]]",
+        "! syntax ExpectedArrayCommaOrEnd 1 5 4\n",
+    ),
+    (b"[1]\n\n[{}", "! eof EofWhileParsing 1 3 2\n"),
+    (b"[0]\n\n{", "! eof EofWhileParsing 1 1 0\n"),
+    (b"[0]\n\n{\"a\":1", "! eof EofWhileParsing 1 6 5\n"),
+    (b"[0]\n\n[{]", "! syntax ExpectObjectKeyOrEnd 1 3 2\n"),
+    (b"[1]\n\n[{\"a\" 1},5]", "! syntax ExpectedColon 1 7 6\n"),
+    (
+        b"[1]\n\n[{\"a\":1],5]",
+        "! syntax ExpectedObjectCommaOrEnd 1 8 7\n",
+    ),
+];
+
+// Paths that lead to values, or lack a key of a whole text.
+const MANY: [Row; 5] = [
+    (
+        b"[\"u\"]\n[\"unknown_key\"]\n[\"a\",\"b\",\"c\",1]\n\n\n{\"u\": 123, \"a\": {\"b\" : {\"c\": [null, \"found\"]}}}",
+        "3 123\n-\n7 \"found\"\n",
+    ),
+    (b"\n}{", ""),
+    (
+        b"[\"a\"]\n[\"b\"]\n\n{\"a\":1,\"a\":2,\"b\":3}",
+        "1 1\n1 3\n",
+    ),
+    (b"[\"a\"]\n[\"a\"]\n\n{\"a\":1,", "1 1\n1 1\n"),
+    (
+        b"[\"user\",\"id\"]\n[\"user\",\"name\"]\n[\"tags\",0]\n[\"meta\",\"trace\"]\n\n{\n  \"ts\": \"2024-05-01T12:00:00Z\",\n  \"user\": { \"id\": 42, \"name\": \"Zo\\u00eb\" },\n  \"tags\": [\"api\", \"v2\"],\n  \"meta\": { \"ms\": 12.5 }\n}\n",
+        "2 42\n10 \"Zo\\u00eb\"\n5 \"api\"\n-\n",
+    ),
+];
+
+// Paths of which one leads nowhere or is cut.
+const REFUSED: [Row; 7] = [
+    (b"[\"b\"]\n\n{\"a\":1\n", "! eof EofWhileParsing 1 7 6\n"),
+    (b"[0,\"z\"]\n\n[{\"a\":1},", "! eof EofWhileParsing 1 9 8\n"),
+    (
+        b"[\"a\",\"x\"]\n[\"b\"]\n\n{\"a\":{},\"b\":tru}",
+        "! not-found GetInEmptyObject 1 7 6\n",
+    ),
+    (
+        b"[\"a\",0]\n\n{\"a\": -12.5e3 , \"b\":[",
+        "! type Message 1 13 12\n",
+    ),
+    (
+        b"[\"a\"]\n\n{ xx \"a\":1}",
+        "! syntax ExpectObjectKeyOrEnd 1 3 2\n",
+    ),
+    (b"[\"a\"]", "! eof EofWhileParsing 1 1 0\n"),
+    (b"[0]\n[1]\n\n[]", "! not-found GetInEmptyArray 1 2 1\n"),
+];
+
+// Lines that mix keys and indexes.
+const BAD: [Row; 3] = [
+    (b"[\"a\"]\n[0]\n\n{\"a\":1}", "! paths 2\n"),
+    (b"[\"a\"]\n[0]\n\n", "! paths 2\n"),
+    (b"[\"a\"]\n[0]\n\n}", "! paths 2\n"),
+];
+
+// Runs over each input, and compares.
+fn check(rt: &impl Abort, alloc: Global, rows: &[Row], ending: Status) -> Result<(), Fail> {
+    for (input, output) in rows {
+        check_run(rt, alloc, &[], input, output, ending)?;
+    }
     Ok(())
 }
 
 #[test]
 fn finds_values(rt: HostRuntime) -> Result<(), Fail> {
-    let alloc = rt.alloc();
-    for (text, path, (start, end)) in FOUND {
-        check(&rt, alloc, text, path, Outcome::Found(start, end))?;
-    }
-    Ok(())
-}
-
-// A document, a path, and the place and the code of the stop.
-type Stopped = (&'static [u8], &'static [usize], usize, ErrorCode);
-
-// The value is of this kind, and an array was wanted.
-const fn mismatch(found: JsonType) -> ErrorCode {
-    let wanted = Wanted::Array;
-    ErrorCode::Message(Note::Mismatch { found, wanted })
+    check(&rt, rt.alloc(), &FOUND, Status::Done)
 }
 
 #[test]
 fn fails_where_no_element_is(rt: HostRuntime) -> Result<(), Fail> {
-    let alloc = rt.alloc();
-    let table: [Stopped; 14] = [
-        (b"[]", &[0], 1, ErrorCode::GetInEmptyArray),
-        (b"[ \n]", &[7], 3, ErrorCode::GetInEmptyArray),
-        (b"[1]", &[1], 2, ErrorCode::GetIndexOutOfArray),
-        (b"[1, 2 ]", &[2], 6, ErrorCode::GetIndexOutOfArray),
-        (b"[[],[4]]", &[0, 0], 2, ErrorCode::GetInEmptyArray),
-        (b"[{}]", &[1], 3, ErrorCode::GetIndexOutOfArray),
-        (b"[{\"a\":[0,1]}]", &[1], 12, ErrorCode::GetIndexOutOfArray),
-        (b" 12", &[0], 2, mismatch(JsonType::Number)),
-        (b"null", &[0], 3, mismatch(JsonType::Null)),
-        (b"\"abc\"", &[0], 4, mismatch(JsonType::String)),
-        (b"[true]", &[0, 0], 4, mismatch(JsonType::Boolean)),
-        (b"{}", &[0], 1, mismatch(JsonType::Object)),
-        (b"{\"a\":[1]}", &[0], 8, mismatch(JsonType::Object)),
-        (b"[{\"a\":0}]", &[0, 0], 7, mismatch(JsonType::Object)),
-    ];
-    for (text, path, place, code) in table {
-        let outcome = Outcome::Fails(Stop { place, code });
-        check(&rt, alloc, text, path, outcome)?;
-    }
-    Ok(())
+    check(&rt, rt.alloc(), &FAILING, Status::DocumentError)
 }
 
 #[test]
 fn is_cut_at_the_first_byte_that_does_not_fit(rt: HostRuntime) -> Result<(), Fail> {
-    let alloc = rt.alloc();
-    let control = ErrorCode::ControlCharacterWhileParsingString;
-    let table: [Stopped; 31] = [
-        (b"", &[], 0, ErrorCode::EofWhileParsing),
-        (b" \n", &[0], 2, ErrorCode::EofWhileParsing),
-        (b"}", &[], 0, ErrorCode::InvalidJsonValue),
-        (b"\xef\xbb\xbf1", &[], 0, ErrorCode::InvalidJsonValue),
-        (b"tr", &[0], 2, ErrorCode::EofWhileParsing),
-        (b"trUe", &[], 2, ErrorCode::InvalidLiteral),
-        (b"[fals]", &[0], 5, ErrorCode::InvalidLiteral),
-        (b"-", &[], 1, ErrorCode::EofWhileParsing),
-        (b"-a", &[], 1, ErrorCode::InvalidNumber),
-        (b"01.5", &[], 1, ErrorCode::InvalidNumber),
-        (b"-00", &[], 2, ErrorCode::InvalidNumber),
-        (b"0.x", &[], 2, ErrorCode::InvalidNumber),
-        (b"-0E", &[], 3, ErrorCode::EofWhileParsing),
-        (b"12e+]", &[0], 4, ErrorCode::InvalidNumber),
-        (b"\"", &[], 1, ErrorCode::EofWhileParsing),
-        (b"\"a\x1f\"", &[], 2, control),
-        (b"[\"\\x\"]", &[0], 3, ErrorCode::InvalidEscape),
-        (b"[", &[0], 1, ErrorCode::EofWhileParsing),
-        (b"[,", &[0], 1, ErrorCode::InvalidJsonValue),
-        (b"[1", &[1], 2, ErrorCode::EofWhileParsing),
-        (b"[1 ;", &[1], 3, ErrorCode::ExpectedArrayCommaOrEnd),
-        (b"[1,", &[1], 3, ErrorCode::EofWhileParsing),
-        (b"[1, ]", &[1], 4, ErrorCode::InvalidJsonValue),
-        (b"[1}", &[], 2, ErrorCode::ExpectedArrayCommaOrEnd),
-        (b"[[1][2]]", &[1], 4, ErrorCode::ExpectedArrayCommaOrEnd),
-        (b"[{}", &[1], 3, ErrorCode::EofWhileParsing),
-        (b"{", &[0], 1, ErrorCode::EofWhileParsing),
-        (b"{\"a\":1", &[0], 6, ErrorCode::EofWhileParsing),
-        (b"[{]", &[0], 2, ErrorCode::ExpectObjectKeyOrEnd),
-        (b"[{\"a\" 1},5]", &[1], 6, ErrorCode::ExpectedColon),
-        (
-            b"[{\"a\":1],5]",
-            &[1],
-            7,
-            ErrorCode::ExpectedObjectCommaOrEnd,
-        ),
-    ];
-    for (text, path, place, code) in table {
-        let outcome = Outcome::Cut(Stop { place, code });
-        check(&rt, alloc, text, path, outcome)?;
-    }
-    Ok(())
+    check(&rt, rt.alloc(), &CUT, Status::DocumentError)
+}
+
+#[test]
+fn answers_many_paths(rt: HostRuntime) -> Result<(), Fail> {
+    check(&rt, rt.alloc(), &MANY, Status::Done)
+}
+
+#[test]
+fn tells_the_one_error_of_many_paths(rt: HostRuntime) -> Result<(), Fail> {
+    check(&rt, rt.alloc(), &REFUSED, Status::DocumentError)
+}
+
+#[test]
+fn refuses_lines_that_mix(rt: HostRuntime) -> Result<(), Fail> {
+    check(&rt, rt.alloc(), &BAD, Status::BadLines)
 }

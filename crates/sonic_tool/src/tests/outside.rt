@@ -3,8 +3,9 @@
 use crate::edge::{InputSource, OutputSink};
 use crate::memory::{MemorySink, SureSink, SureSource};
 use crate::reading::{ReadError, read_all};
+use crate::sink::Sink;
 use crate::source::Failed;
-use crate::writing::deliver;
+use crate::writing::write_all;
 use std::alloc::Global;
 use std::io;
 use std::io::{ErrorKind, Read, Write};
@@ -105,6 +106,14 @@ fn reads_from_a_reader(rt: HostRuntime) -> Result<(), Fail> {
     check_input(&rt, alloc, 1, ErrorKind::Other)?;
     check_input(&rt, alloc, 2, ErrorKind::Interrupted)?;
     check_input(&rt, alloc, 4, ErrorKind::WouldBlock)
+}
+
+// Writes the pieces, and finishes the sink.
+fn deliver<K: Sink>(sink: &mut K, pieces: &[&[u8]]) -> Result<(), Failed> {
+    for piece in pieces {
+        write_all(sink, piece)?;
+    }
+    sink.finish()
 }
 
 // What `writer` has taken, and how the delivery of `[7]` in two pieces ends.

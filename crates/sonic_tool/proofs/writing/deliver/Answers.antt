@@ -1,14 +1,17 @@
-use Rattle.sonic_tool.proofs.Taken.{on_err, took_pieces, took_all_pieces}
+use Rattle.std.proofs.Common.{◌∙◌}
+use Rattle.sonic_tool.proofs.Taken.{on_err, took_behind, took_whole, front_of_first, front_of_both}
 use Rattle.sonic_tool.proofs.writing.deliver.Goals as goal
 
-pub returns-in_err-write_all-clause-front : goal.returns-in_err-write_all-clause-front
-returns-in_err-write_all-clause-front g c =
-    on_err c.from_residual.result _
-    (took_pieces (λ piece. piece.now) _ _ _ c.args.pieces.now c.loop-piece.piece-index _
-    c.loop-piece-test.true c.loop-piece.invariant.taken c.in_err-write_all.ensures.front)
+pub returns-in_err-write_line-clause-front : goal.returns-in_err-write_line-clause-front
+returns-in_err-write_line-clause-front g c = on_err c.from_residual.result _ (front_of_first _ _ _ _ c.in_err-write_line.ensures.front)
+
+pub returns-in_err-write_lines-clause-front : goal.returns-in_err-write_lines-clause-front
+returns-in_err-write_lines-clause-front g c =
+    on_err c.from_residual-in_err-write_lines.result _
+    (front_of_both _ _ _ _ _ c.in_ok-write_line.ensures.all (rw c.deref.ensures.value at c.in_err-write_lines.ensures.front))
 
 pub returns-clause-front : goal.returns-clause-front
 returns-clause-front g c =
     on_err c.finish.result _
-    (took_all_pieces (λ piece. piece.now) _ _ _ c.args.pieces.now c.loop-piece.piece-index
-    c.loop-piece-test.false c.loop-piece.invariant.taken c.finish.ensures.kept)
+    (took_whole _ _ _ (c.finish.ensures.kept
+    ∙ took_behind _ _ _ _ _ c.in_ok-write_line.ensures.all (rw c.deref.ensures.value at c.in_ok-write_lines.ensures.all)))

@@ -1,0 +1,108 @@
+-- The span of a value in a text is a whole value.
+use Rattle.std.proofs.Common.{◌≡◌, ◌≢◌, ◌↔◌, ℕ, ◌+◌, ◌-◌, ◌<◌, ◌≤◌, Bool, false, List, length, take, drop, codes, add-zero, arith}
+use Rattle.std.specs.Prelude.{IsTrue, slice_range}
+use Rattle.std.specs.Str.{IsUtf8, IsCharBoundary}
+use Rattle.std.proofs.lemmas.List.{get_or-take, length-take, drop-take, take-take}
+use Rattle.std.proofs.lemmas.Str.{IsUtf8-between, IsCharBoundary-after_ascii}
+use Rattle.sonic_text.specs.Literals.{IsLiteral}
+use Rattle.sonic_text.specs.Places.{byte}
+use Rattle.sonic_text.specs.declared.stop.Stop.{Stop}
+use Rattle.sonic_text.specs.Strings.{strict, IsString, IsStringFault}
+use Rattle.sonic_text.specs.Faults.IsFault.{string_fault}
+use Rattle.sonic_parser.specs.Parsers.{IsEscapedString}
+use Rattle.sonic_lazy.specs.Wholes.{IsWholeValue}
+use Rattle.sonic_text.specs.Values.{IsValue}
+use Rattle.sonic_text.specs.Values.IsValue.{null_literal, true_literal, false_literal, number, string, empty_array, array, empty_object, object}
+use Rattle.sonic_text.proofs.Ascii.{number_ascii}
+use Rattle.sonic_text.proofs.Numbers.{number_longer}
+use Rattle.sonic_text.proofs.Values.{value-longer, value_end_one, value_never_both, elements_open, members_open}
+use Rattle.sonic_text.proofs.ValueParts.{value_of_part}
+
+-- the first and the last byte of a value are ASCII
+abbrev AreEndsAscii : List ℕ → ℕ → ℕ → Type 0
+AreEndsAscii t i j = (byte t i < 128) × (byte t (j - 1) < 128)
+
+-- the ends of a word
+word_ends : (word t : List ℕ) (i j : ℕ) → 0 < length word → byte word 0 < 128 → byte word (length word - 1) < 128 → IsLiteral word t i j → AreEndsAscii t i j
+word_ends word t i j some first last h =
+    let a : byte t (i + 0) ≡ byte word 0 = h.0.1 0 some in
+    let b : byte t (i + (length word - 1)) ≡ byte word (length word - 1) = h.0.1 (length word - 1) (omega arith) in
+    let q : i + (length word - 1) ≡ j - 1 = omega (arith, h.1) in
+    let c : byte t i ≡ byte word 0 = rw add-zero at a in
+    let d : byte t (j - 1) ≡ byte word (length word - 1) = rw q at b in
+    (omega (arith, c), omega (arith, d))
+
+-- the last byte, where it is the one at a place
+last_at : (t : List ℕ) (q j b : ℕ) → j ≡ q + 1 → byte t q ≡ b → b < 128 → byte t (j - 1) < 128
+last_at t q j b e c l = let p : j - 1 ≡ q = omega arith in rw (p, c) l
+
+-- the ends of a value
+value_ends : {t : List ℕ} {i j : ℕ} → IsValue strict t i j → AreEndsAscii t i j
+value_ends {t} {i} {j} (null_literal h) = word_ends (codes "null") t i j (omega arith) (omega arith) (omega arith) h
+value_ends {t} {i} {j} (true_literal h) = word_ends (codes "true") t i j (omega arith) (omega arith) (omega arith) h
+value_ends {t} {i} {j} (false_literal h) = word_ends (codes "false") t i j (omega arith) (omega arith) (omega arith) h
+value_ends {t} {i} {j} (number h) =
+    let l = number_longer h in
+    (number_ascii t i j h i (omega arith) l, number_ascii t i j h (j - 1) (omega arith) (omega arith))
+value_ends {t} {i} {j} (string h) = (omega (arith, h.opens), last_at t h.close j 34 h.end h.closes (omega arith))
+value_ends {t} {i} {j} (empty_array b c q) = (omega (arith, b), last_at t _ j 93 q c (omega arith))
+value_ends {t} {i} {j} (array es x c q) = (omega (arith, elements_open es), last_at t _ j 93 q c (omega arith))
+value_ends {t} {i} {j} (empty_object b c q) = (omega (arith, b), last_at t _ j 125 q c (omega arith))
+value_ends {t} {i} {j} (object ms y x c q) = (omega (arith, members_open ms), last_at t _ j 125 q c (omega arith))
+
+-- a part of UTF-8 text that begins and ends with ASCII bytes is UTF-8
+utf8_between : (b : List ℕ) (i j : ℕ) → IsUtf8 b → i < j → j ≤ length b → byte b i < 128 → byte b (j - 1) < 128 → IsUtf8 (slice_range b i j)
+utf8_between b i j u l within first last =
+    let behind : IsCharBoundary b (j - 1 + 1) = IsCharBoundary-after_ascii b (j - 1) u (omega arith) last in
+    let p : j - 1 + 1 ≡ j = omega arith in
+    IsUtf8-between b i j u (omega arith) (omega arith, λ m h. absurd (omega arith)) (rw p at behind)
+
+-- a part of a front is one of the whole
+part_of_front : (t : List ℕ) (r i j : ℕ) → i ≤ j → j ≤ r → slice_range (take r t) i j ≡ slice_range t i j
+part_of_front t r i j l h =
+    let e : i + (r - i) ≡ r = omega arith in
+    let f : drop i (take (i + (r - i)) t) ≡ take (r - i) (drop i t) = drop-take i (r - i) t in
+    let d : drop i (take r t) ≡ take (r - i) (drop i t) = rw e at f in
+    rw d (take-take (j - i) (r - i) (drop i t) (omega arith))
+
+-- the span of a value is UTF-8 where a front of the text is that it lies in
+pub utf8_of_span : {t : List ℕ} {i j : ℕ} (r : ℕ) → IsUtf8 (take r t) → IsValue strict t i j → j ≤ r → j ≤ length t → IsUtf8 (slice_range t i j)
+utf8_of_span {t} {i} {j} r u x h within =
+    let l = value-longer x in
+    let ends = value_ends x in
+    let long : j ≤ length (take r t) = omega (arith, length-take r t) in
+    let a : byte (take r t) i ≡ byte t i = get_or-take r t i 0 (omega arith) in
+    let b : byte (take r t) (j - 1) ≡ byte t (j - 1) = get_or-take r t (j - 1) 0 (omega arith) in
+    let part : IsUtf8 (slice_range (take r t) i j) = utf8_between (take r t) i j u l long (omega (arith, a, ends.0)) (omega (arith, b, ends.1)) in
+    let same : slice_range (take r t) i j ≡ slice_range t i j = part_of_front t r i j (omega arith) h in
+    rw (← same) part
+
+-- what begins with a quote and is a value is a string
+pub escaped_yes : {b : List ℕ} {e : ℕ} {c : List ℕ} (is : Bool) → IsValue strict b 0 (length b) → byte b 0 ≡ 34 → IsString strict b 0 e c
+    → (IsTrue is ↔ ((k : ℕ) × (0 < k) × (k + 1 < e) × (byte b k ≡ 92))) → IsTrue is ↔ IsEscapedString b 0 (length b)
+escaped_yes {b} {e} is x q s h =
+    let same : e ≡ length b = value_end_one (string s) x in
+    let g : IsTrue is ↔ ((k : ℕ) × (0 < k) × (k + 1 < length b) × (byte b k ≡ 92)) = rw same at h in
+    (λ y. let z = g.0 y in (q, z.0, z.1, z.2, z.3), λ y. g.1 (y.1, y.2, y.3, y.4))
+
+-- so it has no fault
+pub escaped_never : {b : List ℕ} {s : Stop} (is : Bool) → IsValue strict b 0 (length b) → byte b 0 ≡ 34 → IsStringFault strict b 0 s
+    → IsTrue is ↔ IsEscapedString b 0 (length b)
+escaped_never is x q f = absurd (value_never_both x (string_fault q f))
+
+-- what doesn't is no string
+pub escaped_no : (b : List ℕ) (is : Bool) → is ≡ false → byte b 0 ≢ 34 → IsTrue is ↔ IsEscapedString b 0 (length b)
+escaped_no b is e d = (λ y. absurd (let f = y in cc), λ y. absurd (d y.0))
+
+pub ruleset escaped = (escaped_yes, escaped_never, escaped_no)
+
+-- the part is a whole value
+pub whole_of_span : {t b : List ℕ} {i j : ℕ} {is : Bool} → b ≡ slice_range t i j → IsUtf8 (slice_range t i j)
+    → (IsTrue is ↔ IsEscapedString b 0 (length b)) → IsValue strict t i j → j ≤ length t → IsWholeValue b is
+whole_of_span e u m x within = record { value = rw e (value_of_part x within); utf8 = rw e u; mark = m }
+
+-- and a value from end to end
+pub value_of_span : {t b : List ℕ} {i j : ℕ} → b ≡ slice_range t i j → IsValue strict t i j → j ≤ length t → IsValue strict b 0 (length b)
+value_of_span e x within = rw e (value_of_part x within)
+
+pub ruleset entries = (whole_of_span, value_of_span, value-longer)

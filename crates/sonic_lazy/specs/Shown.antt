@@ -1,0 +1,33 @@
+-- Which lazy values show the spans of an answer.
+use Rattle.std.specs.Prelude.{◌≡◌, ℕ, Bool, List, [], ◌∷◌, slice_range, map, option_map}
+use Rattle.std.specs.declared.option.Option.{Option}
+use Rattle.std.specs.declared.option.Option.TheVariants.{Some, None}
+use Rattle.sonic_text.specs.Trees.{Node}
+use Rattle.sonic_lazy.specs.declared.lazyvalue.LazyValue.{LazyValue}
+use Rattle.sonic_lazy.specs.Answers.{Span, IsAnswer, spans}
+use Rattle.sonic_lazy.specs.LazyValues.{raw_bytes}
+
+-- the value shows the span, or none shows none
+pub data Shows (t : List ℕ) : Option Span → Option LazyValue → Type 0 where
+  shows_none : Shows t None None
+  shows_span : {i j : ℕ} {value : LazyValue} → raw_bytes value ≡ slice_range t i j → Shows t (Some (i, j)) (Some value)
+
+-- the values show the entries one by one
+pub data ShowAll (t : List ℕ) : List (Option Span) → List (Option LazyValue) → Type 0 where
+  no_more_values : ShowAll t [] []
+  one_more_value : {entry : Option Span} {entries : List (Option Span)} {value : Option LazyValue} {values : List (Option LazyValue)} → Shows t entry value
+      → ShowAll t entries values → ShowAll t (entry ∷ entries) (value ∷ values)
+
+-- the values are the answer of the paths
+pub record AreValues (t : List ℕ) (is_bytes : Bool) (paths : List (List Node)) (values : List (Option LazyValue)) : Type 0 where
+  pub entries : List (Option Span)
+  pub answer : IsAnswer t is_bytes paths (spans entries)
+  pub shown : ShowAll t entries values
+
+-- the bytes of a span
+abbrev pub span_text : List ℕ → Span → List ℕ
+span_text t span = slice_range t span.0 span.1
+
+-- the values have the texts of the spans, one by one, and there is none where there is no span
+abbrev pub HaveTexts : List ℕ → List (Option LazyValue) → List (Option Span) → Type 0
+HaveTexts t values entries = map (option_map raw_bytes) values ≡ map (option_map (span_text t)) entries

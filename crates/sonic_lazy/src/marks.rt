@@ -1,0 +1,59 @@
+// Which children of a tree's place were met.
+ghost use Rattle.std.specs.Prelude.{◌≡◌, ◌<◌, ◌+◌, ℕ, Some, true, false, length, set, slice_get, IfOk};
+ghost use Rattle.sonic_lazy.specs.Walks.{SomeOpen};
+
+use std::alloc::{AllocError, Global};
+use std::marker::Model;
+
+// A mark for each child, and how many have none.
+#[derive(Drop)]
+pub(crate) struct Marks {
+    met: Vec<bool>,
+    left: usize,
+}
+
+impl Model for Marks {
+    ghost use Rattle.std.specs.Prelude.{◌≡◌, Bool, List, count_by, not};
+
+    ghost Value = { List Bool };
+
+    ghost view = { λ marks. marks.met.items };
+
+    ghost invariant = { λ marks. marks.left ≡ count_by not marks.met.items };
+}
+
+impl Marks {
+    // No child is met yet.
+    pub(crate) fn new(alloc: Global, count: usize) -> Result<Marks, AllocError>
+        ensures long { IfOk result (λ marks. length marks ≡ count) }
+        ensures none { IfOk result (λ marks. (c : ℕ) → c < count → slice_get marks c ≡ Some false) }
+    {
+        let met = vec![in alloc; false; count]?;
+        Ok(Marks { met, left: count })
+    }
+
+    // Whether the child is met.
+    pub(crate) fn is_met(&self, child: usize) -> bool
+        requires { child < length self.now }
+        ensures { slice_get self.now child ≡ Some result }
+    {
+        self.met[child]
+    }
+
+    // Meets a child.
+    pub(crate) fn meet(&mut self, child: usize)
+        requires { slice_get self.old child ≡ Some false }
+        ensures { self.new ≡ set self.old child true }
+    {
+        self.left -= 1;
+        self.met[child] = true;
+    }
+
+    // Whether each child is met.
+    pub(crate) fn is_done(&self) -> bool
+        ensures done { result ≡ true → ¬ SomeOpen self.now }
+        ensures open { result ≡ false → SomeOpen self.now }
+    {
+        self.left == 0
+    }
+}

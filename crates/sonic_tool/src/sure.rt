@@ -1,0 +1,21 @@
+// Runs that no fault stops.
+ghost use Rattle.std.specs.Prelude.{◌≡◌, ◌⊎◌, ◌≤◌, ℕ, List, map, string_bytes};
+ghost use Rattle.sonic_tool.specs.Reports.{IsReport};
+
+use crate::memory::{SureSink, SureSource};
+use crate::run::run;
+use crate::status::Status;
+use std::alloc::Global;
+
+/// Runs over an input that is read by pieces of at most `piece` bytes, and a sink that takes
+/// everything.
+///
+/// Only want of memory keeps such a run from the status of its report.
+pub fn run_surely(alloc: Global, words: &[String], input: Vec<u8>, piece: usize) -> Status
+    requires { 1 ≤ piece }
+    ensures { (text : List ℕ) (status : Status) → IsReport (map string_bytes words.now) input.items text status
+        → (result ≡ status) ⊎ (result ≡ Status.NoMemory) }
+{
+    let mut source = SureSource::new(input, piece);
+    run(alloc, words, &mut source, &mut SureSink::new())
+}
