@@ -19,13 +19,12 @@ use Rattle.sonic_text.specs.Faults.IsKeyFault.{key_fault}
 use Rattle.sonic_text.specs.Faults.IsFault.{no_value, null_fault, true_fault, false_fault, number_fault, string_fault}
 use Rattle.sonic_text.specs.Faults.IsFault.{in_element, behind_element, in_key, in_member, behind_member}
 use Rattle.sonic_text.proofs.Numbers.{number_begins}
-use Rattle.sonic_text.proofs.Values.{elements_open, members_open, elements_not_empty, members_not_empty}
+use Rattle.sonic_text.proofs.Values.{first_letter, elements_open, members_open, elements_not_empty, members_not_empty}
 use Rattle.sonic_pointer.specs.Nodes.{is_key}
 use Rattle.sonic_lazy.specs.Paths.{Outcome, fails, kind_at, nowhere, LeadsOn}
 use Rattle.sonic_lazy.specs.Paths.LeadsOn.{to_member, to_element}
 use Rattle.sonic_lazy.specs.Paths.Evaluates.{leads_nowhere}
 use Rattle.sonic_lazy.specs.Walks.{Fits, members_fit, elements_fit, opening, closing, IsNoEntry, fails_there, cut_there}
-use Rattle.sonic_lazy.proofs.Nodes.{first_letter}
 
 -- a value that begins with a quote is a string
 pub string_of : {t : List ℕ} {i j : ℕ} → IsValue strict t i j → byte t i ≡ 34 → (b : List ℕ) × IsString strict t i j b

@@ -1,5 +1,5 @@
 -- A node leads on to one place or to none.
-use Rattle.std.proofs.Common.{◌≡◌, ◌≢◌, ◌⊎◌, inl, inr, ℕ, zero, suc, ◌+◌, ◌<◌, List, Bool, true, false, length, codes, add-zero, arith, refl}
+use Rattle.std.proofs.Common.{◌≡◌, ◌≢◌, ◌⊎◌, inl, inr, ℕ, zero, suc, ◌+◌, ◌<◌, List, Bool, true, false, codes, arith, refl}
 use Rattle.std.proofs.Common.{Decides}
 use Rattle.std.specs.Str.{bytes_eq}
 use Rattle.std.proofs.lemmas.Bool.{cases_eq, cases_order}
@@ -11,7 +11,6 @@ use Rattle.sonic_text.specs.Trees.{Node, key, index}
 use Rattle.sonic_text.specs.Values.{IsValue, IsKey, ElementsFit, MembersFit}
 use Rattle.sonic_text.specs.Values.ElementsFit.{first_element, next_element}
 use Rattle.sonic_text.specs.Values.MembersFit.{first_member, next_member}
-use Rattle.sonic_text.specs.Literals.{IsLiteral}
 use Rattle.sonic_text.specs.Numbers.{IsNumber}
 use Rattle.sonic_text.specs.Values.IsValue.{null_literal, true_literal, false_literal, number, string, empty_array, array, empty_object, object}
 use Rattle.sonic_text.specs.Faults.{IsFault, IsKeyFault}
@@ -20,7 +19,7 @@ use Rattle.sonic_text.specs.Faults.IsFault.{in_element, behind_element, in_key, 
 use Rattle.sonic_text.proofs.Numbers.{number_begins}
 use Rattle.sonic_text.proofs.Objects.{key_one, key_never_both}
 use Rattle.sonic_text.proofs.Outcomes.{value_some_outcome}
-use Rattle.sonic_text.proofs.Values.{elements_not_empty, elements_open, elements_before, elements_one}
+use Rattle.sonic_text.proofs.Values.{first_letter, elements_not_empty, elements_open, elements_before, elements_one}
 use Rattle.sonic_text.proofs.Values.{members_not_empty, members_open, members_before, members_one, value_end_one, value_never_both}
 use Rattle.sonic_lazy.specs.Paths.{NoneHas, IsFirstMember, LeadsOn}
 use Rattle.sonic_lazy.specs.Paths.LeadsOn.{to_member, to_element}
@@ -160,10 +159,6 @@ last_or_none {t} {i} {n} {h} {v} {b} {k} none y further = elim (text_or_other b 
 -- what is no object has no member
 no_object : {t : List ℕ} {i : ℕ} (k : List ℕ) → byte t i ≢ 123 → MemberOrNone t i k
 no_object k b = inr (λ v f. b (members_open f.before.fit))
-
--- a word begins with its first letter
-pub first_letter : (word t : List ℕ) (i : ℕ) {j : ℕ} → 0 < length word → IsLiteral word t i j → byte t i ≡ byte word 0
-first_letter word t i l h = rw add-zero at (h.0.1 0 l)
 
 -- a number doesn't begin as an object does
 number_no_object : {t : List ℕ} {i j : ℕ} → IsNumber t i j → byte t i ≢ 123

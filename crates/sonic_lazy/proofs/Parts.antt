@@ -18,10 +18,10 @@ use Rattle.sonic_text.proofs.Numbers.{number_begins}
 use Rattle.sonic_text.proofs.Objects.{key_one, key_never_both}
 use Rattle.sonic_text.proofs.Places.{after_space_later}
 use Rattle.sonic_text.proofs.Values.{key-longer, value-longer, elements-later, members-later, elements_not_empty, elements_open, elements_one}
-use Rattle.sonic_text.proofs.Values.{members_not_empty, members_open, members_one, value_end_one, value_never_both}
+use Rattle.sonic_text.proofs.Values.{first_letter, members_not_empty, members_open, members_one, value_end_one, value_never_both}
 use Rattle.sonic_lazy.specs.Paths.{LeadsOn}
 use Rattle.sonic_lazy.specs.Paths.LeadsOn.{to_member, to_element}
-use Rattle.sonic_lazy.proofs.Nodes.{first_letter, not_past_fault, not_past_bad, not_past_key, not_past_value, not_past_byte}
+use Rattle.sonic_lazy.proofs.Nodes.{not_past_fault, not_past_bad, not_past_key, not_past_value, not_past_byte}
 use Rattle.sonic_lazy.proofs.Within.{value_within, elements_within, members_within, key_within, bad_from, key_fault_from, fault_from}
 
 -- a fault of the value to which a node leads is one of the container

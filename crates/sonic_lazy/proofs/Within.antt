@@ -1,6 +1,5 @@
 -- What stands in a text ends within it, and a fault lies at or behind the place where a value is due.
 use Rattle.std.proofs.Common.{◌≡◌, ◌≢◌, inl, inr, ℕ, ◌+◌, ◌≤◌, List, Bool, true, false, length, drop, nat_lt, if◌then◌else◌, arith, refl}
-use Rattle.std.proofs.lemmas.Bool.Decides.{nat_tests}
 use Rattle.std.proofs.lemmas.List.{length-drop}
 use Rattle.std.proofs.lemmas.List.Sums.{prefix_len-le-length}
 use Rattle.std.specs.Char.{is_ascii_digit}
@@ -20,10 +19,9 @@ use Rattle.sonic_text.specs.Faults.{IsKeyFault, IsFault}
 use Rattle.sonic_text.specs.Faults.IsKeyFault.{no_quote, key_fault, no_colon}
 use Rattle.sonic_text.specs.Faults.IsFault.{no_value, null_fault, true_fault, false_fault, number_fault, string_fault}
 use Rattle.sonic_text.specs.Faults.IsFault.{in_element, behind_element, in_key, in_member, behind_member}
-use Rattle.sonic_text.proofs.Numbers.{int_longer}
-use Rattle.sonic_text.proofs.Places.{after_space_later, byte_within, digits_end_later}
-use Rattle.sonic_text.proofs.Strings.{string_longer}
-use Rattle.sonic_text.proofs.Unescaping.{chars_later}
+use Rattle.sonic_text.proofs.Numbers.{int_longer, after_minus_later, after_sign_later, fraction_later}
+use Rattle.sonic_text.proofs.Places.{after_space_later, byte_within}
+use Rattle.sonic_text.proofs.Strings.{chars_later, string_longer}
 use Rattle.sonic_text.proofs.Values.{key-longer, value-longer, elements-later, members-later}
 
 -- white space ends within the text
@@ -105,18 +103,6 @@ by_test p n i c d false l m e = m
 -- a stop at p, or at the text's end, lies at or behind each place of the text that p lies at or behind
 pub bad_from : (t : List ℕ) (p : ℕ) (code : ErrorCode) (s : Stop) {i : ℕ} → s ≡ bad t p code → i ≤ p → i ≤ length t → i ≤ s.place
 bad_from t p code s {i} e l m = rw e (by_test p (length t) i code EofWhileParsing (nat_lt p (length t)) l m refl)
-
--- a minus sign leads on
-after_minus_later : (t : List ℕ) (i : ℕ) → i ≤ after_minus t i
-after_minus_later t i = grind (arith, nat_tests)
-
--- a sign leads on
-after_sign_later : (t : List ℕ) (i : ℕ) → i ≤ after_sign t i
-after_sign_later t i = grind (arith, nat_tests)
-
--- a fraction leads on or is empty
-fraction_later : (t : List ℕ) (i j : ℕ) → IsFraction t i j → i ≤ j
-fraction_later t i j h = grind (arith, digits_end_later t (i + 1))
 
 -- the fault of a number lies at or behind its beginning
 number_fault_from : {t : List ℕ} {i : ℕ} {s : Stop} → IsNumberFault t i s → i ≤ length t → i ≤ s.place

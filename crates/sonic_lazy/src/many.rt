@@ -36,7 +36,8 @@ pub(crate) fn find_many<'de, I: JsonInput<'de>>(
         → IfErr result (λ error. IsPlainError error ErrorCode.NoMemory) }
 {
     let text = json.to_u8_slice();
-    match answer(alloc, Read::from(json), json.need_utf8_valid(), tree) {
+    let read = Read::unmarked(json.to_json_slice());
+    match answer(alloc, read, json.need_utf8_valid(), tree) {
         Ok(spans) => Ok(spans),
         Err(WalkError::Memory) => Err(Error::plain(ErrorCode::NoMemory)),
         Err(WalkError::At(stop)) => Err(Error::syntax(stop.code, text, stop.place)),

@@ -21,7 +21,7 @@ module _ {t u : List ℕ} {d : ℕ} (part : IsPart t u d) where
   sign_part p q e l = rw (byte_part part p q e l, e) (either (byte t (d + q) == 43 || byte t (d + q) == 45) d q)
 
   -- an integer
-  int_part : (p q j k : ℕ) → p ≡ d + q → j ≡ d + k → k ≤ length u → IsInt t p j → IsInt u q k
+  pub int_part : (p q j k : ℕ) → p ≡ d + q → j ≡ d + k → k ≤ length u → IsInt t p j → IsInt u q k
   int_part p q j k e f l (inl h) =
       inl (byte_part part p q e (omega (arith, h.2)) ∙ h.0, no_digit_part part (p + 1) (q + 1) (omega arith) h.1, omega (arith, h.2))
   int_part p q j k e f l (inr h) =

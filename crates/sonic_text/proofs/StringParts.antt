@@ -5,7 +5,9 @@ use Rattle.sonic_text.specs.Strings.{IsEscape, IsUnicodeChar, IsChar, AreChars, 
 use Rattle.sonic_text.specs.Strings.IsUnicodeChar.{scalar, pair, lone_high, lone_low}
 use Rattle.sonic_text.specs.Strings.IsChar.{unescaped, short_escape, unicode_escape}
 use Rattle.sonic_text.specs.Strings.AreChars.{no_char, one_more}
-use Rattle.sonic_text.proofs.Unescaping.{char_longer, chars_later, escape_within}
+use Rattle.sonic_text.proofs.Escapes.{char_longer}
+use Rattle.sonic_text.proofs.Strings.{chars_later}
+use Rattle.sonic_text.proofs.Unescaping.{escape_within}
 use Rattle.sonic_text.proofs.Parts.{IsPart, byte_part}
 
 -- the n bytes from p on in t are those from q on in u

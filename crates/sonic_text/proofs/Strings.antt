@@ -56,8 +56,8 @@ stuck_control o q b (unicode_escape h k) = absurd (omega arith)
 stuck_escape : {m : Bool} {t : List ℕ} {k : ℕ} {s : Stop} → byte t k ≡ 92 → IsEscapeFault m t k s → Stuck m t k
 stuck_escape o f q b h = char_never o h f
 
--- chars lead on
-chars_later : {m : Bool} {t : List ℕ} {i k : ℕ} {b : List ℕ} → AreChars m t i k b → i ≤ k
+-- chars lead on, or there is none
+pub chars_later : {m : Bool} {t : List ℕ} {i k : ℕ} {b : List ℕ} → AreChars m t i k b → i ≤ k
 chars_later (no_char e f) = omega arith
 chars_later (one_more h c e) = let l = chars_later h in let n = char_longer c in omega arith
 

@@ -11,23 +11,8 @@ use Rattle.sonic_text.specs.Strings.{escaped, replacement, IsEscape, IsHigh, IsL
 use Rattle.sonic_text.proofs.Places.{byte_within}
 use Rattle.sonic_text.proofs.HexLemmas.{hex4_within}
 use Rattle.sonic_text.proofs.Codepoints.{one_byte}
-
--- a char leads on
-unicode_longer : {m : Bool} {t : List ℕ} {p n q : ℕ} {b : List ℕ} → IsUnicodeChar m t p n q b → p < q
-unicode_longer (IsUnicodeChar.scalar h l e x) = omega arith
-unicode_longer (IsUnicodeChar.pair h g l e x) = omega arith
-unicode_longer (IsUnicodeChar.lone_high m h n e x) = omega arith
-unicode_longer (IsUnicodeChar.lone_low m h e x) = omega arith
-
-pub char_longer : {m : Bool} {t : List ℕ} {p q : ℕ} {b : List ℕ} → IsChar m t p q b → p < q
-char_longer (IsChar.unescaped u e x) = omega arith
-char_longer (IsChar.short_escape u c e x) = omega arith
-char_longer (IsChar.unicode_escape e u) = unicode_longer u
-
--- chars lead on, or there is none
-pub chars_later : {m : Bool} {t : List ℕ} {i k : ℕ} {b : List ℕ} → AreChars m t i k b → i ≤ k
-chars_later (AreChars.no_char e x) = omega arith
-chars_later (AreChars.one_more us u x) = omega (arith, chars_later us, char_longer u)
+use Rattle.sonic_text.proofs.Escapes.{char_longer}
+use Rattle.sonic_text.proofs.Strings.{chars_later}
 
 -- the first of some chars, and those behind it
 record IsFirst (m : Bool) (t : List ℕ) (i k : ℕ) (b : List ℕ) : Type 0 where

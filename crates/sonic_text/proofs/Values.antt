@@ -216,8 +216,8 @@ record Viewed (m : Bool) (t : List ℕ) (i : ℕ) (r : Result ℕ Stop) : Type 0
   begins : Begins kind (byte t i)
   view : View kind m t i r
 
--- a word that stands at i begins there
-first_letter : (word t : List ℕ) (i : ℕ) {j : ℕ} → 0 < length word → IsLiteral word t i j → byte t i ≡ byte word 0
+-- a word that stands at i begins there with its first letter
+pub first_letter : (word t : List ℕ) (i : ℕ) {j : ℕ} → 0 < length word → IsLiteral word t i j → byte t i ≡ byte word 0
 first_letter word t i l h = rw add-zero at (h.0.1 0 l)
 
 -- an outcome of an array is one of a kind

@@ -1,3 +1,4 @@
+pub mod Completing
 pub mod Given
 pub mod Heads
 pub mod Indexes

@@ -7,6 +7,7 @@ use Rattle.std.proofs.lemmas.Str.{IsUtf8-from_is_utf8, is_utf8-from_IsUtf8}
 use Rattle.sonic_text.specs.Places.{byte, after_space}
 use Rattle.sonic_text.specs.Strings.{strict}
 use Rattle.sonic_text.specs.Trees.{Node, key, index}
+use Rattle.sonic_text.proofs.Numbers.{int_longer}
 use Rattle.sonic_text.proofs.Places.{after_space_later, byte_within}
 use Rattle.sonic_text.proofs.Strings.{string_longer, string_some}
 use Rattle.sonic_pointer.specs.Nodes.{is_key}
@@ -15,7 +16,6 @@ use Rattle.sonic_tool.specs.Lines.{IsNodeAt, NodesStand, IsNodeArray, IsNodeLine
 use Rattle.sonic_tool.specs.Lines.IsNodeAt.{key_node, index_node}
 use Rattle.sonic_tool.specs.Lines.NodesStand.{one_node, more_nodes}
 use Rattle.sonic_tool.specs.Lines.IsNodeArray.{no_node, nodes}
-use Rattle.sonic_tool.proofs.Indexes.{int_longer}
 use Rattle.sonic_tool.proofs.OneLine.{index_or_none}
 use Rattle.sonic_tool.proofs.LineNodes.{no_string_node, no_index_node, node_first, continues, nodes_behind_comma, comma_or_close, some_node, node_array_one}
 

@@ -1,6 +1,6 @@
 -- What the parts of a report give.
 use Rattle.std.proofs.Common.{◌≡◌, ◌≢◌, ℕ, ◌+◌, ◌-◌, ◌≤◌, Bool, true, List, [], ◌∷◌, length, map, drop, arith, refl, sym, if◌then◌else◌, false, ◌∙◌, Result, Ok, Err}
-use Rattle.std.specs.Prelude.{◌==◌, ◌&&◌, IfOk, IsErr}
+use Rattle.std.specs.Prelude.{◌==◌, ◌&&◌, IfOk, IsErr, slice_range}
 use Rattle.std.specs.List.{flat_map}
 use Rattle.std.specs.declared.alloc.AllocError.{AllocError}
 use Rattle.std.specs.declared.option.Option.{Option}
@@ -12,6 +12,7 @@ use Rattle.sonic_error.specs.Errors.{error_code, IsErrorAt}
 use Rattle.sonic_text.specs.declared.stop.Stop.{Stop}
 use Rattle.sonic_text.specs.Places.{byte, after_space}
 use Rattle.sonic_text.specs.Trees.{Node, key, index}
+use Rattle.sonic_text.proofs.Parts.{part_length}
 use Rattle.sonic_text.proofs.Values.{value-longer}
 use Rattle.sonic_pointer.specs.Paths.{Path}
 use Rattle.sonic_lazy.specs.declared.lazyvalue.LazyValue.{LazyValue}
@@ -30,7 +31,6 @@ use Rattle.sonic_tool.specs.Replies.{text_of, line_of_value, error_bytes}
 use Rattle.sonic_tool.specs.Reports.{IsGetReport, ReportsPaths, line_of_entry, line_of_error}
 use Rattle.sonic_tool.specs.Reports.IsAnswerReport.{entry_lines, error_line}
 use Rattle.sonic_tool.specs.Reports.IsGetReport.{bad_line, answered}
-use Rattle.sonic_tool.proofs.Indexes.{part_length}
 
 -- a span of the text is in order and within it
 abbrev WithinEntry : List ℕ → Option Span → Type 0
@@ -78,7 +78,7 @@ span_within path (cut s) l = tt
 line_same : {t : List ℕ} {entry : Option Span} {value : Option LazyValue} → WithinEntry t entry → Shows t entry value
     → line_of_value value ≡ line_of_entry t entry
 line_same w shows_none = refl
-line_same {t} w (shows_span {i} {j} e) = rw (e, part_length t i j w.0 w.1) refl
+line_same {t} w (shows_span {i} {j} e) = let long : length (slice_range t i j) ≡ j - i = omega (arith, part_length t i j w.0 w.1) in rw (e, long) refl
 
 -- the lines of values are the lines of the entries that they show
 lines_same : {t : List ℕ} {paths : List Path} {os : List Outcome} {entries : List (Option Span)} {values : List (Option LazyValue)} → AllLead t paths os

@@ -1,4 +1,5 @@
 pub mod Commands
+pub mod Complete
 pub mod Heads
 pub mod Laws
 pub mod Lines

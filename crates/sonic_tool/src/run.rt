@@ -1,7 +1,8 @@
-ghost use Rattle.std.specs.Prelude.{◌≡◌, ◌≢◌, ◌⊎◌, ◌+◌, ◌↔◌, ℕ, List, length, map, string_bytes, codes, IsTrue, IsOk, IfOk, IsErrOf, IsOkAnd};
+ghost use Rattle.std.specs.Prelude.{◌≡◌, ◌≢◌, ◌⊎◌, ◌+◌, ◌↔◌, ℕ, List, length, map, string_bytes, codes, Some, IsTrue, IsOk, IfOk, IsErrOf, IsOkAnd};
 ghost use Rattle.std.specs.Io.KnownBytes.{IsAtEnd};
 ghost use Rattle.sonic_tool.specs.declared.reading.TheConstants.{LIMIT};
 ghost use Rattle.sonic_tool.specs.Commands.{IsListed, IsReported, IsOfInput};
+ghost use Rattle.sonic_tool.specs.Complete.{IsAnswerableInput};
 ghost use Rattle.sonic_tool.specs.Outside.{Rose, Gave};
 ghost use Rattle.sonic_tool.specs.Replies.{text_of, IsAsked, IsAnswered};
 ghost use Rattle.sonic_tool.specs.Reports.{IsTheReport, Reports, BreaksOff};
@@ -31,6 +32,12 @@ pub fn run<S: Source, K: Sink>(
         (S.left source.old) (K.written sink.old) (K.written sink.new) result }
     ensures the_only_one { IsReported result → IsTheReport (map string_bytes words.now)
         (S.left source.old) (K.written sink.old) (K.written sink.new) result }
+
+    // Where each path finds a value or lacks its key, they are told, whatever stands behind.
+    ensures complete { IsReported result → (input : List ℕ) → S.left source.old ≡ Some input
+        → IsListed (map string_bytes words.now) → IsAnswerableInput input → result ≡ Status.Done }
+
+    // After a fault and for want of memory no more than a front of the report was written.
     ensures breaks_off { result ≡ Status.WriteFault → BreaksOff (map string_bytes words.now)
         (S.left source.old) (K.written sink.old) (K.written sink.new) }
     ensures read_fault_is_silent { result ≡ Status.ReadFault → K.written sink.new ≡ K.written sink.old }

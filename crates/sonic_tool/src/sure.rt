@@ -1,5 +1,7 @@
 // Runs that no fault stops.
 ghost use Rattle.std.specs.Prelude.{◌≡◌, ◌⊎◌, ◌≤◌, ℕ, List, map, string_bytes};
+ghost use Rattle.sonic_tool.specs.Commands.{IsListed};
+ghost use Rattle.sonic_tool.specs.Complete.{IsAnswerableInput};
 ghost use Rattle.sonic_tool.specs.Reports.{IsReport};
 
 use crate::memory::{SureSink, SureSource};
@@ -13,8 +15,11 @@ use std::alloc::Global;
 /// Only want of memory keeps such a run from the status of its report.
 pub fn run_surely(alloc: Global, words: &[String], input: Vec<u8>, piece: usize) -> Status
     requires { 1 ≤ piece }
-    ensures { (text : List ℕ) (status : Status) → IsReport (map string_bytes words.now) input.items text status
+    ensures status { (text : List ℕ) (status : Status)
+        → IsReport (map string_bytes words.now) input.items text status
         → (result ≡ status) ⊎ (result ≡ Status.NoMemory) }
+    ensures complete { IsListed (map string_bytes words.now) → IsAnswerableInput input.items
+        → (result ≡ Status.Done) ⊎ (result ≡ Status.NoMemory) }
 {
     let mut source = SureSource::new(input, piece);
     run(alloc, words, &mut source, &mut SureSink::new())

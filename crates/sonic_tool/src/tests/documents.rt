@@ -105,51 +105,6 @@ const CUT: [Row; 31] = [
     ),
 ];
 
-// Paths that lead to values, or lack a key of a whole text.
-const MANY: [Row; 5] = [
-    (
-        b"[\"u\"]\n[\"unknown_key\"]\n[\"a\",\"b\",\"c\",1]\n\n\n{\"u\": 123, \"a\": {\"b\" : {\"c\": [null, \"found\"]}}}",
-        "3 123\n-\n7 \"found\"\n",
-    ),
-    (b"\n}{", ""),
-    (
-        b"[\"a\"]\n[\"b\"]\n\n{\"a\":1,\"a\":2,\"b\":3}",
-        "1 1\n1 3\n",
-    ),
-    (b"[\"a\"]\n[\"a\"]\n\n{\"a\":1,", "1 1\n1 1\n"),
-    (
-        b"[\"user\",\"id\"]\n[\"user\",\"name\"]\n[\"tags\",0]\n[\"meta\",\"trace\"]\n\n{\n  \"ts\": \"2024-05-01T12:00:00Z\",\n  \"user\": { \"id\": 42, \"name\": \"Zo\\u00eb\" },\n  \"tags\": [\"api\", \"v2\"],\n  \"meta\": { \"ms\": 12.5 }\n}\n",
-        "2 42\n10 \"Zo\\u00eb\"\n5 \"api\"\n-\n",
-    ),
-];
-
-// Paths of which one leads nowhere or is cut.
-const REFUSED: [Row; 7] = [
-    (b"[\"b\"]\n\n{\"a\":1\n", "! eof EofWhileParsing 1 7 6\n"),
-    (b"[0,\"z\"]\n\n[{\"a\":1},", "! eof EofWhileParsing 1 9 8\n"),
-    (
-        b"[\"a\",\"x\"]\n[\"b\"]\n\n{\"a\":{},\"b\":tru}",
-        "! not-found GetInEmptyObject 1 7 6\n",
-    ),
-    (
-        b"[\"a\",0]\n\n{\"a\": -12.5e3 , \"b\":[",
-        "! type Message 1 13 12\n",
-    ),
-    (
-        b"[\"a\"]\n\n{ xx \"a\":1}",
-        "! syntax ExpectObjectKeyOrEnd 1 3 2\n",
-    ),
-    (b"[\"a\"]", "! eof EofWhileParsing 1 1 0\n"),
-    (b"[0]\n[1]\n\n[]", "! not-found GetInEmptyArray 1 2 1\n"),
-];
-
-// Lines that mix keys and indexes.
-const BAD: [Row; 3] = [
-    (b"[\"a\"]\n[0]\n\n{\"a\":1}", "! paths 2\n"),
-    (b"[\"a\"]\n[0]\n\n", "! paths 2\n"),
-    (b"[\"a\"]\n[0]\n\n}", "! paths 2\n"),
-];
-
 // Runs over each input, and compares.
 fn check(rt: &impl Abort, alloc: Global, rows: &[Row], ending: Status) -> Result<(), Fail> {
     for (input, output) in rows {
@@ -171,19 +126,4 @@ fn fails_where_no_element_is(rt: HostRuntime) -> Result<(), Fail> {
 #[test]
 fn is_cut_at_the_first_byte_that_does_not_fit(rt: HostRuntime) -> Result<(), Fail> {
     check(&rt, rt.alloc(), &CUT, Status::DocumentError)
-}
-
-#[test]
-fn answers_many_paths(rt: HostRuntime) -> Result<(), Fail> {
-    check(&rt, rt.alloc(), &MANY, Status::Done)
-}
-
-#[test]
-fn tells_the_one_error_of_many_paths(rt: HostRuntime) -> Result<(), Fail> {
-    check(&rt, rt.alloc(), &REFUSED, Status::DocumentError)
-}
-
-#[test]
-fn refuses_lines_that_mix(rt: HostRuntime) -> Result<(), Fail> {
-    check(&rt, rt.alloc(), &BAD, Status::BadLines)
 }

@@ -124,18 +124,23 @@ fn check_bad_line(
     )
 }
 
+// A run that always tells want of memory would meet each clause.
 #[test]
-fn gives_the_value_that_the_path_leads_to(rt: HostRuntime) -> Result<(), Fail> {
-    let alloc = rt.alloc();
-    check(&rt, alloc, PLAIN)?;
+fn ample_memory_suffices(rt: HostRuntime) -> Result<(), Fail> {
+    check(&rt, rt.alloc(), PLAIN)?;
     check(
         &rt,
-        alloc,
+        rt.alloc(),
         Row {
             words: &["get"],
             ..PLAIN
         },
-    )?;
+    )
+}
+
+#[test]
+fn gives_the_value_that_the_path_leads_to(rt: HostRuntime) -> Result<(), Fail> {
+    let alloc = rt.alloc();
     check_input(&rt, alloc, "[0]\n\n[7, {", "1 7\n")?;
     check_input(&rt, alloc, "[]\n\n -5 x", "2 -5\n")?;
     check_input(
@@ -484,7 +489,9 @@ fn refuses_more_than_256_mib(rt: HostRuntime) -> Result<(), Fail> {
     let most = blanks(alloc, 268_435_456)?;
     assert_eq!(rt; status_of(alloc, most)?, Status::Done);
     let large = blanks(alloc, 268_435_457)?;
-    assert_eq!(rt; status_of(alloc, large)?, Status::TooLarge);
+    let (status, text) = written(alloc, large, 99)?;
+    assert_eq!(rt; status, Status::TooLarge);
+    assert_eq!(rt; text.as_slice(), b"! large\n".as_slice());
     Ok(())
 }
 

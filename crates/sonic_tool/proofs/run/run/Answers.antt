@@ -1,5 +1,6 @@
 use Rattle.sonic_tool.specs.Replies.{text_of}
 use Rattle.sonic_tool.proofs.Replies.{prepared}
+use Rattle.sonic_tool.proofs.Completing.{done_only}
 use Rattle.sonic_tool.proofs.OneReport.{the_report}
 use Rattle.sonic_tool.proofs.run.run.Goals as goal
 
@@ -12,6 +13,11 @@ pub returns-in-Ok-deliver-clause-the_only_one : goal.returns-in-Ok-deliver-claus
 returns-in-Ok-deliver-clause-the_only_one g c =
     let p = prepared c.in-Ok.request c.in-Ok.ensures.asked c.in-Ok-answer.ensures.answered in
     λ _. the_report (record { text = text_of c.in-Ok-answer.reply; reply = p.reply; taken = c.in-Ok-deliver.ensures.all })
+
+pub returns-in-Ok-deliver-clause-complete : goal.returns-in-Ok-deliver-clause-complete
+returns-in-Ok-deliver-clause-complete g c =
+    let p = prepared c.in-Ok.request c.in-Ok.ensures.asked c.in-Ok-answer.ensures.answered in
+    λ _. done_only _ _ _ (the_report (record { text = text_of c.in-Ok-answer.reply; reply = p.reply; taken = c.in-Ok-deliver.ensures.all }))
 
 pub returns-in-Ok-deliver-clause-breaks_off : goal.returns-in-Ok-deliver-clause-breaks_off
 returns-in-Ok-deliver-clause-breaks_off g c =

@@ -1,0 +1,129 @@
+// The examples of docs/FORMAT.md, in their order, and the numbers of the statuses.
+use super::rows::check_run;
+use crate::status::Status;
+use std::test::Fail;
+
+// Words, an input, its report, and the status.
+type Example = (&'static [&'static str], &'static [u8], &'static str, Status);
+
+const EXAMPLES: [Example; 18] = [
+    (
+        &[],
+        b"[\"a\"]\n[\"b\",1]\n[\"c\"]\n\n{\"a\": \"x\", \"b\": [2, 30]}",
+        "3 \"x\"\n2 30\n-\n",
+        Status::Done,
+    ),
+    (
+        &["get"],
+        b"[\"a\"]\n[\"b\",1]\n[\"c\"]\n\n{\"a\": \"x\", \"b\": [2, 30]}",
+        "3 \"x\"\n2 30\n-\n",
+        Status::Done,
+    ),
+    (
+        &[],
+        b"[\"a\"]\n[\"a\"]\n\n{\"a\": {\n}, \"a\": 2",
+        "3 {\n}\n3 {\n}\n",
+        Status::Done,
+    ),
+    (&[], b"[]\n\n 1.50 and more", "4 1.50\n", Status::Done),
+    (&[], b"\n}{", "", Status::Done),
+    (&[], b"", "", Status::Done),
+    (
+        &[],
+        b"[\"a\"]\n\n{\"a\": tru}",
+        "! syntax InvalidLiteral 1 10 9\n",
+        Status::DocumentError,
+    ),
+    (
+        &[],
+        b"[\"b\"]\n\n{\"a\": 1",
+        "! eof EofWhileParsing 1 7 6\n",
+        Status::DocumentError,
+    ),
+    (
+        &[],
+        b"[\"b\"]\n\n{\n\"a\": 1,\n]",
+        "! syntax ExpectObjectKeyOrEnd 3 1 10\n",
+        Status::DocumentError,
+    ),
+    (
+        &[],
+        b"[\"a\",0]\n\n{\"a\": 120}",
+        "! type Message 1 9 8\n",
+        Status::DocumentError,
+    ),
+    (
+        &[],
+        b"[\"a\",\"b\"]\n[\"c\"]\n\n{\"a\": {}, \"c\": x}",
+        "! not-found GetInEmptyObject 1 8 7\n",
+        Status::DocumentError,
+    ),
+    (
+        &[],
+        b"[0]\n\n[]",
+        "! not-found GetInEmptyArray 1 2 1\n",
+        Status::DocumentError,
+    ),
+    (
+        &[],
+        b"[0]\n[2]\n\n[1, 2]",
+        "! not-found GetIndexOutOfArray 1 6 5\n",
+        Status::DocumentError,
+    ),
+    (
+        &[],
+        b"[\"a\"]\n\n{\"a\": \"\xff\"}",
+        "! syntax InvalidUTF8 1 8 7\n",
+        Status::DocumentError,
+    ),
+    (
+        &[],
+        b"[\"a\"]\n\n{\"a\": 1, \"b\": \"\xff\"}",
+        "1 1\n",
+        Status::Done,
+    ),
+    (
+        &[],
+        b"[\"a\"]\n[0]\n\n{\"a\": 1}",
+        "! paths 2\n",
+        Status::BadLines,
+    ),
+    (
+        &[],
+        b"[\"a\"]\n[\"b\"\n\n{\"a\": 1}",
+        "! paths 2\n",
+        Status::BadLines,
+    ),
+    (
+        &["got"],
+        b"[\"a\"]\n\n{\"a\": 1}",
+        "! usage\n",
+        Status::BadUsage,
+    ),
+];
+
+#[test]
+fn writes_the_examples_of_the_format(rt: HostRuntime) -> Result<(), Fail> {
+    let alloc = rt.alloc();
+    for (words, input, output, status) in EXAMPLES {
+        check_run(&rt, alloc, words, input, output, status)?;
+    }
+    Ok(())
+}
+
+#[test]
+fn ends_with_the_numbers_of_the_format(rt: HostRuntime) {
+    let statuses = [
+        Status::Done,
+        Status::DocumentError,
+        Status::BadUsage,
+        Status::BadLines,
+        Status::TooLarge,
+        Status::ReadFault,
+        Status::WriteFault,
+        Status::NoMemory,
+    ];
+    for (number, status) in statuses.iter().enumerate() {
+        assert_eq!(rt; *status as usize, number);
+    }
+}
