@@ -52,7 +52,7 @@ index_fails {t} {i} q (index m) (elements_fit es) e =
     (differ (byte t (after_space t (i + 1))) 93 (elements_not_empty es)))
 
 -- a bracket is no comma
-no_comma : (object : Bool) → closing object ≢ 44
+pub no_comma : (object : Bool) → closing object ≢ 44
 no_comma true e = absurd (omega (arith, e))
 no_comma false e = absurd (omega (arith, e))
 

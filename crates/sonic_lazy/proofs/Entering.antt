@@ -54,7 +54,7 @@ key_fault_of (in_member ms y f) q = (let o = members_open ms in absurd (omega (a
 key_fault_of (behind_member ms y x c e) q = (let o = members_open ms in absurd (omega (arith, o, q)))
 
 -- a node leads on from its bracket
-leads_open : {t : List ℕ} {i v : ℕ} {node : Node} → LeadsOn t i node v → byte t i ≡ opening (is_key node)
+pub leads_open : {t : List ℕ} {i v : ℕ} {node : Node} → LeadsOn t i node v → byte t i ≡ opening (is_key node)
 leads_open (to_member f) = members_open f.before.fit
 leads_open (to_element es) = elements_open es
 
@@ -115,7 +115,7 @@ empty_code true = GetInEmptyObject
 empty_code false = GetInEmptyArray
 
 -- no node leads on in an empty one
-never_in_empty : {t : List ℕ} {i v : ℕ} {node : Node} → LeadsOn t i node v → byte t (after_space t (i + 1)) ≢ closing (is_key node)
+pub never_in_empty : {t : List ℕ} {i v : ℕ} {node : Node} → LeadsOn t i node v → byte t (after_space t (i + 1)) ≢ closing (is_key node)
 never_in_empty (to_member f) = members_not_empty f.before.fit
 never_in_empty (to_element es) = elements_not_empty es
 

@@ -39,7 +39,7 @@ first_before {a} {marks = marks} here some fit told long none = record {
 }
 
 -- an item's value begins at or behind the item
-head_later : {t : List ℕ} {n h v : ℕ} {object : Bool} {node : Node} → IsHead t object n h v node → h ≤ v
+pub head_later : {t : List ℕ} {n h v : ℕ} {object : Bool} {node : Node} → IsHead t object n h v node → h ≤ v
 head_later (member_head y) = let l = key-longer y in omega arith
 head_later (element_head e f) = omega (arith, e)
 

@@ -16,6 +16,7 @@ pub mod OneAnswer
 pub mod OnePath
 pub mod Parting
 pub mod Parts
+pub mod Seeking
 pub mod Settling
 pub mod Showing
 pub mod Spaces

@@ -7,6 +7,8 @@ mod law;
 mod lazyvalue;
 mod many;
 mod marks;
+#[cfg(test)]
+mod plain;
 mod reading;
 #[cfg(test)]
 mod rows;

@@ -34,7 +34,7 @@ pub(crate) fn peek(parser: &mut Parser<'_>) -> u8
 }
 
 // Goes behind the first byte that is no white space.
-fn pass_byte(parser: &mut Parser<'_>)
+pub(crate) fn pass_byte(parser: &mut Parser<'_>)
     requires { due parser.old < length parser.old.text }
     ensures { parser.new ≡ moved parser.old (due parser.old + 1) }
 {
@@ -163,7 +163,7 @@ fn mismatch(alloc: Global, parser: &mut Parser<'_>, object: bool) -> WalkError
 }
 
 // The kind of the value that stands at a place.
-fn kind_at(text: &[u8], place: usize) -> JsonType
+pub(crate) fn kind_at(text: &[u8], place: usize) -> JsonType
     ensures { result ≡ kind_at text.now place }
 {
     match byte_at(text, place) {

@@ -1,10 +1,11 @@
 -- Hexadecimal digits, and the number of four of them.
-use Rattle.std.proofs.Common.{◌≡◌, ℕ, zero, suc, ◌+◌, ◌*◌, ◌==◌, ◌<◌, ◌≤◌, ◌&&◌, true, false, List, arith, refl}
+use Rattle.std.proofs.Common.{◌≡◌, ℕ, zero, suc, ◌+◌, ◌*◌, ◌==◌, ◌<◌, ◌≤◌, ◌&&◌, true, false, List, length, arith, refl}
 use Rattle.std.proofs.lemmas.Bool.Decides.{nat_tests}
 use Rattle.std.specs.Prelude.{nat_le, is_some, unwrap_or, Some, None}
 use Rattle.std.specs.declared.option.Option.{Option}
 use Rattle.sonic_text.specs.Places.{byte}
 use Rattle.sonic_text.specs.Strings.{hex_digit, hex_within, is_low_byte, IsHex4, IsEscape, IsHigh, IsLow, IsLowEscape}
+use Rattle.sonic_text.proofs.Places.{byte_within}
 
 -- a digit stands for less than 16
 pub hex_small : (b a : ℕ) → hex_digit b ≡ Some a → a < 16
@@ -72,6 +73,13 @@ hex4_of {t} {k} {a} {b} {c} {d} h =
 -- four digits have one number
 pub hex4_one : {t : List ℕ} {p n l : ℕ} → IsHex4 t p n → IsHex4 t p l → n ≡ l
 hex4_one h g = cc
+
+-- they stand before the end
+pub hex4_within : {t : List ℕ} {p n : ℕ} → IsHex4 t p n → p + 4 ≤ length t
+hex4_within {t} {p} h =
+    let some = hex_some (byte t (p + 3)) h.d h.fourth in
+    let l : p + 3 < length t = byte_within t (p + 3) (λ z. omega (arith, some, z)) in
+    omega arith
 
 -- an escape has one number
 pub escape_one : (t : List ℕ) (p : ℕ) {n l : ℕ} → IsEscape t p n → IsEscape t p l → n ≡ l

@@ -5,7 +5,6 @@ pub mod EscapeFaults
 pub mod Escapes
 pub mod FirstBytes
 pub mod HexDigits
-pub mod HexLemmas
 pub mod Keys
 pub mod LiteralStrings
 pub mod Literals

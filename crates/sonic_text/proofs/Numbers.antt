@@ -10,7 +10,7 @@ use Rattle.sonic_text.specs.Numbers.IsNumberFault.{in_int, in_fraction, in_expon
 use Rattle.sonic_text.proofs.Places.{digits_end_later}
 
 -- a byte is a digit or none
-digit_or_not : (b : ℕ) → IsDigit b ⊎ ¬ IsDigit b
+pub digit_or_not : (b : ℕ) → IsDigit b ⊎ ¬ IsDigit b
 digit_or_not b = elim (cases_lt b 48) [
   | inl l ↦ inr (λ h. omega arith)
   | inr l ↦ elim (cases_lt 57 b) [ inl m ↦ inr (λ h. omega arith) | inr m ↦ inl (l, m) ]

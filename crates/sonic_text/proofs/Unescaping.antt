@@ -9,7 +9,7 @@ use Rattle.std.specs.Char.{encode_utf8}
 use Rattle.sonic_text.specs.Places.{byte}
 use Rattle.sonic_text.specs.Strings.{escaped, replacement, IsEscape, IsHigh, IsLowEscape, IsChar, IsUnicodeChar, AreChars, IsString}
 use Rattle.sonic_text.proofs.Places.{byte_within}
-use Rattle.sonic_text.proofs.HexLemmas.{hex4_within}
+use Rattle.sonic_text.proofs.HexDigits.{hex4_within}
 use Rattle.sonic_text.proofs.Codepoints.{one_byte}
 use Rattle.sonic_text.proofs.Escapes.{char_longer}
 use Rattle.sonic_text.proofs.Strings.{chars_later}

@@ -3,6 +3,7 @@ ghost use Rattle.sonic_error.specs.declared.code.ErrorCode.TheVariants.{InvalidU
 ghost use Rattle.sonic_text.specs.Places.{byte, bad};
 ghost use Rattle.sonic_text.specs.Strings.{escaped, hex_digit, is_low_byte, IsHex4, IsLow, IsChar, IsEscapeFault, IsString, IsStringFault};
 
+use crate::hex::digit_of;
 use crate::scan::{byte_at, stop_at};
 use crate::stop::Stop;
 use sonic_error::ErrorCode;
@@ -18,23 +19,9 @@ pub struct StringEnd {
     pub escaped: bool,
 }
 
-// What a hexadecimal digit stands for, in either case.
-#[inline]
-#[tactic(auto, unfolding(crate::specs::Strings::hex_digit))]
-fn digit_of(byte: u8) -> Option<u32>
-    ensures { result ≡ hex_digit byte }
-{
-    match byte {
-        b'0'..=b'9' => Some(byte as u32 - 48),
-        b'A'..=b'F' => Some(byte as u32 - 55),
-        b'a'..=b'f' => Some(byte as u32 - 87),
-        _ => None,
-    }
-}
-
 // The hexadecimal digit that is due at a place.
 #[inline]
-#[tactic(auto, using(crate::proofs::HexDigits::hex_small, crate::proofs::HexDigits::hex_some))]
+#[tactic(auto, using(crate::proofs::HexDigits::hex_some))]
 fn digit_at(text: &[u8], place: usize) -> Result<u32, Stop>
     requires { place ≤ length text.now }
     ensures ok { IfOk result (λ a. (hex_digit (byte text.now place) ≡ Some a) × (a < 16)

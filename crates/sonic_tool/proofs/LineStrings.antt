@@ -14,7 +14,7 @@ use Rattle.sonic_text.specs.Strings.IsChar.{unescaped, short_escape, unicode_esc
 use Rattle.sonic_text.specs.Strings.IsUnicodeChar.{scalar, pair, lone_high, lone_low}
 use Rattle.sonic_text.specs.Strings.AreChars.{no_char, one_more}
 use Rattle.sonic_text.proofs.Places.{byte_within}
-use Rattle.sonic_text.proofs.HexLemmas.{digit_small}
+use Rattle.sonic_text.proofs.HexDigits.{hex_small}
 use Rattle.sonic_text.proofs.Unescaping.{escape_within}
 
 -- a hexadecimal digit is an ASCII byte
@@ -42,10 +42,10 @@ escape_end : (t : List ℕ) (p : ℕ) {n : ℕ} → IsEscape t p n → (byte t (
 escape_end t p {n} e =
     let h = e.2 in
     let last = digit_ascii _ h.d h.fourth in
-    let a = digit_small _ h.a h.first in
-    let b = digit_small _ h.b h.second in
-    let c = digit_small _ h.c h.third in
-    let d = digit_small _ h.d h.fourth in
+    let a = hex_small _ h.a h.first in
+    let b = hex_small _ h.b h.second in
+    let c = hex_small _ h.c h.third in
+    let d = hex_small _ h.d h.fourth in
     let place : p + 2 + 3 ≡ p + 5 = omega arith in
     (rw place at last, omega (arith, escape_within t p n e), omega (arith, h.number, a, b, c, d))
 

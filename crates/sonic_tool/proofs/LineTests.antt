@@ -12,6 +12,8 @@ use Rattle.sonic_text.proofs.Places.{after_space_later, byte_within}
 use Rattle.sonic_text.proofs.Strings.{string_longer, string_some}
 use Rattle.sonic_pointer.specs.Nodes.{is_key}
 use Rattle.sonic_pointer.specs.Paths.{Path, IsMixed}
+use Rattle.sonic_pointer.proofs.Trees.{kinds_same}
+use Rattle.sonic_lazy.proofs.Nodes.{text_or_other}
 use Rattle.sonic_tool.specs.Lines.{IsNodeAt, NodesStand, IsNodeArray, IsNodeLine}
 use Rattle.sonic_tool.specs.Lines.IsNodeAt.{key_node, index_node}
 use Rattle.sonic_tool.specs.Lines.NodesStand.{one_node, more_nodes}
@@ -136,29 +138,12 @@ line_by_test line false e = inr (λ p. let t = is_utf8-from_IsUtf8 line p.1.text
 pub node_line_or_none : (line : List ℕ) → SomePath line ⊎ ¬ SomePath line
 node_line_or_none line = line_by_test line (is_utf8 line) refl
 
--- two texts are equal or they aren't
-same_text : (a b : List ℕ) → (a ≡ b) ⊎ (a ≢ b)
-same_text [] [] = inl refl
-same_text [] (y ∷ b) = inr (λ e. cc)
-same_text (x ∷ a) [] = inr (λ e. cc)
-same_text (x ∷ a) (y ∷ b) = elim (cases_eq x y) [
-  | inr n ↦ inr (λ e. n cc)
-  | inl h ↦ elim (same_text a b) [ inl t ↦ inl (rw (h, t) refl) | inr n ↦ inr (λ e. n cc) ]
-]
-
 -- two nodes are equal or they aren't
 same_node : (x y : Node) → (x ≡ y) ⊎ (x ≢ y)
-same_node (key a) (key b) = elim (same_text a b) [ inl e ↦ inl (ap key e) | inr n ↦ inr (λ e. n cc) ]
+same_node (key a) (key b) = elim (text_or_other a b) [ inl e ↦ inl (ap key e) | inr n ↦ inr (λ e. n cc) ]
 same_node (key a) (index m) = inr (λ e. cc)
 same_node (index n) (key b) = inr (λ e. cc)
 same_node (index n) (index m) = elim (cases_eq n m) [ inl e ↦ inl (ap index e) | inr d ↦ inr (λ e. d cc) ]
-
--- two kinds are equal or they aren't
-same_kind : (a b : Bool) → (a ≡ b) ⊎ (a ≢ b)
-same_kind true true = inl refl
-same_kind true false = inr (λ e. cc)
-same_kind false true = inr (λ e. cc)
-same_kind false false = inl refl
 
 -- two paths have an equal front, followed by nodes of two kinds
 record Mix (q path : Path) : Type 0 where
@@ -207,7 +192,7 @@ mix_before {x} {y} e m = record {
 mix_or_not : (q path : Path) → Mix q path ⊎ ¬ Mix q path
 mix_or_not [] path = inr (λ m. nothing_follows m.front m.other m.others m.was)
 mix_or_not (x ∷ q) [] = inr (λ m. nothing_follows m.front m.node m.rest m.is)
-mix_or_not (x ∷ q) (y ∷ path) = elim (same_kind (is_key x) (is_key y)) [
+mix_or_not (x ∷ q) (y ∷ path) = elim (kinds_same (is_key x) (is_key y)) [
   | inr kinds ↦ inl (record { front = []; node = y; rest = path; other = x; others = q; is = refl; was = refl; kinds = kinds })
   | inl kind ↦ elim (same_node x y) [
     | inr differ ↦ inr (λ m. differ (mix_behind kind m).0)

@@ -3,21 +3,15 @@ use Rattle.std.proofs.Common.{◌≡◌, ◌⊎◌, inl, inr, ℕ, ◌+◌, ◌^
 use Rattle.std.proofs.lemmas.Bool.{cases_eq, cases_lt}
 use Rattle.std.specs.Prelude.{slice_range}
 use Rattle.std.specs.Str.Parse.{digits_value}
-use Rattle.sonic_text.specs.Places.{byte, IsDigit, digits_end}
+use Rattle.sonic_text.specs.Places.{byte, digits_end}
 use Rattle.sonic_text.specs.Numbers.{IsInt}
+use Rattle.sonic_text.proofs.Numbers.{digit_or_not}
 use Rattle.sonic_tool.specs.Paths.{BeginsMore, IsIndex}
 use Rattle.sonic_tool.proofs.Indexes.{int_one}
 
 -- some number stands at v that is an index
 abbrev SomeIndex : List ℕ → ℕ → Type 0
 SomeIndex t v = (e : ℕ) × (n : ℕ) × IsIndex t v e n
-
--- a byte is a digit or it isn't
-is_digit_or_not : (b : ℕ) → IsDigit b ⊎ ¬ IsDigit b
-is_digit_or_not b = elim (cases_lt b 48) [
-  | inl low ↦ inr (λ d. omega (arith, d.0))
-  | inr high ↦ elim (cases_lt b 58) [ inl within ↦ inl (omega arith, omega arith) | inr above ↦ inr (λ d. omega (arith, d.1)) ]
-]
 
 -- a byte begins a fraction or an exponent, or it doesn't
 more_or_not : (b : ℕ) → BeginsMore b ⊎ ¬ BeginsMore b
@@ -35,11 +29,11 @@ more_or_not b = elim (cases_eq b 46) [
 -- an integer without a sign stands at v, or none does
 int_or_none : (t : List ℕ) (v : ℕ) → ((e : ℕ) × IsInt t v e) ⊎ ((e : ℕ) → ¬ (IsInt t v e))
 int_or_none t v = elim (cases_eq (byte t v) 48) [
-  | inl nought ↦ elim (is_digit_or_not (byte t (v + 1))) [
+  | inl nought ↦ elim (digit_or_not (byte t (v + 1))) [
     | inl digit ↦ inr (λ e n. elim n [ inl z ↦ z.1 digit | inr d ↦ omega (arith, nought, d.0) ])
     | inr other ↦ inl (v + 1, inl (nought, other, refl))
   ]
-  | inr more ↦ elim (is_digit_or_not (byte t v)) [
+  | inr more ↦ elim (digit_or_not (byte t v)) [
     | inl digit ↦ inl (digits_end t v, inr (omega (arith, digit.0), digit.1, refl))
     | inr other ↦ inr (λ e n. elim n [ inl z ↦ more z.0 | inr d ↦ other (omega (arith, d.0), d.1) ])
   ]

@@ -56,6 +56,30 @@ const ANSWERED: [Row; 16] = [
     ),
 ];
 
+// Worked examples of a path that is cut or fails.
+const REFUSED: [Row; 8] = [
+    (b"[\"b\"]\n\n{\"a\":1\n", "! eof EofWhileParsing 1 7 6\n"),
+    (b"[0,\"z\"]\n\n[{\"a\":1},", "! eof EofWhileParsing 1 9 8\n"),
+    (
+        b"[\"a\",\"x\"]\n[\"b\"]\n\n{\"a\":{},\"b\":tru}",
+        "! not-found GetInEmptyObject 1 7 6\n",
+    ),
+    (
+        b"[\"a\",0]\n\n{\"a\": -12.5e3 , \"b\":[",
+        "! type Message 1 13 12\n",
+    ),
+    (
+        b"[1]\n\n[\"\\u\"abc\",1]",
+        "! syntax InvalidUnicodeCodePoint 1 5 4\n",
+    ),
+    (
+        b"[\"a\"]\n\n{ xx \"a\":1}",
+        "! syntax ExpectObjectKeyOrEnd 1 3 2\n",
+    ),
+    (b"[\"a\"]", "! eof EofWhileParsing 1 1 0\n"),
+    (b"[0]\n[1]\n\n[]", "! not-found GetInEmptyArray 1 2 1\n"),
+];
+
 // One path, and a fault that stands before its value or before it is known that there is none:
 // at each step through an object and an array, by a byte that doesn't fit and by the end.
 const FAULTY: [Row; 39] = [
@@ -275,6 +299,11 @@ fn check(rt: &impl Abort, alloc: Global, rows: &[Row], ending: Status) -> Result
 #[test]
 fn answers_many_paths(rt: HostRuntime) -> Result<(), Fail> {
     check(&rt, rt.alloc(), &ANSWERED, Status::Done)
+}
+
+#[test]
+fn tells_the_error_of_the_worked_examples(rt: HostRuntime) -> Result<(), Fail> {
+    check(&rt, rt.alloc(), &REFUSED, Status::DocumentError)
 }
 
 #[test]

@@ -1,5 +1,5 @@
 use Rattle.std.proofs.Common.{◌≡◌, arith, refl}
-use Rattle.sonic_text.proofs.HexLemmas.{hex4_within, hex4_one}
+use Rattle.sonic_text.proofs.HexDigits.{hex4_within, hex4_one}
 use Rattle.sonic_text.proofs.Unescaping.{unicode_single}
 use Rattle.sonic_text.proofs.unescape.unicode_at.Goals as goal
 

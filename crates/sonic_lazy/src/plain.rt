@@ -1,0 +1,472 @@
+// Each path followed by itself, as plain as it gets, beside the walk that follows them all at once.
+ghost use Rattle.std.specs.Prelude.{◌≡◌, ◌≢◌, ◌+◌, ◌<◌, ◌≤◌, ℕ, List, [], ◌∷◌, Ok, true, false, length, IfOk, IfErr, IfSome, IfNone, OnOk};
+ghost use Rattle.sonic_text.specs.Places.{after_space};
+ghost use Rattle.sonic_text.specs.Strings.{strict};
+ghost use Rattle.sonic_text.specs.Values.{IsValue};
+ghost use Rattle.sonic_text.specs.Faults.{IsFault, IsKeyFault};
+ghost use Rattle.sonic_text.specs.Trees.{Node};
+ghost use Rattle.sonic_pointer.specs.Nodes.{node_of, path_of, is_key};
+ghost use Rattle.sonic_parser.specs.Parsers.{due, moved};
+ghost use Rattle.sonic_lazy.specs.Paths.{found, lacks, fails, cut, fails_at, nowhere, LeadsOn, Evaluates};
+ghost use Rattle.sonic_lazy.specs.Walks.{IsStopFor, IsHead, Fits};
+
+use crate::many::find_many;
+use crate::reading::{WalkError, behind, key, kind_at, pass_byte, peek, skip};
+use sonic_error::{ErrorCode, Note, Wanted};
+use sonic_input::{JsonSlice, Read};
+use sonic_parser::Parser;
+use sonic_pointer::PointerNode::{Index, Key};
+use sonic_pointer::{PointerNode, PointerTree};
+use sonic_text::{Stop, byte_at, same_key, skip_space};
+use std::alloc::{AllocError, Global};
+use std::process::Abort;
+use std::test::Fail;
+
+// What a path is told.
+#[derive(Clone, Copy, Debug, PartialEq)]
+enum Told {
+    // It leads to the value that begins and ends here.
+    Found(usize, usize),
+    // It leads nowhere, as an object lacks its key, whose closing brace stands here.
+    Lacks(usize),
+    // It leads nowhere for this reason.
+    Fails(Stop),
+    // The text has this fault first.
+    Cut(Stop),
+}
+
+// A parser at a place of a text.
+fn parser_at(text: &[u8], place: usize) -> Parser<'_>
+    requires { place ≤ length text.now }
+    ensures text { result.text ≡ text.now }
+    ensures place { result.place ≡ place }
+    ensures lossy { result.lossy ≡ strict }
+{
+    let mut read = Read::unmarked(JsonSlice::Raw(text));
+    read.set_index(place);
+    Parser::new(read)
+}
+
+// The end of the value that is due at a place, or its fault.
+fn value_end(alloc: Global, text: &[u8], place: usize) -> Result<usize, WalkError>
+    requires { place ≤ length text.now }
+    ensures ok { IfOk result (λ end. IsValue strict text.now (after_space text.now place) end) }
+    ensures err { IfErr result (IsStopFor (IsFault strict text.now (after_space text.now place))) }
+{
+    let mut parser = parser_at(text, place);
+    skip(alloc, &mut parser)?;
+    Ok(parser.offset())
+}
+
+// Goes up to the first item of the object or the array that is due, if one with an item is.
+fn enter(parser: &mut Parser<'_>, object: bool) -> bool
+    ensures yes { result ≡ true → Fits parser.old.text (due parser.old) object 0 (due parser.new) }
+    ensures no { result ≡ false → (node : Node) → is_key node ≡ object
+        → (v : ℕ) → ¬ LeadsOn parser.old.text (due parser.old) node v }
+    ensures cursor { parser.new ≡ moved parser.old parser.new.place }
+{
+    let (opening, closing) = if object { (b'{', b'}') } else { (b'[', b']') };
+    if peek(parser) != opening {
+        return false;
+    }
+    pass_byte(parser);
+    if peek(parser) == closing {
+        return false;
+    }
+    true
+}
+
+// Whether a node is a key.
+fn is_key(node: &PointerNode<'_>) -> bool
+    ensures { result ≡ is_key (node_of node.now) }
+{
+    matches!(node, Key(_))
+}
+
+// Goes up to the value of the item that is due, and tells whether the node leads to it.
+fn head(
+    alloc: Global,
+    parser: &mut Parser<'_>,
+    node: &PointerNode<'_>,
+    passed: usize,
+) -> Result<bool, WalkError>
+    requires reads { parser.old.lossy ≡ strict }
+    ensures item { IfOk result (λ is_it. (item : Node) × IsHead parser.old.text
+        (is_key (node_of node.now)) passed (due parser.old) (due parser.new) item
+        × (is_it ≡ true → item ≡ node_of node.now) × (is_it ≡ false → item ≢ node_of node.now)) }
+    ensures cursor { OnOk result (parser.new ≡ moved parser.old parser.new.place) }
+    ensures err { IfErr result (IsStopFor (λ s. (is_key (node_of node.now) ≡ true)
+        × IsKeyFault strict parser.old.text (due parser.old) s)) }
+{
+    match node {
+        Key(text) => {
+            let (start, end) = key(alloc, parser)?;
+            Ok(same_key(parser.text(), start, end, *text))
+        }
+        Index(number) => Ok(*number == passed),
+    }
+}
+
+// Goes up to the value that the node leads to in the value that is due, if it leads to one.
+fn seek(alloc: Global, parser: &mut Parser<'_>, node: &PointerNode<'_>) -> Result<bool, WalkError>
+    requires reads { parser.old.lossy ≡ strict }
+    ensures yes { IfOk result (λ leads. leads ≡ true
+        → LeadsOn parser.old.text (due parser.old) (node_of node.now) (due parser.new)) }
+    ensures no { IfOk result (λ leads. leads ≡ false
+        → (v : ℕ) → ¬ LeadsOn parser.old.text (due parser.old) (node_of node.now) v) }
+    ensures cursor { OnOk result (parser.new ≡ moved parser.old parser.new.place) }
+    ensures err { IfErr result (IsStopFor (λ s. (v : ℕ)
+        → ¬ LeadsOn parser.old.text (due parser.old) (node_of node.now) v)) }
+{
+    let object = is_key(node);
+    if !enter(parser, object) {
+        return Ok(false);
+    }
+    let mut passed = 0;
+    'items: loop {
+        if head(alloc, parser, node, passed)? {
+            return Ok(true);
+        }
+        skip(alloc, parser)?;
+        // Each item takes a byte, so its number is below the place behind it.
+        let end = parser.offset();
+        if !behind(parser, object)? {
+            return Ok(false);
+        }
+        passed += 1;
+    }
+}
+
+// A place at which the value is due that the node leads to, if it leads to one.
+fn step(
+    alloc: Global,
+    text: &[u8],
+    place: usize,
+    node: &PointerNode<'_>,
+) -> Result<Option<usize>, AllocError>
+    requires { place ≤ length text.now }
+    ensures leads { IfOk result (λ way. IfSome way (λ next. LeadsOn text.now
+        (after_space text.now place) (node_of node.now) (after_space text.now next))) }
+    ensures within { IfOk result (λ way. IfSome way (λ next. next ≤ length text.now)) }
+    ensures nowhere { IfOk result (λ way. IfNone way ((v : ℕ)
+        → ¬ LeadsOn text.now (after_space text.now place) (node_of node.now) v)) }
+{
+    let mut parser = parser_at(text, place);
+    match seek(alloc, &mut parser, node) {
+        Ok(true) => Ok(Some(parser.offset())),
+        Ok(false) | Err(WalkError::At(_)) => Ok(None),
+        Err(WalkError::Memory) => Err(AllocError),
+    }
+}
+
+// Why a node that leads nowhere in the whole value at a place fails there, or `None` where it is a
+// key that an object with members lacks.
+fn refusal(text: &[u8], start: usize, node: &PointerNode<'_>) -> Option<ErrorCode>
+    ensures fails { IfSome result (λ code. (q : ℕ)
+        → nowhere text.now start q (node_of node.now) ≡ fails_at q code) }
+    ensures lacks { IfNone result ((q : ℕ)
+        → nowhere text.now start q (node_of node.now) ≡ lacks q) }
+{
+    let found = kind_at(text, start);
+    match node {
+        Key(_) => {
+            if byte_at(text, start) != b'{' {
+                let wanted = Wanted::Object;
+                return Some(ErrorCode::Message(Note::Mismatch { found, wanted }));
+            }
+            if byte_at(text, skip_space(text, start + 1)) == b'}' {
+                return Some(ErrorCode::GetInEmptyObject);
+            }
+            None
+        }
+        Index(_) => {
+            if byte_at(text, start) != b'[' {
+                let wanted = Wanted::Array;
+                return Some(ErrorCode::Message(Note::Mismatch { found, wanted }));
+            }
+            if byte_at(text, skip_space(text, start + 1)) == b']' {
+                return Some(ErrorCode::GetInEmptyArray);
+            }
+            Some(ErrorCode::GetIndexOutOfArray)
+        }
+    }
+}
+
+// What a path that is used up is told of the value that is due.
+fn stand(alloc: Global, text: &[u8], place: usize) -> Result<Told, AllocError>
+    requires { place ≤ length text.now }
+    ensures found { (i j : ℕ) → result ≡ Ok (Told.Found i j)
+        → Evaluates text.now (after_space text.now place) [] (found i j) }
+    ensures cut { (s : Stop) → result ≡ Ok (Told.Cut s)
+        → Evaluates text.now (after_space text.now place) [] (cut s) }
+    ensures lacks { (q : ℕ) → result ≢ Ok (Told.Lacks q) }
+    ensures fails { (s : Stop) → result ≢ Ok (Told.Fails s) }
+{
+    match value_end(alloc, text, place) {
+        Ok(end) => Ok(Told::Found(skip_space(text, place), end)),
+        Err(WalkError::At(stop)) => Ok(Told::Cut(stop)),
+        Err(WalkError::Memory) => Err(AllocError),
+    }
+}
+
+// What a path is told of the value that is due, where its next node leads nowhere.
+fn miss(
+    alloc: Global,
+    text: &[u8],
+    place: usize,
+    node: &PointerNode<'_>,
+) -> Result<Told, AllocError>
+    requires within { place ≤ length text.now }
+    requires nowhere { (v : ℕ)
+        → ¬ LeadsOn text.now (after_space text.now place) (node_of node.now) v }
+    ensures found { (i j : ℕ) → result ≢ Ok (Told.Found i j) }
+    ensures lacks { (q : ℕ) → result ≡ Ok (Told.Lacks q) → (rest : List Node)
+        → Evaluates text.now (after_space text.now place) (node_of node.now ∷ rest) (lacks q) }
+    ensures fails { (s : Stop) → result ≡ Ok (Told.Fails s) → (rest : List Node)
+        → Evaluates text.now (after_space text.now place) (node_of node.now ∷ rest) (fails s) }
+    ensures cut { (s : Stop) → result ≡ Ok (Told.Cut s) → (rest : List Node)
+        → Evaluates text.now (after_space text.now place) (node_of node.now ∷ rest) (cut s) }
+{
+    let start = skip_space(text, place);
+    match value_end(alloc, text, place) {
+        Ok(end) => {
+            let place = end - 1;
+            match refusal(text, start, node) {
+                Some(code) => Ok(Told::Fails(Stop { place, code })),
+                None => Ok(Told::Lacks(place)),
+            }
+        }
+        Err(WalkError::At(stop)) => Ok(Told::Cut(stop)),
+        Err(WalkError::Memory) => Err(AllocError),
+    }
+}
+
+// Where a path leads in the value that is due at a place.
+fn follow(
+    alloc: Global,
+    text: &[u8],
+    place: usize,
+    path: &[PointerNode<'_>],
+) -> Result<Told, AllocError>
+    requires { place ≤ length text.now }
+    ensures found { (i j : ℕ) → result ≡ Ok (Told.Found i j)
+        → Evaluates text.now (after_space text.now place) (path_of path.now) (found i j) }
+    ensures lacks { (q : ℕ) → result ≡ Ok (Told.Lacks q)
+        → Evaluates text.now (after_space text.now place) (path_of path.now) (lacks q) }
+    ensures fails { (s : Stop) → result ≡ Ok (Told.Fails s)
+        → Evaluates text.now (after_space text.now place) (path_of path.now) (fails s) }
+    ensures cut { (s : Stop) → result ≡ Ok (Told.Cut s)
+        → Evaluates text.now (after_space text.now place) (path_of path.now) (cut s) }
+{
+    let Some((node, rest)) = path.split_first() else {
+        return stand(alloc, text, place);
+    };
+    match step(alloc, text, place, node)? {
+        Some(next) => follow(alloc, text, next, rest),
+        None => miss(alloc, text, place, node),
+    }
+}
+
+// Where each path leads, in order.
+fn follow_all(
+    alloc: Global,
+    text: &[u8],
+    paths: &[&[PointerNode<'_>]],
+) -> Result<Vec<Told>, AllocError> {
+    let mut all = Vec::new(alloc);
+    for path in paths {
+        all.push(follow(alloc, text, 0, path)?)?;
+    }
+    Ok(all)
+}
+
+// The least place at which a path fails, and of those that fail there the first path's reason.
+fn nearest(all: &[Told]) -> Option<Stop> {
+    let mut nearest: Option<Stop> = None;
+    for told in all {
+        if let Told::Fails(stop) = told {
+            match nearest {
+                Some(before) if before.place <= stop.place => {}
+                _ => nearest = Some(*stop),
+            }
+        }
+    }
+    nearest
+}
+
+// Whether a path asks for the whole root, as it is cut or lacks its key.
+fn needs_root(told: &Told) -> bool {
+    matches!(told, Told::Cut(_) | Told::Lacks(_))
+}
+
+// The furthest end of the spans that were found.
+fn furthest(all: &[Told]) -> usize {
+    let mut reach = 0;
+    for told in all {
+        if let Told::Found(_, end) = told {
+            reach = reach.max(*end);
+        }
+    }
+    reach
+}
+
+// The span that was found, if one was.
+fn span(told: &Told) -> Option<(usize, usize)> {
+    match told {
+        Told::Found(start, end) => Some((*start, *end)),
+        _ => None,
+    }
+}
+
+// The spans that paths are answered with, or the one stop.
+type Answered = Result<Vec<Option<(usize, usize)>>, Stop>;
+
+// What paths are answered over bytes.
+fn plain_answer(
+    alloc: Global,
+    text: &[u8],
+    paths: &[&[PointerNode<'_>]],
+) -> Result<Answered, AllocError> {
+    if paths.is_empty() {
+        return Ok(Ok(Vec::new(alloc)));
+    }
+    let all = follow_all(alloc, text, paths)?;
+    if let Some(stop) = nearest(&all) {
+        return Ok(Err(stop));
+    }
+    let mut reach = furthest(&all);
+    if all.iter().any(needs_root) {
+        reach = match value_end(alloc, text, 0) {
+            Ok(end) => end,
+            Err(WalkError::At(stop)) => return Ok(Err(stop)),
+            Err(WalkError::Memory) => return Err(AllocError),
+        };
+    }
+    if let Err(error) = std::str::from_utf8(&text[..reach.min(text.len())]) {
+        let place = error.valid_up_to();
+        let code = ErrorCode::InvalidUTF8;
+        return Ok(Err(Stop { place, code }));
+    }
+    Ok(Ok(all.iter().map(span).collect(alloc)?))
+}
+
+// The paths of a tree.
+type Paths = &'static [&'static [PointerNode<'static>]];
+
+const LISTS: [Paths; 11] = [
+    &[],
+    &[&[]],
+    &[&[Key("a")]],
+    &[&[Index(0)]],
+    &[&[Key("a")], &[Key("")]],
+    &[&[Index(1)], &[Index(0)]],
+    &[&[Key("a"), Index(0)], &[Key("a")], &[Key("a")]],
+    &[&[Index(0), Key("a")], &[Index(0)], &[Index(1)]],
+    &[&[Index(0), Key("a")], &[Index(0), Key("")]],
+    &[&[Key("a"), Key("a")], &[Key("")]],
+    &[&[Key(""), Index(0)], &[], &[Key("a")]],
+];
+
+const LETTERS: [&[u8]; 10] = [
+    b"[", b"]", b"{", b"}", b",", b":", b"\"", b"a", b"1", b"\xFF",
+];
+
+// Longer pieces, of which a few make objects with some members.
+const PIECES: [&[u8]; 10] = [
+    b"[",
+    b"]",
+    b"{\"a\":",
+    b"{\"\":",
+    b"}",
+    b",",
+    b",\"a\":",
+    b",\"\":",
+    b"1",
+    b"\"\xFF\"",
+];
+
+// The text number `n` among all those of `length` pieces.
+fn text_of_number(
+    alloc: Global,
+    pieces: &[&[u8]; 10],
+    mut n: usize,
+    length: u8,
+) -> Result<Vec<u8>, Fail> {
+    let mut text = Vec::new(alloc);
+    for _ in 0..length {
+        text.extend_from_slice(pieces[n % 10])?;
+        n /= 10;
+    }
+    Ok(text)
+}
+
+// Checks that the walk finds in a text what the plain program finds, or the same error. At the end
+// of a text the offset of an error is that of the last byte.
+fn check_text(
+    rt: &impl Abort,
+    alloc: Global,
+    text: &[u8],
+    paths: Paths,
+    tree: &PointerTree,
+) -> Result<(), Fail> {
+    match (
+        find_many(alloc, text, tree),
+        plain_answer(alloc, text, paths)?,
+    ) {
+        (Ok(found), Ok(spans)) => assert!(rt; found == spans, "{text:?} {paths:?}"),
+        (Err(error), Err(stop)) => {
+            let last = text.len().saturating_sub(1);
+            assert_eq!(rt; error.code(), stop.code, "{text:?} {paths:?}");
+            assert_eq!(rt; error.offset(), stop.place.min(last), "{text:?} {paths:?}");
+        }
+        (Ok(_), Err(_)) => panic!(rt; "no error in {text:?} for {paths:?}"),
+        (Err(_), Ok(_)) => panic!(rt; "an error in {text:?} for {paths:?}"),
+    }
+    Ok(())
+}
+
+// Checks all texts of up to six pieces.
+fn check_texts(
+    rt: &impl Abort,
+    alloc: Global,
+    pieces: &[&[u8]; 10],
+    paths: Paths,
+) -> Result<(), Fail> {
+    let mut tree = PointerTree::new(alloc);
+    for path in paths {
+        assert_eq!(rt; tree.add_path(alloc, *path), Ok(()), "{path:?}");
+    }
+    for (length, count) in [
+        (0, 1),
+        (1, 10),
+        (2, 100),
+        (3, 1_000),
+        (4, 10_000),
+        (5, 100_000),
+        (6, 1_000_000),
+    ] {
+        for n in 0..count {
+            let text = text_of_number(alloc, pieces, n, length)?;
+            check_text(rt, alloc, &text, paths, &tree)?;
+        }
+    }
+    Ok(())
+}
+
+#[test]
+fn finds_in_all_short_texts_what_the_plain_program_finds(rt: HostRuntime) -> Result<(), Fail> {
+    for paths in LISTS {
+        check_texts(&rt, rt.alloc(), &LETTERS, paths)?;
+    }
+    Ok(())
+}
+
+#[test]
+fn finds_in_all_texts_of_few_pieces_what_the_plain_program_finds(
+    rt: HostRuntime,
+) -> Result<(), Fail> {
+    for paths in LISTS {
+        check_texts(&rt, rt.alloc(), &PIECES, paths)?;
+    }
+    Ok(())
+}
