@@ -15,7 +15,8 @@ use Rattle.sonic_pointer.specs.Paths.{Path}
 use Rattle.sonic_lazy.specs.Answers.{Span}
 use Rattle.sonic_lazy.specs.Paths.{lacks, fails, cut, nowhere, LeadsOn, Evaluates}
 use Rattle.sonic_lazy.specs.Paths.Evaluates.{leads_nowhere, cut_before}
-use Rattle.sonic_lazy.specs.Walks.{Fits, members_fit, elements_fit, closing, IsPath, was_lacked, SomeLack, IsStop, nearest, faulty, IsNoEntry, fails_there, cut_there, Here, IsHere, SomeOpen, IsPassed, IsBehind, IsBelow}
+use Rattle.sonic_parser.specs.Skipping.{closing}
+use Rattle.sonic_lazy.specs.Walks.{Fits, members_fit, elements_fit, IsPath, was_lacked, SomeLack, IsStop, nearest, faulty, IsNoEntry, fails_there, cut_there, Here, IsHere, SomeOpen, IsPassed, IsBehind, IsBelow}
 use Rattle.sonic_lazy.proofs.Entering.{second_of_three, agree, differ}
 use Rattle.sonic_lazy.proofs.Marked.{some_there}
 use Rattle.sonic_lazy.proofs.OnePath.{evaluates_one}

@@ -24,7 +24,8 @@ use Rattle.sonic_pointer.specs.Nodes.{is_key}
 use Rattle.sonic_lazy.specs.Paths.{Outcome, fails, kind_at, nowhere, LeadsOn}
 use Rattle.sonic_lazy.specs.Paths.LeadsOn.{to_member, to_element}
 use Rattle.sonic_lazy.specs.Paths.Evaluates.{leads_nowhere}
-use Rattle.sonic_lazy.specs.Walks.{Fits, members_fit, elements_fit, opening, closing, IsNoEntry, fails_there, cut_there}
+use Rattle.sonic_parser.specs.Skipping.{closing}
+use Rattle.sonic_lazy.specs.Walks.{Fits, members_fit, elements_fit, opening, IsNoEntry, fails_there, cut_there}
 
 -- a value that begins with a quote is a string
 pub string_of : {t : List ℕ} {i j : ℕ} → IsValue strict t i j → byte t i ≡ 34 → (b : List ℕ) × IsString strict t i j b

@@ -12,7 +12,8 @@ use Rattle.sonic_text.proofs.Objects.{key_never_both}
 use Rattle.sonic_text.proofs.Strings.{string_one}
 use Rattle.sonic_pointer.specs.Nodes.{is_key}
 use Rattle.sonic_lazy.specs.Paths.{LeadsOn}
-use Rattle.sonic_lazy.specs.Walks.{opening, closing, Fits, members_fit, elements_fit, IsFresh, fresh_key, fresh_index, IsHead, member_head, element_head}
+use Rattle.sonic_parser.specs.Skipping.{closing}
+use Rattle.sonic_lazy.specs.Walks.{opening, Fits, members_fit, elements_fit, IsFresh, fresh_key, fresh_index, IsHead, member_head, element_head}
 use Rattle.sonic_lazy.proofs.Closing.{no_comma}
 use Rattle.sonic_lazy.proofs.Entering.{leads_open, never_in_empty}
 use Rattle.sonic_lazy.proofs.Walking.{head_leads, none_leads, not_headed, past_value, past_byte, past_key}

@@ -15,7 +15,8 @@ use Rattle.sonic_pointer.specs.Paths.{Path, HasNext, IsChildren}
 use Rattle.sonic_lazy.specs.Answers.{Span}
 use Rattle.sonic_lazy.specs.Paths.{fails, cut, LeadsOn, Evaluates}
 use Rattle.sonic_lazy.specs.Paths.Evaluates.{cut_before}
-use Rattle.sonic_lazy.specs.Walks.{Fits, IsFresh, IsHead, member_head, IsBehindFault, IsPath, IsSettled, IsNeeded, IsStop, faulty, Here, IsHere, IsLevel, IsNotOpen, IsPassed, IsBefore, IsBehind}
+use Rattle.sonic_parser.specs.Skipping.{IsBehindFault}
+use Rattle.sonic_lazy.specs.Walks.{Fits, IsFresh, IsHead, member_head, IsPath, IsSettled, IsNeeded, IsStop, faulty, Here, IsHere, IsLevel, IsNotOpen, IsPassed, IsBefore, IsBehind}
 use Rattle.sonic_lazy.proofs.Marked.{some_there, open_or_met}
 use Rattle.sonic_lazy.proofs.OnePath.{evaluates_one}
 use Rattle.sonic_lazy.proofs.Walking.{none_leads, not_headed, past_value, past_byte, past_key, still_fresh, next_fits, value_fault, behind_fault, settled_up, settled_no_fail, members_of}

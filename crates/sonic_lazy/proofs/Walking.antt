@@ -19,7 +19,8 @@ use Rattle.sonic_lazy.specs.Answers.{Span}
 use Rattle.sonic_lazy.specs.Paths.{Outcome, found, lacks, fails, LeadsOn, Evaluates, Leads}
 use Rattle.sonic_lazy.specs.Paths.LeadsOn.{to_member, to_element}
 use Rattle.sonic_lazy.specs.Paths.Evaluates.{goes_on, leads_nowhere, cut_before}
-use Rattle.sonic_lazy.specs.Walks.{Fits, members_fit, elements_fit, IsFresh, fresh_key, fresh_index, IsHead, member_head, element_head, IsBehindFault, closing, ComesTo, IsPath, IsSettled, was_found, was_lacked, AllSettled, IsGrown}
+use Rattle.sonic_parser.specs.Skipping.{IsBehindFault, closing}
+use Rattle.sonic_lazy.specs.Walks.{Fits, members_fit, elements_fit, IsFresh, fresh_key, fresh_index, IsHead, member_head, element_head, ComesTo, IsPath, IsSettled, was_found, was_lacked, AllSettled, IsGrown}
 use Rattle.sonic_lazy.proofs.Agreeing.{EndsBefore, element_ends, fails_before, fails_inside}
 use Rattle.sonic_lazy.proofs.Nodes.{one_more_without, no_first, member_of, element_of, not_past_fault, not_past_bad, not_past_key, not_past_value, not_past_byte, leads_on_one}
 use Rattle.sonic_lazy.proofs.OnePath.{evaluates_one}

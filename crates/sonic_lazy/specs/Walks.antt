@@ -1,15 +1,12 @@
 -- What a walk knows that goes through a text once, and follows all paths of a tree in it.
 use Rattle.std.specs.Prelude.{◌≡◌, ◌≢◌, ◌⊎◌, ℕ, ◌<◌, ◌≤◌, Bool, true, false, List, [], ◌∷◌, ◌++◌, Option, Some, None, length, slice_get}
 use Rattle.std.specs.List.{Contains}
-use Rattle.sonic_error.specs.declared.code.ErrorCode.{ErrorCode}
-use Rattle.sonic_error.specs.declared.code.ErrorCode.TheVariants.{ExpectedArrayCommaOrEnd, ExpectedObjectCommaOrEnd}
 use Rattle.sonic_text.specs.declared.stop.Stop.{Stop}
-use Rattle.sonic_text.specs.Places.{after_space, bad}
 use Rattle.sonic_text.specs.Strings.{strict}
 use Rattle.sonic_text.specs.Trees.{Node, key, index}
 use Rattle.sonic_text.specs.Values.{IsValue, IsKey, ElementsFit, MembersFit}
 use Rattle.sonic_text.specs.Documents.{IsRootFault}
-use Rattle.sonic_text.specs.Faults.{IsFault, NothingFits}
+use Rattle.sonic_text.specs.Faults.{IsFault}
 use Rattle.sonic_pointer.specs.Nodes.{is_key}
 use Rattle.sonic_pointer.specs.Paths.{Path, HasNext, IsChildren}
 use Rattle.sonic_lazy.specs.declared.reading.WalkError.{WalkError}
@@ -26,20 +23,6 @@ IsStopFor Says (At s) = Says s
 abbrev pub opening : Bool → ℕ
 opening true = 123
 opening false = 91
-
--- and the one that closes it
-abbrev pub closing : Bool → ℕ
-closing true = 125
-closing false = 93
-
--- the code where neither a comma nor that one stands behind an item
-abbrev pub code_behind : Bool → ErrorCode
-code_behind true = ExpectedObjectCommaOrEnd
-code_behind false = ExpectedArrayCommaOrEnd
-
--- behind the item that ends at e stands neither
-abbrev pub IsBehindFault : List ℕ → ℕ → Bool → Stop → Type 0
-IsBehindFault t e object s = NothingFits t e (closing object) × (s ≡ bad t (after_space t e) (code_behind object))
 
 -- in the object or the array at i the first n items fit, and the next is due at h
 pub data Fits (t : List ℕ) (i : ℕ) : Bool → ℕ → ℕ → Type 0 where

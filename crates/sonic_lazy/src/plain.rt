@@ -12,6 +12,7 @@ ghost use Rattle.sonic_lazy.specs.Walks.{IsStopFor, IsHead, Fits};
 
 use crate::many::find_many;
 use crate::reading::{WalkError, behind, key, kind_at, pass_byte, peek, skip};
+use crate::rows::{Paths, tree_of};
 use sonic_error::{ErrorCode, Note, Wanted};
 use sonic_input::{JsonSlice, Read};
 use sonic_parser::Parser;
@@ -350,9 +351,6 @@ fn plain_answer(
     Ok(Ok(all.iter().map(span).collect(alloc)?))
 }
 
-// The paths of a tree.
-type Paths = &'static [&'static [PointerNode<'static>]];
-
 const LISTS: [Paths; 11] = [
     &[],
     &[&[]],
@@ -425,38 +423,44 @@ fn check_text(
     Ok(())
 }
 
-// Checks all texts of up to six pieces.
+// Checks all texts of `length` pieces, which are `count`.
 fn check_texts(
+    rt: &impl Abort,
+    alloc: Global,
+    pieces: &[&[u8]; 10],
+    length: u8,
+    count: usize,
+    paths: Paths,
+    tree: &PointerTree,
+) -> Result<(), Fail> {
+    for n in 0..count {
+        let text = text_of_number(alloc, pieces, n, length)?;
+        check_text(rt, alloc, &text, paths, tree)?;
+    }
+    Ok(())
+}
+
+// Checks all texts of up to six pieces.
+fn check_paths(
     rt: &impl Abort,
     alloc: Global,
     pieces: &[&[u8]; 10],
     paths: Paths,
 ) -> Result<(), Fail> {
-    let mut tree = PointerTree::new(alloc);
-    for path in paths {
-        assert_eq!(rt; tree.add_path(alloc, *path), Ok(()), "{path:?}");
-    }
-    for (length, count) in [
-        (0, 1),
-        (1, 10),
-        (2, 100),
-        (3, 1_000),
-        (4, 10_000),
-        (5, 100_000),
-        (6, 1_000_000),
-    ] {
-        for n in 0..count {
-            let text = text_of_number(alloc, pieces, n, length)?;
-            check_text(rt, alloc, &text, paths, &tree)?;
-        }
-    }
-    Ok(())
+    let tree = tree_of(rt, alloc, paths);
+    check_texts(rt, alloc, pieces, 0, 1, paths, &tree)?;
+    check_texts(rt, alloc, pieces, 1, 10, paths, &tree)?;
+    check_texts(rt, alloc, pieces, 2, 100, paths, &tree)?;
+    check_texts(rt, alloc, pieces, 3, 1_000, paths, &tree)?;
+    check_texts(rt, alloc, pieces, 4, 10_000, paths, &tree)?;
+    check_texts(rt, alloc, pieces, 5, 100_000, paths, &tree)?;
+    check_texts(rt, alloc, pieces, 6, 1_000_000, paths, &tree)
 }
 
 #[test]
 fn finds_in_all_short_texts_what_the_plain_program_finds(rt: HostRuntime) -> Result<(), Fail> {
     for paths in LISTS {
-        check_texts(&rt, rt.alloc(), &LETTERS, paths)?;
+        check_paths(&rt, rt.alloc(), &LETTERS, paths)?;
     }
     Ok(())
 }
@@ -466,7 +470,7 @@ fn finds_in_all_texts_of_few_pieces_what_the_plain_program_finds(
     rt: HostRuntime,
 ) -> Result<(), Fail> {
     for paths in LISTS {
-        check_texts(&rt, rt.alloc(), &PIECES, paths)?;
+        check_paths(&rt, rt.alloc(), &PIECES, paths)?;
     }
     Ok(())
 }

@@ -6,7 +6,8 @@ ghost use Rattle.sonic_text.specs.Values.{IsValue, IsKey};
 ghost use Rattle.sonic_text.specs.Faults.{IsFault, IsKeyFault};
 ghost use Rattle.sonic_parser.specs.Parsers.{due, moved};
 ghost use Rattle.sonic_lazy.specs.Paths.{kind_at};
-ghost use Rattle.sonic_lazy.specs.Walks.{IsStopFor, IsBehindFault, IsNoEntry, Fits, closing, opening};
+ghost use Rattle.sonic_parser.specs.Skipping.{IsBehindFault, closing};
+ghost use Rattle.sonic_lazy.specs.Walks.{IsStopFor, IsNoEntry, Fits, opening};
 
 use sonic_error::{ErrorCode, JsonType, Note, Wanted};
 use sonic_parser::Parser;

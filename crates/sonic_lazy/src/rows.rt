@@ -11,7 +11,7 @@ use std::process::Abort;
 use std::test::Fail;
 
 // The paths of a tree.
-type Paths = &'static [&'static [PointerNode<'static>]];
+pub(crate) type Paths = &'static [&'static [PointerNode<'static>]];
 
 // The paths, a text, and what they find in it.
 type Answered = (Paths, &'static str, &'static [Option<&'static str>]);
@@ -19,7 +19,7 @@ type Answered = (Paths, &'static str, &'static [Option<&'static str>]);
 // The paths, a text, and the code and the offset of the one error.
 type Refused = (Paths, &'static str, ErrorCode, usize);
 
-fn tree_of(rt: &impl Abort, alloc: Global, paths: Paths) -> PointerTree {
+pub(crate) fn tree_of(rt: &impl Abort, alloc: Global, paths: Paths) -> PointerTree {
     let mut tree = PointerTree::new(alloc);
     for path in paths {
         assert_eq!(rt; tree.add_path(alloc, *path), Ok(()), "{path:?}");

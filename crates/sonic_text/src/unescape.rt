@@ -1,7 +1,7 @@
 // Strings with their escapes undone (RFC 8259, section 7), where a whole string is known to stand.
 ghost use Rattle.std.specs.Prelude.{◌≡◌, ◌≢◌, ℕ, ◌+◌, ◌<◌, ◌≤◌, ◌++◌, ◌==◌, Bool, List, length, map, None, IfSome, IfErr, OnOk, OnErr, unwrap_or, encode_utf8};
 ghost use Rattle.std.specs.Simd.Lanes.{mask_l};
-ghost use Rattle.sonic_error.specs.Errors.{error_code};
+ghost use Rattle.sonic_error.specs.Errors.{IsPlainError};
 ghost use Rattle.sonic_text.specs.Places.{byte};
 ghost use Rattle.sonic_text.specs.Strings.{escaped, IsEscape, IsLow, IsLowEscape, IsChar, IsUnicodeChar, IsString};
 
@@ -187,7 +187,7 @@ pub fn unescape_into(
     ensures ok { OnOk result ((b : List ℕ) × IsString lossy text.now start end b
         × (out.new.items ≡ out.old.items ++ b)) }
     ensures err { OnErr result (out.new.items ≡ out.old.items) }
-    ensures only_memory { IfErr result (λ e. error_code e ≡ ErrorCode.NoMemory) }
+    ensures only_memory { IfErr result (λ e. IsPlainError e ErrorCode.NoMemory) }
 {
     let len = out.len();
     match append_chars(out, text, start, end, lossy) {

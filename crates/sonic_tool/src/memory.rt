@@ -1,5 +1,5 @@
 ghost use Rattle.std.specs.Prelude.{◌≡◌, ◌↔◌, ◌+◌, ◌-◌, ◌^◌, ◌<◌, ◌≤◌, min, List, [], Some, None, length, take, drop, vec_capacity, IfOk, IfErr, IsErr, OnErr, Contains};
-ghost use Rattle.sonic_error.specs.Errors.{error_code};
+ghost use Rattle.sonic_error.specs.Errors.{IsPlainError};
 ghost use Rattle.sonic_tool.specs.Outside.{Rose};
 
 use crate::sink::Sink;
@@ -161,7 +161,7 @@ impl MemorySink {
         requires { 1 ≤ piece }
         ensures empty { IfOk result (λ sink. ⟦<MemorySink as Sink>⟧.written sink ≡ Some []) }
         ensures calm { IfOk result (λ sink. ⟦<MemorySink as Sink>⟧.faults sink ≡ 0) }
-        ensures only_memory { IfErr result (λ error. error_code error ≡ ErrorCode.NoMemory) }
+        ensures only_memory { IfErr result (λ error. IsPlainError error ErrorCode.NoMemory) }
     {
         let Ok(held) = Vec::with_capacity(alloc, room) else {
             return Err(Error::plain(ErrorCode::NoMemory));

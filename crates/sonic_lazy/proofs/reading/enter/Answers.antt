@@ -1,6 +1,7 @@
 use Rattle.std.proofs.Common.{◌≡◌, ◌∙◌, ◌+◌, sym, refl}
 use Rattle.sonic_text.specs.Places.{byte, after_space}
-use Rattle.sonic_lazy.specs.Walks.{opening, closing}
+use Rattle.sonic_parser.specs.Skipping.{closing}
+use Rattle.sonic_lazy.specs.Walks.{opening}
 use Rattle.sonic_lazy.proofs.Entering.{empty_code, no_entry_in_empty, first_fits}
 use Rattle.sonic_lazy.proofs.Spaces.{after_space_twice}
 use Rattle.sonic_lazy.proofs.reading.enter.Goals as goal
