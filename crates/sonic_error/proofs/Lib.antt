@@ -1,1 +1,1 @@
-pub mod PlaceLemmas
+mod PlaceLemmas

@@ -3,11 +3,13 @@ use Rattle.std.specs.Prelude.{◌≡◌, ℕ, ◌+◌, ◌-◌, ◌^◌, ◌⊎�
 use Rattle.std.specs.Str.{IsUtf8}
 use Rattle.sonic_error.specs.Texts.{valid_up_to}
 
--- a text, the place in it that is read next, its mark, whether it came as bytes that may be no UTF-8, and whether its bytes are shared
+-- a text, the place in it that is read next, its mark, whether the mark was looked for, whether the text came as bytes that may be no UTF-8,
+-- and whether its bytes are shared
 pub record Cursor : Type 0 where
   pub text : List ℕ
   pub place : ℕ
   pub mark : ℕ
+  pub is_marked : Bool
   pub is_bytes : Bool
   pub is_shared : Bool
 

@@ -1,5 +1,5 @@
 // The cursor that a parser reads an input with.
-ghost use Rattle.std.specs.Prelude.{◌≡◌, ◌≢◌, ◌+◌, ◌-◌, ◌<◌, ◌≤◌, ◌↔◌, true, false, length, slice_index, slice_range, IsOk, IsSome, IfSome, IfNone, OnSome, IfErr};
+ghost use Rattle.std.specs.Prelude.{◌≡◌, ◌≢◌, ◌+◌, ◌-◌, ◌<◌, ◌≤◌, ◌↔◌, ℕ, true, false, length, slice_index, slice_range, IsOk, IsSome, IfSome, IfNone, OnSome, IfErr};
 ghost use Rattle.std.specs.Option.{SomeIff};
 ghost use Rattle.std.specs.Str.{IsUtf8};
 ghost use Rattle.sonic_error.specs.Errors.{IsErrorAt};
@@ -14,7 +14,7 @@ use std::marker::Model;
 ///
 /// The cursor is an index of the input's bytes, from 0 to their number. The mark is an index
 /// too, or `usize::MAX` where nothing is broken. Inputs that are text already are never looked
-/// at for it.
+/// at for it, and a reader of [`Read::unmarked`] has none until it is looked for.
 ///
 /// ```text
 /// let mut read = Read::from("[1]");
@@ -29,6 +29,8 @@ pub struct Read<'de> {
     text: &'de [u8],
     index: usize,
     next_invalid_utf8: usize,
+    // Whether the mark was looked for, or nothing can be broken.
+    is_marked: bool,
     need_utf8_valid: bool,
 }
 
@@ -68,6 +70,7 @@ impl<'de> Read<'de> {
         ensures is_bytes { result.is_bytes ≡ I.JsonInput.is_bytes }
         ensures is_shared { result.is_shared ≡ I.JsonInput.shares }
         ensures mark { IsMark result.is_bytes result.text 0 result.mark }
+        ensures is_marked { result.is_marked ≡ true }
     {
         let need_utf8_valid = input.need_utf8_valid();
         let text = input.to_u8_slice();
@@ -80,6 +83,7 @@ impl<'de> Read<'de> {
             } else {
                 usize::MAX
             },
+            is_marked: true,
             need_utf8_valid,
         }
     }
@@ -94,12 +98,14 @@ impl<'de> Read<'de> {
         ensures is_bytes { result.is_bytes ≡ false }
         ensures is_shared { result.is_shared ≡ is_shared slice.entry }
         ensures mark { result.mark ≡ usize.MAX }
+        ensures is_marked { result.is_marked ≡ true }
     {
         Read {
             input: slice,
             text: slice.bytes(),
             index: 0,
             next_invalid_utf8: usize::MAX,
+            is_marked: true,
             need_utf8_valid: false,
         }
     }
@@ -107,19 +113,22 @@ impl<'de> Read<'de> {
     /// A cursor at the first byte of a slice whose bytes aren't looked at.
     ///
     /// The slice counts as bytes that may be no UTF-8, and there is no mark until
-    /// `check_invalid_utf8` looks for one. So what isn't read isn't looked at either.
+    /// `check_invalid_utf8` looks for one: till then `next_invalid_utf8` and `check_utf8_final`
+    /// say nothing of the bytes. So what isn't read isn't looked at either.
     pub fn unmarked(slice: JsonSlice<'de>) -> Read<'de>
         ensures text { result.text ≡ slice_bytes slice.entry }
         ensures place { result.place ≡ 0 }
         ensures is_bytes { result.is_bytes ≡ true }
         ensures is_shared { result.is_shared ≡ is_shared slice.entry }
         ensures mark { result.mark ≡ usize.MAX }
+        ensures is_marked { result.is_marked ≡ false }
     {
         Read {
             input: slice,
             text: slice.bytes(),
             index: 0,
             next_invalid_utf8: usize::MAX,
+            is_marked: false,
             need_utf8_valid: true,
         }
     }
@@ -299,9 +308,13 @@ impl<'de> Read<'de> {
 
     /// The mark: the first place where the UTF-8 is broken, or `usize::MAX`.
     ///
-    /// Of the bytes 0x22 0xFF 0x22 it is 1.
+    /// Of the bytes 0x22 0xFF 0x22 it is 1. A reader without a mark has `usize::MAX` too.
     pub fn next_invalid_utf8(&self) -> usize
         ensures mark { result ≡ self.now.mark }
+        ensures marked { self.now.is_marked ≡ true
+            → (from : ℕ) × IsMark self.now.is_bytes self.now.text from result }
+        ensures unmarked { self.now.is_marked ≡ false
+            → (self.now.is_bytes ≡ true) × (result ≡ usize.MAX) }
         ensures inside { result ≢ usize.MAX → result ≤ length self.now.text }
     {
         self.next_invalid_utf8
@@ -326,13 +339,14 @@ impl<'de> Read<'de> {
     /// So a caller passes a broken place that doesn't matter: with the cursor behind it, the mark
     /// is the next one. Of text there is no mark, and nothing is looked at.
     pub fn check_invalid_utf8(&mut self)
-        ensures kept { self.new ≡ record self.old { mark = self.new.mark } }
+        ensures kept { self.new ≡ record self.old { mark = self.new.mark; is_marked = true } }
         ensures bytes { self.old.is_bytes ≡ true
             → IsMark true self.old.text self.old.place self.new.mark }
         ensures text { self.old.is_bytes ≡ false → self.new ≡ self.old }
     {
         if self.need_utf8_valid {
             self.next_invalid_utf8 = first_broken(self.text, self.index);
+            self.is_marked = true;
         }
     }
 }

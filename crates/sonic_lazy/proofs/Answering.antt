@@ -1,32 +1,34 @@
 -- What a walk that ended says of the paths' answer.
-use Rattle.std.proofs.Common.{◌≡◌, ◌≢◌, ◌∙◌, ◌⊎◌, inl, inr, ap, sym, ℕ, zero, suc, ◌+◌, ◌<◌, ◌≤◌, List, [], ◌∷◌, ◌++◌, Bool, true, false, length, take, subst, ◌-◌, ◌==◌, ◌&&◌, arith, refl}
-use Rattle.std.specs.Prelude.{Option, Some, None, slice_get, map, replicate, IfSome}
+use Rattle.std.proofs.Common.{◌≡◌, ◌≢◌, ◌∙◌, ◌⊎◌, inl, inr, ap, sym, ℕ, zero, suc, ◌<◌, ◌≤◌, List, [], ◌∷◌, ◌++◌, Bool, true, false, length, take, subst, ◌-◌, arith, refl}
+use Rattle.std.specs.Prelude.{Option, Some, None, slice_get, map, option_map, replicate, IfSome}
 use Rattle.std.specs.Option.{IsSomeAnd}
 use Rattle.std.specs.List.{Contains}
 use Rattle.std.specs.Str.{IsUtf8}
-use Rattle.std.proofs.lemmas.List.{length-replicate}
+use Rattle.std.proofs.lemmas.List.{length-replicate, map-append}
 use Rattle.std.proofs.lemmas.Option.{slice_get_within, same_Some, some_pair_parts}
 use Rattle.sonic_error.specs.declared.code.ErrorCode.TheVariants.{InvalidUTF8}
 use Rattle.sonic_error.specs.Texts.{valid_up_to}
 use Rattle.sonic_text.specs.declared.stop.Stop.{Stop}
-use Rattle.sonic_text.specs.Places.{byte, after_space}
+use Rattle.sonic_text.specs.Places.{after_space}
 use Rattle.sonic_text.specs.Strings.{strict}
 use Rattle.sonic_text.specs.Documents.{IsWhole, IsRootFault}
-use Rattle.sonic_text.specs.Trees.{Node, key, index}
+use Rattle.sonic_text.specs.Paths.{Path}
 use Rattle.sonic_text.specs.Values.{IsValue}
 use Rattle.sonic_text.proofs.Outcomes.{value_some_outcome}
 use Rattle.sonic_text.proofs.Stops.{fault_within}
 use Rattle.sonic_text.proofs.Values.{value-longer, value_fault_one}
-use Rattle.sonic_pointer.specs.Paths.{Path, HasFront}
+use Rattle.sonic_pointer.specs.Paths.{HasFront}
 use Rattle.sonic_lazy.specs.Answers.{AllLead, no_more, one_more, IsNearest, nearest_here, nearest_later, NoneFails, NoneCut, SomeLacks, IsReach, to_the_root, to_the_furthest, Span, span_of, Answer, ComeTo, no_path, failing, cutting, lacking, breaking, finding, IsAnswer}
-use Rattle.sonic_lazy.specs.Paths.{Outcome, found, lacks, fails, cut, nowhere, Evaluates, Leads}
+use Rattle.sonic_lazy.specs.Paths.{Outcome, found, lacks, fails, cut, kind_of, Evaluates, Leads}
 use Rattle.sonic_lazy.specs.Paths.Evaluates.{stands, goes_on, leads_nowhere}
-use Rattle.sonic_lazy.specs.Walks.{ComesTo, IsSettled, was_found, was_lacked, IsTold, SomeLack, IsNeeded, IsStop, nearest, faulty, IsVisited, IsUnneeded, IsFurthest, IsError}
-use Rattle.sonic_lazy.proofs.BeforeFaults.{either, tells_before_end, tells_before_fault}
+use Rattle.sonic_lazy.specs.declared.located.Located.{Located}
+use Rattle.sonic_lazy.specs.Located.{span_at, spans_of}
+use Rattle.sonic_lazy.specs.Walks.{Findings, IsSettled, was_found, was_lacked, IsTold, SomeLack, IsNeeded, IsStop, nearest, faulty, IsVisited, IsUnneeded, IsFurthest, IsError}
+use Rattle.sonic_lazy.proofs.BeforeFaults.{nowhere_finds_none, tells_before_end, tells_before_fault}
 use Rattle.sonic_lazy.proofs.Gathered.{none_in_empty, first_in, later_in, first_or_later, nearer_than, cut_or_none}
 use Rattle.sonic_lazy.proofs.OneAnswer.{all_some, cut_by_root}
 use Rattle.sonic_lazy.proofs.OnePath.{evaluates_one}
-use Rattle.sonic_lazy.proofs.Within.{value_within}
+use Rattle.sonic_text.proofs.Within.{value_within}
 
 -- a path ends so where the walk does: it found a value, or it lacks its key and that is noted
 abbrev pub IsEnd : Bool → Outcome → Type 0
@@ -80,8 +82,8 @@ held (x ∷ xs) zero l = (x, refl)
 held (x ∷ xs) (suc k) l = held xs k (omega arith)
 
 -- a path that lacks its key keeps no span
-lacks_kept : {t : List ℕ} {paths : List Path} {spans : List (Option Span)} {noted : Bool} {q : ℕ} (k : ℕ) (path : Path) (x : Option Span)
-    → IsTold t paths spans noted → slice_get paths k ≡ Some path → Leads t path (lacks q) → slice_get spans k ≡ Some x → x ≡ None
+lacks_kept : {t : List ℕ} {paths : List Path} {notes : Findings} {q : ℕ} (k : ℕ) (path : Path) (x : Option Span)
+    → IsTold t paths notes → slice_get paths k ≡ Some path → Leads t path (lacks q) → slice_get notes.spans k ≡ Some x → x ≡ None
 lacks_kept k path None told is l h = refl
 lacks_kept {t} {paths} {q = q} k path (Some (i, j)) told is l h =
     let was = told.told k i j h in
@@ -91,20 +93,19 @@ lacks_kept {t} {paths} {q = q} k path (Some (i, j)) told is l h =
     absurd cc
 
 -- a path that is settled ends so
-settled_ends : {t : List ℕ} {paths : List Path} {spans : List (Option Span)} {noted : Bool} (k : ℕ) (path : Path) → IsTold t paths spans noted
-    → slice_get paths k ≡ Some path → IsSettled t spans noted k path → Ends t noted (slice_get spans k) path
+settled_ends : {t : List ℕ} {paths : List Path} {notes : Findings} (k : ℕ) (path : Path) → IsTold t paths notes
+    → slice_get paths k ≡ Some path → IsSettled t notes k path → Ends t notes.lacking (slice_get notes.spans k) path
 settled_ends k path told is (was_found {i = i} {j} l h) = record { outcome = found i j; leads = l; end = tt; is = h }
-settled_ends {paths = paths} {spans} k path told is (was_lacked {q = q} l e) =
-    let within : k < length spans = (let w = slice_get_within paths k path is in omega (arith, w, told.long)) in
-    let x = held spans k within in
+settled_ends {paths = paths} {notes} k path told is (was_lacked {q = q} l e) =
+    let within : k < length notes.spans = (let w = slice_get_within paths k path is in omega (arith, w, told.long)) in
+    let x = held notes.spans k within in
     let none : x.0 ≡ None = lacks_kept k path x.0 told is l x.1 in
     record { outcome = lacks q; leads = l; end = e; is = rw none at x.1 }
 
 -- where the walk ends, all paths are gathered
-pub gathered : {t : List ℕ} {paths : List Path} {before spans : List (Option Span)} {lacked noted : Bool} → IsVisited t paths [] before lacked spans noted
-    → IsGathered t noted spans paths
-gathered {t} {paths} {spans = spans} {noted = noted} v =
-    gather t noted spans paths v.told.long (λ k path is. settled_ends k path v.told is (v.settled k path is))
+pub gathered : {t : List ℕ} {paths : List Path} {before notes : Findings} → IsVisited t paths [] before notes → IsGathered t notes.lacking notes.spans paths
+gathered {t} {paths} {notes = notes} v =
+    gather t notes.lacking notes.spans paths v.told.long (λ k path is. settled_ends k path v.told is (v.settled k path is))
 
 -- a path's outcome is among all
 lead_at : {t : List ℕ} {paths : List Path} {os : List Outcome} {o : Outcome} (k : ℕ) (path : Path) → AllLead t paths os → slice_get paths k ≡ Some path
@@ -172,25 +173,11 @@ first_found noted (lacks q) e end = (let clash : true ≡ false = sym end ∙ e 
 first_found noted (fails s) e end = absurd end
 first_found noted (cut s) e end = absurd end
 
--- what leads nowhere finds nothing
-abbrev pub FindsNone : Outcome → Type 0
-FindsNone (found i j) = ⊥
-FindsNone (lacks q) = Unit {0}
-FindsNone (fails s) = Unit {0}
-FindsNone (cut s) = Unit {0}
-
--- no node does
-pub nowhere_finds_none : (t : List ℕ) (i q : ℕ) (node : Node) → FindsNone (nowhere t i q node)
-nowhere_finds_none t i q (key k) =
-    either FindsNone (byte t i == 123 && byte t (after_space t (i + 1)) == 125) _ _ tt (either FindsNone (byte t i == 123) _ _ tt tt)
-nowhere_finds_none t i q (index k) =
-    either FindsNone (byte t i == 91 && byte t (after_space t (i + 1)) == 93) _ _ tt (either FindsNone (byte t i == 91) _ _ tt tt)
-
 -- a value that a path found is one
 pub found_value : {t : List ℕ} {a b : ℕ} (path : Path) {i : ℕ} → Evaluates t i path (found a b) → IsValue strict t a b
 found_value [] (stands x) = x
 found_value (node ∷ rest) (goes_on l e) = found_value rest e
-found_value {t} (node ∷ rest) {i} (leads_nowhere {j = j} x none e) = absurd (rw (← e) at (nowhere_finds_none t i (j - 1) node))
+found_value {t} (node ∷ rest) {i} (leads_nowhere {j = j} x none e) = absurd (rw (← e) at (nowhere_finds_none t i (j - 1) (kind_of node)))
 
 -- some path leads somewhere
 some_outcome : {t : List ℕ} {paths : List Path} {os : List Outcome} → AllLead t paths os → paths ≢ [] → (o : Outcome) × Contains os o
@@ -228,11 +215,11 @@ reach_furthest {noted = noted} {spans} {r = r} g some e f =
 
 -- how far the text is needed
 pub reached : {t : List ℕ} {noted : Bool} {spans : List (Option Span)} {paths : List Path} {r e : ℕ} (g : IsGathered t noted spans paths) → paths ≢ []
-    → IsTold t paths spans noted → (noted ≡ true → IsWhole t e) → (noted ≡ true → r ≡ e) → (noted ≡ false → IsFurthest spans r) → IsReach t g.outcomes r
-reached {noted = false} g some told whole at_end furthest = reach_furthest g some refl (furthest refl)
-reached {t} {noted = true} {r = r} g some told whole at_end furthest =
+    → (noted ≡ true → SomeLack t paths) → (noted ≡ true → IsWhole t e) → (noted ≡ true → r ≡ e) → (noted ≡ false → IsFurthest spans r) → IsReach t g.outcomes r
+reached {noted = false} g some lack whole at_end furthest = reach_furthest g some refl (furthest refl)
+reached {t} {noted = true} {r = r} g some lack whole at_end furthest =
     let x : IsWhole t r = rw (at_end refl) (whole refl) in
-    to_the_root (ends_lack g (told.lack refl)) x
+    to_the_root (ends_lack g (lack refl)) x
 
 -- which lies within it
 pub reach_within : {t : List ℕ} {noted : Bool} {spans : List (Option Span)} {paths : List Path} {r : ℕ} (g : IsGathered t noted spans paths)
@@ -332,10 +319,6 @@ stop_answers {t} {paths} {s} is_bytes (faulty f none needs) =
       within = fault_within f;
     }
 
--- the root is where the walk begins
-pub root_comes : (t : List ℕ) → ComesTo t [] (after_space t 0)
-root_comes t = record { up = λ rest o e. e; fault = λ s f. f }
-
 -- and each path has the empty front
 pub root_front : (paths : List Path) → paths ≢ [] → HasFront paths []
 root_front [] some = absurd (some refl)
@@ -345,6 +328,10 @@ root_front (p ∷ paths) some = record { rest = p; path = (0, omega arith, refl)
 abbrev pub no_span : Option Span
 no_span = None
 
+-- and no value
+abbrev pub no_value : Option Located
+no_value = None
+
 -- and so nothing is read there
 nothing_there : (n k i j : ℕ) → slice_get (replicate n no_span) k ≢ Some (Some (i, j))
 nothing_there zero k i j h = absurd cc
@@ -352,7 +339,7 @@ nothing_there (suc n) zero i j h = absurd cc
 nothing_there (suc n) (suc k) i j h = nothing_there n k i j h
 
 -- before it nothing is told
-pub root_told : (t : List ℕ) (paths : List Path) (n : ℕ) → n ≡ length paths → IsTold t paths (replicate n no_span) false
+pub root_told : (t : List ℕ) (paths : List Path) (n : ℕ) → n ≡ length paths → IsTold t paths (record { spans = replicate n no_span; lacking = false })
 root_told t paths n e = record {
   long = length-replicate n no_span ∙ e;
   told = λ k i j h. absurd (nothing_there n k i j h);
@@ -365,9 +352,9 @@ no_paths t is_bytes [] e = record { outcomes = []; lead = no_more; come_to = no_
 no_paths t is_bytes (p ∷ paths) e = absurd cc
 
 -- where some path lacks its key, the value was read to its end
-pub whole_if : {X : Type 0} (whole noted : Bool) → IsUnneeded whole false noted → (whole ≡ true → X) → noted ≡ true → X
-whole_if true noted un there e = there refl
-whole_if false noted un there e = (let clash : true ≡ false = sym e ∙ (un refl).1 in absurd cc)
+pub whole_if : {X : Type 0} (whole : Bool) (notes : Findings) → IsUnneeded whole false notes → (whole ≡ true → X) → notes.lacking ≡ true → X
+whole_if true notes un there e = there refl
+whole_if false notes un there e = (let clash : true ≡ false = sym e ∙ (un refl).1 in absurd cc)
 
 -- what a longer list holds is what the shorter one held, or the last
 held_or_last : {X : Type 0} {y : X} (xs : List X) (x : X) (k : ℕ) → slice_get (xs ++ x ∷ []) k ≡ Some y → (slice_get xs k ≡ Some y) ⊎ (x ≡ y)
@@ -413,3 +400,23 @@ furthest_more {xs} {r} {q} x f l most one = record {
     ]
   ];
 }
+
+-- the end of a value is that of its span
+end_of : (x : Option Located) (P : ℕ → Type 0) → IfSome x (λ y. P y.end) → IfSome (option_map span_at x) (λ s. P s.1)
+end_of None P h = h
+end_of (Some y) P h = h
+
+some_end_of : (x : Option Located) (q : ℕ) → IsSomeAnd x (λ y. y.end ≡ q) → IsSomeAnd (option_map span_at x) (λ s. s.1 ≡ q)
+some_end_of None q h = h
+some_end_of (Some y) q h = h
+
+-- one more value
+pub furthest_value : (xs : List (Option Located)) {r q : ℕ} (x : Option Located) → IsFurthest (spans_of xs) r → r ≤ q → IfSome x (λ y. y.end ≤ q)
+    → (q ≡ r) ⊎ IsSomeAnd x (λ y. y.end ≡ q) → IsFurthest (spans_of (xs ++ x ∷ [])) q
+furthest_value xs {q = q} x f l most one =
+    rw map-append (furthest_more (option_map span_at x) f l (end_of x (λ e. e ≤ q) most) (elim one [ inl same ↦ inl same | inr there ↦ inr (some_end_of x q there) ]))
+
+-- no value was found yet
+pub replicate_none : (n : ℕ) → spans_of (replicate n no_value) ≡ replicate n no_span
+replicate_none zero = refl
+replicate_none (suc n) = both_same refl (replicate_none n)

@@ -1,22 +1,24 @@
 -- The span of a value in a text is a whole value.
-use Rattle.std.proofs.Common.{◌≡◌, ◌≢◌, ◌↔◌, ℕ, ◌+◌, ◌-◌, ◌<◌, ◌≤◌, Bool, false, List, length, take, drop, codes, add-zero, arith}
+use Rattle.std.proofs.Common.{◌≡◌, ◌↔◌, ℕ, ◌+◌, ◌-◌, ◌<◌, ◌≤◌, Bool, List, length, take, drop, codes, add-zero, arith}
 use Rattle.std.specs.Prelude.{IsTrue, slice_range}
 use Rattle.std.specs.Str.{IsUtf8, IsCharBoundary}
 use Rattle.std.proofs.lemmas.List.{get_or-take, length-take, drop-take, take-take}
 use Rattle.std.proofs.lemmas.Str.{IsUtf8-between, IsCharBoundary-after_ascii}
+use Rattle.sonic_text.specs.declared.kind.Kind.{Kind}
+use Rattle.sonic_text.specs.declared.kind.Kind.TheVariants.{Array, Object}
 use Rattle.sonic_text.specs.Literals.{IsLiteral}
 use Rattle.sonic_text.specs.Places.{byte}
-use Rattle.sonic_text.specs.declared.stop.Stop.{Stop}
-use Rattle.sonic_text.specs.Strings.{strict, IsString, IsStringFault}
-use Rattle.sonic_text.specs.Faults.IsFault.{string_fault}
-use Rattle.sonic_parser.specs.Parsers.{IsEscapedString}
-use Rattle.sonic_lazy.specs.Wholes.{IsWholeValue}
-use Rattle.sonic_text.specs.Values.{IsValue}
-use Rattle.sonic_text.specs.Values.IsValue.{null_literal, true_literal, false_literal, number, string, empty_array, array, empty_object, object}
+use Rattle.sonic_text.specs.Strings.{strict, IsEscapedString}
+use Rattle.sonic_text.specs.Values.{opening, closing, IsValue}
+use Rattle.sonic_text.specs.Values.IsValue.{null_literal, true_literal, false_literal, number, string, empty, filled}
 use Rattle.sonic_text.proofs.Ascii.{number_ascii}
 use Rattle.sonic_text.proofs.Numbers.{number_longer}
-use Rattle.sonic_text.proofs.Values.{value-longer, value_end_one, value_never_both, elements_open, members_open}
-use Rattle.sonic_text.proofs.ValueParts.{value_of_part}
+use Rattle.sonic_text.proofs.Values.{value-longer, items_open}
+use Rattle.sonic_text.proofs.ValueParts.{value_of_part, escaped_of_part}
+use Rattle.sonic_parser.specs.declared.status.ParseStatus.{ParseStatus}
+use Rattle.sonic_parser.specs.declared.status.ParseStatus.TheVariants.{HasEscaped}
+use Rattle.sonic_lazy.specs.Located.{IsStatus}
+use Rattle.sonic_lazy.specs.Wholes.{IsWholeValue, IsPart}
 
 -- the first and the last byte of a value are ASCII
 abbrev AreEndsAscii : List ℕ → ℕ → ℕ → Type 0
@@ -36,6 +38,11 @@ word_ends word t i j some first last h =
 last_at : (t : List ℕ) (q j b : ℕ) → j ≡ q + 1 → byte t q ≡ b → b < 128 → byte t (j - 1) < 128
 last_at t q j b e c l = let p : j - 1 ≡ q = omega arith in rw (p, c) l
 
+-- brackets are ASCII
+bracket_ascii : (kind : Kind) → (opening kind < 128) × (closing kind < 128)
+bracket_ascii Array = (omega arith, omega arith)
+bracket_ascii Object = (omega arith, omega arith)
+
 -- the ends of a value
 value_ends : {t : List ℕ} {i j : ℕ} → IsValue strict t i j → AreEndsAscii t i j
 value_ends {t} {i} {j} (null_literal h) = word_ends (codes "null") t i j (omega arith) (omega arith) (omega arith) h
@@ -45,10 +52,13 @@ value_ends {t} {i} {j} (number h) =
     let l = number_longer h in
     (number_ascii t i j h i (omega arith) l, number_ascii t i j h (j - 1) (omega arith) (omega arith))
 value_ends {t} {i} {j} (string h) = (omega (arith, h.opens), last_at t h.close j 34 h.end h.closes (omega arith))
-value_ends {t} {i} {j} (empty_array b c q) = (omega (arith, b), last_at t _ j 93 q c (omega arith))
-value_ends {t} {i} {j} (array es x c q) = (omega (arith, elements_open es), last_at t _ j 93 q c (omega arith))
-value_ends {t} {i} {j} (empty_object b c q) = (omega (arith, b), last_at t _ j 125 q c (omega arith))
-value_ends {t} {i} {j} (object ms y x c q) = (omega (arith, members_open ms), last_at t _ j 125 q c (omega arith))
+value_ends {t} {i} {j} (empty kind b c q) =
+    let l = bracket_ascii kind in
+    (omega arith, last_at t _ j (closing kind) q c l.1)
+value_ends {t} {i} {j} (filled {kind} is y x c q) =
+    let l = bracket_ascii kind in
+    let b = items_open is in
+    (omega arith, last_at t _ j (closing kind) q c l.1)
 
 -- a part of UTF-8 text that begins and ends with ASCII bytes is UTF-8
 utf8_between : (b : List ℕ) (i j : ℕ) → IsUtf8 b → i < j → j ≤ length b → byte b i < 128 → byte b (j - 1) < 128 → IsUtf8 (slice_range b i j)
@@ -77,32 +87,20 @@ utf8_of_span {t} {i} {j} r u x h within =
     let same : slice_range (take r t) i j ≡ slice_range t i j = part_of_front t r i j (omega arith) h in
     rw (← same) part
 
--- what begins with a quote and is a value is a string
-pub escaped_yes : {b : List ℕ} {e : ℕ} {c : List ℕ} (is : Bool) → IsValue strict b 0 (length b) → byte b 0 ≡ 34 → IsString strict b 0 e c
-    → (IsTrue is ↔ ((k : ℕ) × (0 < k) × (k + 1 < e) × (byte b k ≡ 92))) → IsTrue is ↔ IsEscapedString b 0 (length b)
-escaped_yes {b} {e} is x q s h =
-    let same : e ≡ length b = value_end_one (string s) x in
-    let g : IsTrue is ↔ ((k : ℕ) × (0 < k) × (k + 1 < length b) × (byte b k ≡ 92)) = rw same at h in
-    (λ y. let z = g.0 y in (q, z.0, z.1, z.2, z.3), λ y. g.1 (y.1, y.2, y.3, y.4))
+-- the status of a value is that of its own text
+status_of_part : (t b : List ℕ) (i j : ℕ) (status : ParseStatus) → b ≡ slice_range t i j → i < j → j ≤ length t → IsStatus t i j status
+    → (is : Bool) → IsTrue is ↔ (status ≡ HasEscaped) → IsTrue is ↔ IsEscapedString b 0 (length b)
+status_of_part t b i j status e l within (f, g) is (y, z) =
+    let (v, w) = escaped_of_part t i j l within in
+    rw e (λ h. v (f (y h)), λ h. z (g (w h)))
 
--- so it has no fault
-pub escaped_never : {b : List ℕ} {s : Stop} (is : Bool) → IsValue strict b 0 (length b) → byte b 0 ≡ 34 → IsStringFault strict b 0 s
-    → IsTrue is ↔ IsEscapedString b 0 (length b)
-escaped_never is x q f = absurd (value_never_both x (string_fault q f))
+-- a part of a text is a whole value
+pub whole_of_part : {t b : List ℕ} {i j : ℕ} {status : ParseStatus} {is : Bool} → b ≡ slice_range t i j → IsPart t i j → IsStatus t i j status
+    → (IsTrue is ↔ (status ≡ HasEscaped)) → IsWholeValue b is
+whole_of_part {t} {b} {i} {j} {status} {is} e p s m = record {
+  value = rw e (value_of_part p.value p.inside);
+  utf8 = rw e p.utf8;
+  mark = status_of_part t b i j status e (value-longer p.value) p.inside s is m;
+}
 
--- what doesn't is no string
-pub escaped_no : (b : List ℕ) (is : Bool) → is ≡ false → byte b 0 ≢ 34 → IsTrue is ↔ IsEscapedString b 0 (length b)
-escaped_no b is e d = (λ y. absurd (let f = y in cc), λ y. absurd (d y.0))
-
-pub ruleset escaped = (escaped_yes, escaped_never, escaped_no)
-
--- the part is a whole value
-pub whole_of_span : {t b : List ℕ} {i j : ℕ} {is : Bool} → b ≡ slice_range t i j → IsUtf8 (slice_range t i j)
-    → (IsTrue is ↔ IsEscapedString b 0 (length b)) → IsValue strict t i j → j ≤ length t → IsWholeValue b is
-whole_of_span e u m x within = record { value = rw e (value_of_part x within); utf8 = rw e u; mark = m }
-
--- and a value from end to end
-pub value_of_span : {t b : List ℕ} {i j : ℕ} → b ≡ slice_range t i j → IsValue strict t i j → j ≤ length t → IsValue strict b 0 (length b)
-value_of_span e x within = rw e (value_of_part x within)
-
-pub ruleset entries = (whole_of_span, value_of_span, value-longer)
+pub ruleset entries = (whole_of_part, value-longer)

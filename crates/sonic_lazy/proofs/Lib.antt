@@ -1,27 +1,25 @@
-pub mod Agreeing
+mod Agreeing
 pub mod Answering
-pub mod BeforeFaults
-pub mod Closing
-pub mod Entering
-pub mod Entries
-pub mod Filling
-pub mod Firsts
-pub mod Following
-pub mod Gathered
-pub mod Looking
-pub mod Marked
-pub mod Meeting
+mod BeforeFaults
+mod Closing
+mod Entering
+mod Entries
+mod Filling
+mod Firsts
+mod Following
+mod Gathered
+mod Looking
+mod Marked
+mod Meeting
 pub mod Nodes
 pub mod OneAnswer
-pub mod OnePath
-pub mod Parting
-pub mod Parts
-pub mod Seeking
-pub mod Settling
-pub mod Showing
-pub mod Spaces
-pub mod Stopping
-pub mod Visiting
-pub mod Walking
-pub mod Wholes
-pub mod Within
+mod OnePath
+mod Parting
+mod Parts
+mod Seeking
+mod Settling
+mod Showing
+mod Stopping
+mod Visiting
+mod Walking
+mod Wholes

@@ -2,7 +2,7 @@
 use Rattle.std.proofs.Common.{◌≡◌, ℕ, List}
 use Rattle.std.specs.Prelude.{Option, Some, None, slice_get, IfSome, IfNone}
 use Rattle.sonic_text.specs.Strings.{IsString, strict}
-use Rattle.sonic_text.specs.Trees.{key, index}
+use Rattle.sonic_text.specs.Paths.{key, index}
 use Rattle.sonic_pointer.specs.Paths.{HasNext}
 use Rattle.sonic_lazy.specs.Walks.{Here, IsChildOf}
 

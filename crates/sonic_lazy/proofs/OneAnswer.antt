@@ -7,7 +7,7 @@ use Rattle.sonic_text.specs.declared.stop.Stop.{Stop}
 use Rattle.sonic_text.specs.Places.{after_space}
 use Rattle.sonic_text.specs.Strings.{strict}
 use Rattle.sonic_text.specs.Documents.{IsRootFault}
-use Rattle.sonic_text.specs.Trees.{Node}
+use Rattle.sonic_text.specs.Paths.{Node}
 use Rattle.sonic_text.proofs.Outcomes.{value_some_outcome}
 use Rattle.sonic_text.proofs.Values.{value_end_one, value_fault_one, value_never_both}
 use Rattle.sonic_lazy.specs.Laws.{ExactlyOne}

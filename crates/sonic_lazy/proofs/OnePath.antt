@@ -1,7 +1,7 @@
 -- A path leads somewhere in a text, and to one outcome.
 use Rattle.std.proofs.Common.{◌≡◌, inl, inr, ℕ, List, [], ◌∷◌, refl}
 use Rattle.sonic_text.specs.Strings.{strict}
-use Rattle.sonic_text.specs.Trees.{Node}
+use Rattle.sonic_text.specs.Paths.{Node}
 use Rattle.sonic_text.proofs.Values.{value_end_one, value_fault_one, value_never_both}
 use Rattle.sonic_text.proofs.Outcomes.{value_some_outcome}
 use Rattle.sonic_lazy.specs.Laws.{ExactlyOne}

@@ -1,6 +1,6 @@
 -- What an answer says of each of its spans, and when there is one.
-use Rattle.std.proofs.Common.{◌≡◌, ℕ, ◌-◌, ◌≤◌, List, [], ◌∷◌, Bool, true, false, length, take, arith, refl}
-use Rattle.std.specs.Prelude.{Option, Some, slice_get, map}
+use Rattle.std.proofs.Common.{◌≡◌, ap, ◌∙◌, ℕ, ◌-◌, ◌≤◌, List, [], ◌∷◌, Bool, true, false, length, take, arith, refl}
+use Rattle.std.specs.Prelude.{Option, Some, slice_get, map, option_map}
 use Rattle.std.specs.List.{Contains}
 use Rattle.std.specs.Str.{IsUtf8}
 use Rattle.std.proofs.Math.Seq.{take-length}
@@ -9,18 +9,29 @@ use Rattle.sonic_text.specs.declared.stop.Stop.{Stop}
 use Rattle.sonic_text.specs.Strings.{strict}
 use Rattle.sonic_text.specs.Values.{IsValue}
 use Rattle.sonic_text.proofs.Values.{value_end_one}
-use Rattle.sonic_pointer.specs.Paths.{Path}
+use Rattle.sonic_text.specs.Paths.{Path}
 use Rattle.sonic_lazy.specs.Answers.{AllLead, IsReach, to_the_root, to_the_furthest, Span, span_of, Answer, ComeTo, no_path, finding, IsAnswer}
-use Rattle.sonic_lazy.specs.Causes.{IsAnswerable, nothing_asked, all_told}
-use Rattle.sonic_lazy.specs.Paths.{Outcome, found, Evaluates}
+use Rattle.sonic_lazy.specs.Causes.{IsAnswerable, nothing_asked, all_told, IsRefusal, out_of_memory, answered}
+use Rattle.sonic_lazy.specs.Paths.{Outcome, found, kind_of, Evaluates}
 use Rattle.sonic_lazy.specs.Paths.Evaluates.{stands, goes_on, leads_nowhere}
-use Rattle.sonic_lazy.proofs.Answering.{found_value, nowhere_finds_none, kept_found, lead_from, no_paths}
-use Rattle.sonic_lazy.proofs.BeforeFaults.{part_of_whole}
+use Rattle.sonic_lazy.proofs.Answering.{found_value, kept_found, lead_from, no_paths}
+use Rattle.sonic_lazy.proofs.BeforeFaults.{nowhere_finds_none, part_of_whole}
 use Rattle.sonic_lazy.proofs.OneAnswer.{answer_one}
-use Rattle.sonic_lazy.proofs.Within.{value_within}
+use Rattle.sonic_lazy.specs.declared.located.Located.{Located}
+use Rattle.sonic_error.specs.declared.error.Error.{Error}
+use Rattle.sonic_error.specs.declared.code.ErrorCode.TheVariants.{NoMemory}
+use Rattle.sonic_error.specs.Errors.{IsPlainError}
+use Rattle.sonic_parser.specs.declared.fault.Fault.{Fault}
+use Rattle.sonic_parser.specs.declared.fault.Fault.TheVariants.{OutOfMemory, At}
+use Rattle.sonic_parser.specs.Faults.{IsStopFor, IsErrorOf}
+use Rattle.sonic_lazy.specs.Walks.{IsError}
+use Rattle.sonic_lazy.specs.Located.{span_at, spans_of, AreParts}
+use Rattle.sonic_lazy.proofs.Entries.{utf8_of_span}
+use Rattle.sonic_lazy.proofs.Filling.{mapped}
+use Rattle.sonic_text.proofs.Within.{value_within}
 
 -- a value stands from i to j, and the text is UTF-8 up to a place at or behind j
-pub record IsPart (t : List ℕ) (i j : ℕ) : Type 0 where
+pub record IsReached (t : List ℕ) (i j : ℕ) : Type 0 where
   pub value : IsValue strict t i j
   pub reach : ℕ
   pub within : j ≤ reach
@@ -33,11 +44,11 @@ found_before (node ∷ rest) (goes_on l e) y =
     let p = part_of_whole l y in
     let before = found_before rest e p.1 in
     omega (arith, before, p.2)
-found_before {t} (node ∷ rest) {i} (leads_nowhere {j = j} x none e) y = absurd (rw (← e) at (nowhere_finds_none t i (j - 1) node))
+found_before {t} (node ∷ rest) {i} (leads_nowhere {j = j} x none e) y = absurd (rw (← e) at (nowhere_finds_none t i (j - 1) (kind_of node)))
 
 -- a span that was found is a part, where the text is UTF-8 as far as it is needed
 span_part : {t : List ℕ} {os : List Outcome} {paths : List Path} {i j r : ℕ} → AllLead t paths os → IsReach t os r → IsUtf8 (take r t) → Contains os (found i j)
-    → IsPart t i j
+    → IsReached t i j
 span_part {i = i} {j} {r} lead (to_the_furthest none c all) text d =
     let x = lead_from (found i j) lead d in
     record { value = found_value x.path x.leads; reach = r; within = all i j d; utf8 = text }
@@ -46,7 +57,7 @@ span_part {i = i} {j} {r} lead (to_the_root l whole) text d =
     record { value = found_value x.path x.leads; reach = r; within = found_before x.path x.leads whole; utf8 = text }
 
 -- a span that was found in a text is a part of it
-text_part : {t : List ℕ} {os : List Outcome} {paths : List Path} {i j : ℕ} → AllLead t paths os → IsUtf8 t → Contains os (found i j) → IsPart t i j
+text_part : {t : List ℕ} {os : List Outcome} {paths : List Path} {i j : ℕ} → AllLead t paths os → IsUtf8 t → Contains os (found i j) → IsReached t i j
 text_part {t} {i = i} {j} lead text d =
     let x = lead_from (found i j) lead d in
     let value = found_value x.path x.leads in
@@ -54,13 +65,13 @@ text_part {t} {i = i} {j} lead text d =
 
 -- as the input came as bytes or not
 part_by_input : {t : List ℕ} {os : List Outcome} {paths : List Path} {i j r : ℕ} (is_bytes : Bool) → AllLead t paths os → IsReach t os r
-    → (is_bytes ≡ true → IsUtf8 (take r t)) → (is_bytes ≡ false → IsUtf8 t) → Contains os (found i j) → IsPart t i j
+    → (is_bytes ≡ true → IsUtf8 (take r t)) → (is_bytes ≡ false → IsUtf8 t) → Contains os (found i j) → IsReached t i j
 part_by_input true lead reach front text d = span_part lead reach (front refl) d
 part_by_input false lead reach front text d = text_part lead (text refl) d
 
 -- each span of an answer is a part
 parts_by_outcome : {t : List ℕ} {is_bytes : Bool} {paths : List Path} {os : List Outcome} {entries : List (Option Span)} {i j : ℕ} (k : ℕ) → AllLead t paths os
-    → ComeTo t is_bytes os (Answer.spans entries) → (is_bytes ≡ false → IsUtf8 t) → slice_get entries k ≡ Some (Some (i, j)) → IsPart t i j
+    → ComeTo t is_bytes os (Answer.spans entries) → (is_bytes ≡ false → IsUtf8 t) → slice_get entries k ≡ Some (Some (i, j)) → IsReached t i j
 parts_by_outcome k lead no_path text h = absurd (let w = slice_get_within [] k _ h in omega arith)
 parts_by_outcome {is_bytes = is_bytes} {os = os} {i = i} {j} k lead (finding fail cuts reach front e) text h =
     let there : slice_get (map span_of os) k ≡ Some (Some (i, j)) = rw e at h in
@@ -68,7 +79,7 @@ parts_by_outcome {is_bytes = is_bytes} {os = os} {i = i} {j} k lead (finding fai
 
 -- and so it is for each answer
 pub part_of_answer : {t : List ℕ} {is_bytes : Bool} {paths : List Path} {entries : List (Option Span)} {i j : ℕ} (k : ℕ)
-    → IsAnswer t is_bytes paths (Answer.spans entries) → (is_bytes ≡ false → IsUtf8 t) → slice_get entries k ≡ Some (Some (i, j)) → IsPart t i j
+    → IsAnswer t is_bytes paths (Answer.spans entries) → (is_bytes ≡ false → IsUtf8 t) → slice_get entries k ≡ Some (Some (i, j)) → IsReached t i j
 part_of_answer k x text h = parts_by_outcome k x.lead x.come_to text h
 
 -- where there is an answer of spans, there is none of an error
@@ -84,5 +95,22 @@ never_refused {t} {is_bytes} {paths} {s} can x =
     let clash : Answer.spans y.0 ≡ Answer.error s = (answer_one t is_bytes paths).one (Answer.spans y.0) (Answer.error s) y.1 x in
     absurd cc
 
--- when a refusal is none
-pub ruleset refusals = never_refused
+-- what stops a walk is a refusal
+pub refusal_of : {t : List ℕ} {is_bytes : Bool} {paths : List Path} {e : Error} (fault : Fault) → IsStopFor (IsError t is_bytes paths) fault → IsErrorOf t fault e
+    → IsRefusal t is_bytes paths e
+refusal_of OutOfMemory h e = out_of_memory e
+refusal_of (At s) h e = answered s h.answer e
+
+-- and where there is an answer of spans, memory ran out
+pub only_memory : {t : List ℕ} {is_bytes : Bool} {paths : List Path} {e : Error} (fault : Fault) → IsAnswerable t is_bytes paths
+    → IsStopFor (IsError t is_bytes paths) fault → IsErrorOf t fault e → IsPlainError e NoMemory
+only_memory OutOfMemory can h e = e
+only_memory (At s) can h e = absurd (never_refused can h.answer)
+
+-- each value that is told of an answer's spans is a part of the text
+pub parts_told : {t : List ℕ} {is_bytes : Bool} {paths : List Path} (xs : List (Option Located)) → IsAnswer t is_bytes paths (Answer.spans (spans_of xs))
+    → (is_bytes ≡ false → IsUtf8 t) → AreParts t xs
+parts_told xs x text k y h =
+    let p = part_of_answer k x text (mapped span_at xs k ∙ ap (option_map (option_map span_at)) h) in
+    let within = value_within p.value in
+    record { value = p.value; inside = within; utf8 = utf8_of_span p.reach p.utf8 p.value p.within within }

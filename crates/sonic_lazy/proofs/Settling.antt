@@ -1,25 +1,25 @@
 -- What is known of a level of a walk, and what its stops and its ends say of the paths.
 use Rattle.std.proofs.Common.{◌≡◌, ◌≢◌, ◌⊎◌, inl, inr, ℕ, ◌+◌, ◌<◌, List, [], ◌∷◌, ◌++◌, Bool, true, false, length, get_or, arith}
-use Rattle.std.specs.Prelude.{Option, Some, slice_get}
+use Rattle.std.specs.Prelude.{Some, slice_get}
 use Rattle.std.proofs.lemmas.Bool.{cases_order}
 use Rattle.std.proofs.lemmas.Option.{slice_get_within, slice_get-get_or, get_or_from_slice_get}
+use Rattle.sonic_text.specs.declared.kind.Kind.TheVariants.{Object}
 use Rattle.sonic_text.specs.declared.stop.Stop.{Stop}
 use Rattle.sonic_text.specs.Places.{byte, after_space}
 use Rattle.sonic_text.specs.Strings.{strict}
-use Rattle.sonic_text.specs.Trees.{Node}
-use Rattle.sonic_text.specs.Values.{IsValue}
-use Rattle.sonic_text.specs.Faults.{IsFault, IsKeyFault}
-use Rattle.sonic_text.specs.Faults.IsFault.{in_key}
-use Rattle.sonic_text.proofs.Objects.{key_never_both}
-use Rattle.sonic_pointer.specs.Paths.{Path, HasNext, IsChildren}
-use Rattle.sonic_lazy.specs.Answers.{Span}
-use Rattle.sonic_lazy.specs.Paths.{fails, cut, LeadsOn, Evaluates}
+use Rattle.sonic_text.specs.Paths.{Node, Path}
+use Rattle.sonic_text.specs.Values.{IsValue, ItemsFit, next_item}
+use Rattle.sonic_text.specs.Faults.{IsFault, IsKeyFault, in_key, in_value, after_item}
+use Rattle.sonic_text.proofs.Items.{head_never_both}
+use Rattle.sonic_pointer.specs.Paths.{HasNext, IsChildren}
+use Rattle.sonic_parser.specs.Containers.{IsSeparatorFault}
+use Rattle.sonic_lazy.specs.Paths.{fails, cut, IsNamed, LeadsOn, Evaluates}
 use Rattle.sonic_lazy.specs.Paths.Evaluates.{cut_before}
-use Rattle.sonic_parser.specs.Skipping.{IsBehindFault}
-use Rattle.sonic_lazy.specs.Walks.{Fits, IsFresh, IsHead, member_head, IsPath, IsSettled, IsNeeded, IsStop, faulty, Here, IsHere, IsLevel, IsNotOpen, IsPassed, IsBefore, IsBehind}
+use Rattle.sonic_lazy.specs.Walks.{Findings, IsPath, IsSettled, IsNeeded, IsStop, faulty, Here, IsHere, IsLevel, IsNotOpen, IsPassed, IsBefore, IsBehind}
 use Rattle.sonic_lazy.proofs.Marked.{some_there, open_or_met}
+use Rattle.sonic_lazy.proofs.Nodes.{none_leads, one_more_unnamed}
 use Rattle.sonic_lazy.proofs.OnePath.{evaluates_one}
-use Rattle.sonic_lazy.proofs.Walking.{none_leads, not_headed, past_value, past_byte, past_key, still_fresh, next_fits, value_fault, behind_fault, settled_up, settled_no_fail, members_of}
+use Rattle.sonic_lazy.proofs.Walking.{not_named, past_value, past_byte, past_key, settled_up, settled_no_fail}
 
 -- a path that goes on behind the front goes on by a child
 pub child_at : {paths : List Path} {front : Path} {children : List Node} (k : ℕ) (node : Node) (rest : Path) → IsChildren paths front children
@@ -73,9 +73,9 @@ pub record IsAhead (a : Here) (marks : List Bool) (node : Node) : Type 0 where
   pub unmet : slice_get marks child ≡ Some false
 
 -- a path that goes on behind the front is settled, or its child was not met
-pub settled_or_ahead : {a : Here} {n h : ℕ} {marks : List Bool} {spans : List (Option Span)} {lacking : Bool} (k : ℕ) (node : Node) (rest : Path)
-    → IsHere a → IsLevel a n h marks spans lacking → IsPath a.paths a.front k (node ∷ rest)
-    → IsSettled a.text spans lacking k (a.front ++ node ∷ rest) ⊎ IsAhead a marks node
+pub settled_or_ahead : {a : Here} {n h : ℕ} {marks : List Bool} {notes : Findings} (k : ℕ) (node : Node) (rest : Path)
+    → IsHere a → IsLevel a n h marks notes → IsPath a.paths a.front k (node ∷ rest)
+    → IsSettled a.text notes k (a.front ++ node ∷ rest) ⊎ IsAhead a marks node
 settled_or_ahead {a} {marks = marks} k node rest here level h =
     let c = child_at k node rest here.children h in
     let within : c.0 < length marks = (let l = slice_get_within a.children c.0 node c.1 in omega (arith, l, level.long)) in
@@ -89,7 +89,7 @@ abbrev pub NoneAhead : Here → List Bool → Type 0
 NoneAhead a marks = (c : ℕ) (node : Node) (v : ℕ) → slice_get marks c ≡ Some false → slice_get a.children c ≡ Some node → ¬ LeadsOn a.text a.start node v
 
 -- then no path fails where the value has a fault
-none_fails : {a : Here} {n h : ℕ} {marks : List Bool} {spans : List (Option Span)} {lacking : Bool} {s : Stop} → IsHere a → IsLevel a n h marks spans lacking
+none_fails : {a : Here} {n h : ℕ} {marks : List Bool} {notes : Findings} {s : Stop} → IsHere a → IsLevel a n h marks notes
     → IsFault strict a.text a.start s → NoneAhead a marks → (k : ℕ) (rest : Path) (r : Stop) → IsPath a.paths a.front k rest
     → ¬ Evaluates a.text a.start rest (fails r)
 none_fails here level f none k [] r h e = elim e [ ]
@@ -102,7 +102,7 @@ none_fails {a} {s = s} here level f none k (node ∷ rest) r h e = elim (settled
 ]
 
 -- and the value has to be whole where more is wanted
-needed : {a : Here} {n h : ℕ} {marks : List Bool} {spans : List (Option Span)} {lacking : Bool} {s : Stop} → IsBefore a n h marks spans lacking
+needed : {a : Here} {n h : ℕ} {marks : List Bool} {notes : Findings} {s : Stop} → IsBefore a n h marks notes
     → IsFault strict a.text a.start s → NoneAhead a marks → IsNeeded a.text a.paths a.front a.start a.needs
 needed {a} {marks = marks} {s = s} b f none = elim b.wanted [
   | inl e ↦ inl e
@@ -121,22 +121,17 @@ needed {a} {marks = marks} {s = s} b f none = elim b.wanted [
 ]
 
 -- a fault stops the walk where no child that was not met leads on
-fault_stops : {a : Here} {n h : ℕ} {marks : List Bool} {spans : List (Option Span)} {lacking : Bool} {s : Stop} → IsBefore a n h marks spans lacking
+fault_stops : {a : Here} {n h : ℕ} {marks : List Bool} {notes : Findings} {s : Stop} → IsBefore a n h marks notes
     → IsFault strict a.text a.start s → NoneAhead a marks → IsStop a.text a.paths a.front a.start a.needs s
 fault_stops b f none = faulty f (none_fails b.here b.level f none) (needed b f none)
 
--- no node stands behind what is no key
-no_head : {t : List ℕ} {n h v : ℕ} {node : Node} {s : Stop} → IsKeyFault strict t h s → ¬ IsHead t true n h v node
-no_head f (member_head y) = key_never_both y f
-
 -- so does a key that isn't there
-pub key_stops : (a : Here) {n h : ℕ} {marks : List Bool} {spans : List (Option Span)} {lacking : Bool} {s : Stop} → a.object ≡ true
-    → IsBefore a n h marks spans lacking → IsKeyFault strict a.text h s → IsStop a.text a.paths a.front a.start a.needs s
+pub key_stops : (a : Here) {n h : ℕ} {marks : List Bool} {notes : Findings} {s : Stop} → a.kind ≡ Object
+    → IsBefore a n h marks notes → IsKeyFault strict a.text h s → IsStop a.text a.paths a.front a.start a.needs s
 key_stops a {n} {h} e b f =
-    let fit : Fits a.text a.start true n h = rw e at b.level.fit in
-    fault_stops b (in_key (members_of fit) f) (λ c node v unmet is.
-    let fresh : IsFresh a.text a.start true n h node = rw e at (b.level.fresh c node unmet is) in
-    none_leads fresh (λ w y. no_head f y) (past_key fit f) v)
+    let fit : ItemsFit strict a.text Object a.start n h = rw e at b.level.fit in
+    fault_stops b (in_key fit f) (λ c node v unmet is.
+    none_leads (b.level.fresh c node unmet is) (λ w y. head_never_both e y.head f) (past_key e b.level.fit f) v)
 
 -- a node that the item has is none that was not met
 other_node : {node : Node} (a : Here) (marks : List Bool) (c : ℕ) (b : Node) → IsNotOpen a marks node → slice_get marks c ≡ Some false
@@ -144,44 +139,44 @@ other_node : {node : Node} (a : Here) (marks : List Bool) (c : ℕ) (b : Node) �
 other_node a marks c b closed unmet is same = closed c unmet (cc (same, is))
 
 -- a fault of the item's value
-pub value_stops : {a : Here} {n h v : ℕ} {node : Node} {marks : List Bool} {spans : List (Option Span)} {lacking : Bool} {s : Stop}
-    → IsBefore a n h marks spans lacking → IsHead a.text a.object n h v node → IsNotOpen a marks node → IsFault strict a.text v s
+pub value_stops : {a : Here} {n h v : ℕ} {node : Node} {marks : List Bool} {notes : Findings} {s : Stop}
+    → IsBefore a n h marks notes → IsNamed a.text a.kind n h v node → IsNotOpen a marks node → IsFault strict a.text v s
     → IsStop a.text a.paths a.front a.start a.needs s
 value_stops {a} {marks = marks} b head closed f =
-    fault_stops b (value_fault b.level.fit head f) (λ c other w unmet is.
-    none_leads (b.level.fresh c other unmet is) (not_headed head (other_node a marks c other closed unmet is)) (past_value b.level.fit head f) w)
+    fault_stops b (in_value b.level.fit head.head f) (λ c other w unmet is.
+    none_leads (b.level.fresh c other unmet is) (not_named head (other_node a marks c other closed unmet is)) (past_value b.level.fit head f) w)
 
 -- what is known behind an item is known before it
-pub back : {a : Here} {n h e : ℕ} {marks : List Bool} {before spans : List (Option Span)} {lacked lacking : Bool} → IsHere a
-    → IsBehind a n h e marks before lacked spans lacking → IsBefore a n h marks spans lacking
+pub back : {a : Here} {n h e : ℕ} {marks : List Bool} {before notes : Findings} → IsHere a
+    → IsBehind a n h e marks before notes → IsBefore a n h marks notes
 back here b = record { here = here; level = b.passed.level; told = b.told; wanted = b.wanted }
 
 -- behind the item no child that was not met leads on where no comma follows
-pub none_ahead : {a : Here} {n h e : ℕ} {marks : List Bool} {spans : List (Option Span)} {lacking : Bool} → IsPassed a n h e marks spans lacking
+pub none_ahead : {a : Here} {n h e : ℕ} {marks : List Bool} {notes : Findings} → IsPassed a n h e marks notes
     → byte a.text (after_space a.text e) ≢ 44 → NoneAhead a marks
 none_ahead {a} {marks = marks} p comma = λ c other w unmet is.
-    none_leads (p.level.fresh c other unmet is) (not_headed p.head (other_node a marks c other p.closed unmet is))
+    none_leads (p.level.fresh c other unmet is) (not_named p.head (other_node a marks c other p.closed unmet is))
     (past_byte p.level.fit p.head p.value comma) w
 
 -- what follows an item and doesn't fit
-pub behind_stops : {a : Here} {n h e : ℕ} {marks : List Bool} {before spans : List (Option Span)} {lacked lacking : Bool} {s : Stop} → IsHere a
-    → IsBehind a n h e marks before lacked spans lacking → IsBehindFault a.text e a.object s → IsStop a.text a.paths a.front a.start a.needs s
+pub behind_stops : {a : Here} {n h e : ℕ} {marks : List Bool} {before notes : Findings} {s : Stop} → IsHere a
+    → IsBehind a n h e marks before notes → IsSeparatorFault a.text a.kind e s → IsStop a.text a.paths a.front a.start a.needs s
 behind_stops here b f =
-    fault_stops (back here b) (behind_fault b.passed.level.fit b.passed.head b.passed.value f) (none_ahead b.passed f.0.0)
+    fault_stops (back here b) (after_item b.passed.level.fit b.passed.head.head b.passed.value f.0 f.1) (none_ahead b.passed f.0.0)
 
 -- behind a comma the next item is due
-pub next_before : {a : Here} {n h e g m : ℕ} {marks : List Bool} {before spans : List (Option Span)} {lacked lacking : Bool} → IsHere a
-    → IsBehind a n h e marks before lacked spans lacking → byte a.text (after_space a.text e) ≡ 44
-    → g ≡ after_space a.text (after_space a.text e + 1) → m ≡ n + 1 → IsBefore a m g marks spans lacking
-next_before {a} {marks = marks} here b comma o d =
+pub next_before : {a : Here} {n h e g m : ℕ} {marks : List Bool} {before notes : Findings} → IsHere a
+    → IsBehind a n h e marks before notes → byte a.text (after_space a.text e) ≡ 44
+    → g ≡ after_space a.text (after_space a.text e + 1) → m ≡ n + 1 → IsBefore a m g marks notes
+next_before {a} {g = g} {m = m} {marks = marks} here b comma o d =
     let p = b.passed in
-    let fit = next_fits p.level.fit p.head p.value comma o d in
+    let fit : ItemsFit strict a.text a.kind a.start m g = next_item p.level.fit p.head.head p.value comma o d in
     record {
       here = here;
       level = record {
         fit = fit;
         long = p.level.long;
-        fresh = λ c other unmet is. still_fresh (p.level.fresh c other unmet is) p.head (other_node a marks c other p.closed unmet is) fit d;
+        fresh = λ c other unmet is. one_more_unnamed (p.level.fresh c other unmet is) p.head (other_node a marks c other p.closed unmet is) fit d;
         settled = p.level.settled;
       };
       told = b.told;
@@ -189,8 +184,8 @@ next_before {a} {marks = marks} here b comma o d =
     }
 
 -- an item that is no child that was not met is passed
-pub pass : {a : Here} {n h v e : ℕ} {node : Node} {marks : List Bool} {spans : List (Option Span)} {lacking : Bool} → IsBefore a n h marks spans lacking
-    → IsHead a.text a.object n h v node → IsNotOpen a marks node → IsValue strict a.text v e → IsBehind a n h e marks spans lacking spans lacking
+pub pass : {a : Here} {n h v e : ℕ} {node : Node} {marks : List Bool} {notes : Findings} → IsBefore a n h marks notes
+    → IsNamed a.text a.kind n h v node → IsNotOpen a marks node → IsValue strict a.text v e → IsBehind a n h e marks notes notes
 pass {v = v} {node = node} b head closed x = record {
   passed = record { due = v; node = node; head = head; value = x; level = b.level; closed = closed };
   told = b.told;

@@ -1,34 +1,11 @@
 -- The spans of an answer are shown by lazy values.
-use Rattle.std.proofs.Common.{◌≡◌, ℕ, ◌≤◌, List, [], ◌∷◌, Bool, false, length}
-use Rattle.std.specs.Prelude.{Option, Some, None, slice_get, slice_range, option_map}
-use Rattle.std.specs.Str.{IsUtf8}
-use Rattle.sonic_text.specs.Strings.{strict}
-use Rattle.sonic_text.specs.Values.{IsValue}
-use Rattle.sonic_pointer.specs.Paths.{Path}
+use Rattle.std.proofs.Common.{◌≡◌, ℕ, List, [], ◌∷◌, Bool}
+use Rattle.std.specs.Prelude.{Option, Some, None, option_map}
+use Rattle.sonic_text.specs.Paths.{Path}
 use Rattle.sonic_lazy.specs.Answers.{IsAnswer, Answer, Span}
 use Rattle.sonic_lazy.specs.declared.lazyvalue.LazyValue.{LazyValue}
 use Rattle.sonic_lazy.specs.LazyValues.{raw_bytes}
 use Rattle.sonic_lazy.specs.Shown.{Shows, shows_none, shows_span, ShowAll, no_more_values, one_more_value, AreValues, HaveTexts, span_text}
-use Rattle.sonic_lazy.proofs.Parting.{part_of_answer}
-use Rattle.sonic_lazy.proofs.Entries.{utf8_of_span}
-use Rattle.sonic_lazy.proofs.Within.{value_within}
-
--- each span of an answer is one of a value
-pub span_value : {t : List ℕ} {is_bytes : Bool} {paths : List Path} {entries : List (Option Span)} → IsAnswer t is_bytes paths (Answer.spans entries)
-    → (is_bytes ≡ false → IsUtf8 t) → (k i j : ℕ) → slice_get entries k ≡ Some (Some (i, j)) → IsValue strict t i j
-span_value x text k i j h = (part_of_answer k x text h).value
-
--- which ends within the text
-pub span_inside : {t : List ℕ} {is_bytes : Bool} {paths : List Path} {entries : List (Option Span)} → IsAnswer t is_bytes paths (Answer.spans entries)
-    → (is_bytes ≡ false → IsUtf8 t) → (k i j : ℕ) → slice_get entries k ≡ Some (Some (i, j)) → j ≤ length t
-span_inside x text k i j h = value_within (span_value x text k i j h)
-
--- and is UTF-8
-pub span_utf8 : {t : List ℕ} {is_bytes : Bool} {paths : List Path} {entries : List (Option Span)} → IsAnswer t is_bytes paths (Answer.spans entries)
-    → (is_bytes ≡ false → IsUtf8 t) → (k i j : ℕ) → slice_get entries k ≡ Some (Some (i, j)) → IsUtf8 (slice_range t i j)
-span_utf8 x text k i j h =
-    let p = part_of_answer k x text h in
-    utf8_of_span p.reach p.utf8 p.value p.within (value_within p.value)
 
 -- a value with the text of a span shows it
 one_shown : (t : List ℕ) (entry : Option Span) (value : Option LazyValue) → option_map raw_bytes value ≡ option_map (span_text t) entry → Shows t entry value
@@ -49,6 +26,4 @@ pub are_values : {t : List ℕ} {is_bytes : Bool} {paths : List Path} {entries :
     → IsAnswer t is_bytes paths (Answer.spans entries) → HaveTexts t values entries → AreValues t is_bytes paths values
 are_values {t} {entries = entries} {values} x e = record { entries = entries; answer = x; shown = all_shown t entries values e }
 
-pub ruleset answers = (span_value, span_inside, span_utf8, are_values)
-
-pub ruleset values = (value_within)
+pub ruleset answers = are_values

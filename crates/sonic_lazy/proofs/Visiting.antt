@@ -1,20 +1,19 @@
 -- What follows where a value was read with the paths that end at it.
-use Rattle.std.proofs.Common.{◌≡◌, ◌≢◌, ◌⊎◌, inl, inr, ap, ℕ, ◌<◌, List, [], ◌∷◌, ◌++◌, Bool, true, length, get_or, arith, refl, ◌∙◌}
+use Rattle.std.proofs.Common.{◌≡◌, ◌≢◌, ◌⊎◌, inl, inr, ap, ℕ, ◌<◌, List, [], ◌∷◌, ◌++◌, Bool, true, length, arith, refl, ◌∙◌}
 use Rattle.std.proofs.lemmas.List.{append-nil}
 use Rattle.std.specs.Prelude.{Option, Some, slice_get}
-use Rattle.std.specs.List.{All, Contains}
-use Rattle.sonic_pointer.specs.Nodes.{is_key}
-use Rattle.std.proofs.lemmas.Option.{slice_get_within, slice_get-get_or, get_or_from_slice_get, same_Some, some_pair_parts}
+use Rattle.std.specs.List.{Contains}
+use Rattle.std.proofs.lemmas.Option.{slice_get_within, slice_get-get_or, same_Some, some_pair_parts}
 use Rattle.sonic_text.specs.declared.stop.Stop.{Stop}
 use Rattle.sonic_text.specs.Strings.{strict}
-use Rattle.sonic_text.specs.Trees.{Node}
+use Rattle.sonic_text.specs.Paths.{Node, Path}
 use Rattle.sonic_text.specs.Values.{IsValue}
 use Rattle.sonic_text.specs.Faults.{IsFault}
-use Rattle.sonic_pointer.specs.Paths.{Path, HasFront, IsOrders, IsChildren}
+use Rattle.sonic_pointer.specs.Paths.{HasFront, IsOrders, IsChildren}
 use Rattle.sonic_lazy.specs.Answers.{Span}
 use Rattle.sonic_lazy.specs.Paths.{found, fails, Evaluates, Leads}
 use Rattle.sonic_lazy.specs.Paths.Evaluates.{stands, cut_here}
-use Rattle.sonic_lazy.specs.Walks.{ComesTo, IsPath, IsSettled, was_found, IsGrown, IsTold, SomeCut, IsStop, nearest, faulty, IsBelow, IsVisited, IsFilled}
+use Rattle.sonic_lazy.specs.Walks.{Findings, ComesTo, IsPath, IsSettled, was_found, IsGrown, IsTold, SomeCut, IsStop, nearest, faulty, IsBelow, IsVisited, IsFilled}
 use Rattle.sonic_lazy.proofs.OnePath.{evaluates_one}
 use Rattle.sonic_lazy.proofs.Walking.{still_settled}
 use Rattle.sonic_lazy.proofs.Settling.{child_at}
@@ -34,9 +33,9 @@ span_one : (i j v w : ℕ) → ◌≡◌ {A = Option (Option Span)} (Some (Some 
 span_one i j v w e = some_pair_parts i v j w (same_Some (Some (i, j)) (Some (v, w)) e)
 
 -- spans that are filled tell the truth
-told_filled : {t : List ℕ} {paths : List Path} {front : Path} {i j : ℕ} {orders : List ℕ} {spans more : List (Option Span)} {lacking : Bool}
-    → ComesTo t front i → IsValue strict t i j → IsOrders paths front orders → IsTold t paths spans lacking → IsFilled orders spans more (i, j)
-    → IsTold t paths more lacking
+told_filled : {t : List ℕ} {paths : List Path} {front : Path} {i j : ℕ} {orders : List ℕ} {notes : Findings} {more : List (Option Span)}
+    → ComesTo t front i → IsValue strict t i j → IsOrders paths front orders → IsTold t paths notes → IsFilled orders notes.spans more (i, j)
+    → IsTold t paths (record notes { spans = more })
 told_filled {t} {paths} {front} {i} {j} comes x o told f = record {
   long = f.long ∙ told.long;
   told = λ k v w h. elim (f.each k) [
@@ -49,9 +48,9 @@ told_filled {t} {paths} {front} {i} {j} comes x o told f = record {
 }
 
 -- and what was told is still told
-grown_filled : {t : List ℕ} {paths : List Path} {front : Path} {i j : ℕ} {orders : List ℕ} {spans more : List (Option Span)} {lacking : Bool}
-    → ComesTo t front i → IsValue strict t i j → IsOrders paths front orders → IsTold t paths spans lacking → IsFilled orders spans more (i, j)
-    → IsGrown spans lacking more lacking
+grown_filled : {t : List ℕ} {paths : List Path} {front : Path} {i j : ℕ} {orders : List ℕ} {notes : Findings} {more : List (Option Span)}
+    → ComesTo t front i → IsValue strict t i j → IsOrders paths front orders → IsTold t paths notes → IsFilled orders notes.spans more (i, j)
+    → IsGrown notes (record notes { spans = more })
 grown_filled {t} {paths} {front} {i} {j} comes x o told f = record {
   kept = λ k v w h. elim (f.each k) [
     | inl same ↦ cc (same, h)
@@ -68,28 +67,28 @@ grown_filled {t} {paths} {front} {i} {j} comes x o told f = record {
 }
 
 -- what grows twice grows
-pub grown_twice : {a b c : List (Option Span)} {k l m : Bool} → IsGrown a k b l → IsGrown b l c m → IsGrown a k c m
+pub grown_twice : {a b c : Findings} → IsGrown a b → IsGrown b c → IsGrown a c
 grown_twice f g = record { kept = λ k i j h. g.kept k i j (f.kept k i j h); lack = λ e. g.lack (f.lack e) }
 
 -- a path that ends at the front is settled by the filling
-order_settled : {t : List ℕ} {paths : List Path} {front : Path} {i j : ℕ} {orders : List ℕ} {spans more : List (Option Span)} {lacking : Bool} (k : ℕ)
-    → ComesTo t front i → IsValue strict t i j → IsOrders paths front orders → IsFilled orders spans more (i, j) → IsPath paths front k []
-    → IsSettled t more lacking k (front ++ [])
+order_settled : {t : List ℕ} {paths : List Path} {front : Path} {i j : ℕ} {orders : List ℕ} {notes : Findings} {more : List (Option Span)} (k : ℕ)
+    → ComesTo t front i → IsValue strict t i j → IsOrders paths front orders → IsFilled orders notes.spans more (i, j) → IsPath paths front k []
+    → IsSettled t (record notes { spans = more }) k (front ++ [])
 order_settled {t} {paths} {front} {i} {j} k comes x o f h =
     let is : slice_get paths k ≡ Some front = rw (append-nil front) at h in
     was_found (comes.up [] (found i j) (stands x)) (f.filled k ((o.exact k).1 is))
 
 -- where the value is read to its end, the paths with the front are settled
-settled_there : {t : List ℕ} {paths : List Path} {front : Path} {i j : ℕ} {orders : List ℕ} {before spans more : List (Option Span)} {lacked lacking : Bool}
-    → ComesTo t front i → IsValue strict t i j → IsOrders paths front orders → IsBelow t paths front before lacked spans lacking
-    → IsFilled orders spans more (i, j) → (k : ℕ) (rest : Path) → IsPath paths front k rest → IsSettled t more lacking k (front ++ rest)
+settled_there : {t : List ℕ} {paths : List Path} {front : Path} {i j : ℕ} {orders : List ℕ} {before notes : Findings} {more : List (Option Span)}
+    → ComesTo t front i → IsValue strict t i j → IsOrders paths front orders → IsBelow t paths front before notes
+    → IsFilled orders notes.spans more (i, j) → (k : ℕ) (rest : Path) → IsPath paths front k rest → IsSettled t (record notes { spans = more }) k (front ++ rest)
 settled_there comes x o b f k [] h = order_settled k comes x o f h
 settled_there comes x o b f k (node ∷ rest) h = still_settled (grown_filled comes x o b.told f) (b.settled k node rest h)
 
 -- so they were visited
-pub visit_filled : {t : List ℕ} {paths : List Path} {front : Path} {i j : ℕ} {orders : List ℕ} {before spans more : List (Option Span)} {lacked lacking : Bool}
-    → ComesTo t front i → IsValue strict t i j → IsOrders paths front orders → IsBelow t paths front before lacked spans lacking
-    → IsFilled orders spans more (i, j) → IsVisited t paths front before lacked more lacking
+pub visit_filled : {t : List ℕ} {paths : List Path} {front : Path} {i j : ℕ} {orders : List ℕ} {before notes : Findings} {more : List (Option Span)}
+    → ComesTo t front i → IsValue strict t i j → IsOrders paths front orders → IsBelow t paths front before notes
+    → IsFilled orders notes.spans more (i, j) → IsVisited t paths front before (record notes { spans = more })
 visit_filled comes x o b f = record {
   told = told_filled comes x o b.told f;
   grown = grown_twice b.grown (grown_filled comes x o b.told f);
@@ -97,9 +96,9 @@ visit_filled comes x o b f = record {
 }
 
 -- where no path ends at the front, nothing is to be filled
-settled_early : {t : List ℕ} {paths : List Path} {front : Path} {orders : List ℕ} {before spans : List (Option Span)} {lacked lacking : Bool}
-    → IsOrders paths front orders → orders ≡ [] → IsBelow t paths front before lacked spans lacking
-    → (k : ℕ) (rest : Path) → IsPath paths front k rest → IsSettled t spans lacking k (front ++ rest)
+settled_early : {t : List ℕ} {paths : List Path} {front : Path} {orders : List ℕ} {before notes : Findings}
+    → IsOrders paths front orders → orders ≡ [] → IsBelow t paths front before notes
+    → (k : ℕ) (rest : Path) → IsPath paths front k rest → IsSettled t notes k (front ++ rest)
 settled_early {paths = paths} {front} {orders} o none b k [] h =
     let is : slice_get paths k ≡ Some front = rw (append-nil front) at h in
     let there : Contains [] k = rw none at ((o.exact k).1 is) in
@@ -108,13 +107,13 @@ settled_early {paths = paths} {front} {orders} o none b k [] h =
 settled_early o none b k (node ∷ rest) h = b.settled k node rest h
 
 -- so they were visited, too
-pub visit_early : {t : List ℕ} {paths : List Path} {front : Path} {orders : List ℕ} {before spans : List (Option Span)} {lacked lacking : Bool}
-    → IsOrders paths front orders → orders ≡ [] → IsBelow t paths front before lacked spans lacking → IsVisited t paths front before lacked spans lacking
+pub visit_early : {t : List ℕ} {paths : List Path} {front : Path} {orders : List ℕ} {before notes : Findings}
+    → IsOrders paths front orders → orders ≡ [] → IsBelow t paths front before notes → IsVisited t paths front before notes
 visit_early o none b = record { told = b.told; grown = b.grown; settled = settled_early o none b }
 
 -- a number of an order is that of a path
-pub order_within : {t : List ℕ} {paths : List Path} {front : Path} {orders : List ℕ} {spans : List (Option Span)} {lacking : Bool} (k : ℕ)
-    → IsOrders paths front orders → IsTold t paths spans lacking → Contains orders k → k < length spans
+pub order_within : {t : List ℕ} {paths : List Path} {front : Path} {orders : List ℕ} {notes : Findings} (k : ℕ)
+    → IsOrders paths front orders → IsTold t paths notes → Contains orders k → k < length notes.spans
 order_within {paths = paths} {front} k o told h = (let l = slice_get_within paths k front (order_path k o h) in omega (arith, l, told.long))
 
 -- some path ends at the front
@@ -145,8 +144,8 @@ none_on {children = children} k node rest all none h =
     absurd (omega arith)
 
 -- so those below it are settled
-pub leaf_below : {t : List ℕ} {paths : List Path} {front : Path} {children : List Node} {spans : List (Option Span)} {lacking : Bool}
-    → IsChildren paths front children → children ≡ [] → IsTold t paths spans lacking → IsBelow t paths front spans lacking spans lacking
+pub leaf_below : {t : List ℕ} {paths : List Path} {front : Path} {children : List Node} {notes : Findings}
+    → IsChildren paths front children → children ≡ [] → IsTold t paths notes → IsBelow t paths front notes notes
 leaf_below all none told = record {
   told = told;
   grown = record { kept = λ k i j h. h; lack = λ e. e };
@@ -174,13 +173,6 @@ leaf_none_fails all none k (node ∷ rest) r h e = none_on k node rest all none 
 pub leaf_stops : {t : List ℕ} {paths : List Path} {front : Path} {i : ℕ} {children : List Node} {needs : Bool} {s : Stop} → IsChildren paths front children
     → children ≡ [] → HasFront paths front → IsFault strict t i s → IsStop t paths front i needs s
 leaf_stops all none some f = faulty f (leaf_none_fails all none) (inr (inr (leaf_cut some.rest all none f some.path)))
-
--- what holds of each child holds of the child at a place
-pub child_kind : {kind : Bool} (children : List Node) (c : ℕ) (node : Node) → All (λ node. is_key node ≡ kind) children → slice_get children c ≡ Some node
-    → is_key node ≡ kind
-child_kind {kind} children c node all h =
-    let k : is_key (get_or children c node) ≡ kind = all c node (slice_get_within children c node h) in
-    rw (get_or_from_slice_get children c node node h) at k
 
 -- a list of no length is empty
 pub none_counted : {X : Type 0} (xs : List X) → length xs ≡ 0 → xs ≡ []

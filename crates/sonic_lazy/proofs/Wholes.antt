@@ -17,11 +17,12 @@ use Rattle.sonic_text.proofs.Outcomes.{value_some_outcome}
 use Rattle.sonic_text.proofs.Values.{value-longer, value_end_one, value_never_both}
 use Rattle.sonic_parser.specs.declared.status.ParseStatus.{ParseStatus}
 use Rattle.sonic_parser.specs.declared.status.ParseStatus.TheVariants.{HasEscaped}
-use Rattle.sonic_parser.specs.Parsers.{Parsing, IsEscapedString, IsSkipped}
+use Rattle.sonic_text.specs.Strings.{IsEscapedString}
+use Rattle.sonic_parser.specs.Parsers.{Parsing, IsSkipped}
 use Rattle.sonic_lazy.specs.Wholes.{IsWholeValue}
 use Rattle.sonic_lazy.specs.declared.lazyvalue.LazyValue.{LazyValue}
 use Rattle.sonic_lazy.specs.LazyValues.{raw_bytes, is_marked}
-use Rattle.sonic_lazy.proofs.Within.{value_within}
+use Rattle.sonic_text.proofs.Within.{value_within}
 
 -- what can't be has at most one proof
 no_proof : IsProp ⊥

@@ -5,13 +5,13 @@ use Rattle.sonic_error.specs.declared.code.ErrorCode.TheVariants.{InvalidUTF8}
 use Rattle.sonic_error.specs.Texts.{valid_up_to}
 use Rattle.sonic_text.specs.declared.stop.Stop.{Stop}
 use Rattle.sonic_text.specs.Documents.{IsWhole, IsRootFault}
-use Rattle.sonic_text.specs.Trees.{Node}
+use Rattle.sonic_text.specs.Paths.{Path}
 use Rattle.sonic_lazy.specs.Paths.{Outcome, found, lacks, fails, cut, Leads}
 
 -- where each path leads, in order
-pub data AllLead (t : List ℕ) : List (List Node) → List Outcome → Type 0 where
+pub data AllLead (t : List ℕ) : List Path → List Outcome → Type 0 where
   no_more : AllLead t [] []
-  one_more : {path : List Node} {paths : List (List Node)} {o : Outcome} {os : List Outcome} → Leads t path o → AllLead t paths os
+  one_more : {path : Path} {paths : List Path} {o : Outcome} {os : List Outcome} → Leads t path o → AllLead t paths os
       → AllLead t (path ∷ paths) (o ∷ os)
 
 -- some path fails at this stop: at the least place of all that fail, and of those that fail there it is the first
@@ -70,7 +70,7 @@ pub data ComeTo (t : List ℕ) (is_bytes : Bool) : List Outcome → Answer → T
       → (is_bytes ≡ true → IsUtf8 (take r t)) → entries ≡ map span_of os → ComeTo t is_bytes os (spans entries)
 
 -- the answer of the paths over the text
-pub record IsAnswer (t : List ℕ) (is_bytes : Bool) (paths : List (List Node)) (a : Answer) : Type 0 where
+pub record IsAnswer (t : List ℕ) (is_bytes : Bool) (paths : List Path) (a : Answer) : Type 0 where
   pub outcomes : List Outcome
   pub lead : AllLead t paths outcomes
   pub come_to : ComeTo t is_bytes outcomes a

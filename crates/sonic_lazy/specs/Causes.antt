@@ -5,17 +5,17 @@ use Rattle.sonic_error.specs.declared.error.Error.{Error}
 use Rattle.sonic_error.specs.declared.code.ErrorCode.TheVariants.{NoMemory}
 use Rattle.sonic_error.specs.Errors.{IsErrorAt, IsPlainError}
 use Rattle.sonic_text.specs.declared.stop.Stop.{Stop}
-use Rattle.sonic_text.specs.Trees.{Node}
+use Rattle.sonic_text.specs.Paths.{Path}
 use Rattle.sonic_lazy.specs.Answers.{Answer, IsAnswer, AllLead, NoneFails, NoneCut, IsReach}
 use Rattle.sonic_lazy.specs.Paths.{Outcome}
 
 -- each path finds a value or lacks its key, the text is whole if one does, and it is UTF-8 as far as it is needed
-pub data IsAnswerable (t : List ℕ) (is_bytes : Bool) (paths : List (List Node)) : Type 0 where
+pub data IsAnswerable (t : List ℕ) (is_bytes : Bool) (paths : List Path) : Type 0 where
   nothing_asked : paths ≡ [] → IsAnswerable t is_bytes paths
   all_told : (os : List Outcome) (r : ℕ) → AllLead t paths os → NoneFails os → NoneCut os → IsReach t os r → (is_bytes ≡ true → IsUtf8 (take r t))
       → IsAnswerable t is_bytes paths
 
 -- there is no memory, or the error is the answer of the paths
-pub data IsRefusal (t : List ℕ) (is_bytes : Bool) (paths : List (List Node)) (e : Error) : Type 0 where
+pub data IsRefusal (t : List ℕ) (is_bytes : Bool) (paths : List Path) (e : Error) : Type 0 where
   out_of_memory : IsPlainError e NoMemory → IsRefusal t is_bytes paths e
   answered : (s : Stop) → IsAnswer t is_bytes paths (Answer.error s) → IsErrorAt e s.code t s.place → IsRefusal t is_bytes paths e

@@ -2,8 +2,9 @@ pub mod Answers
 pub mod Causes
 pub mod Laws
 pub mod LazyValues
-pub mod Levels
+pub mod Located
 pub mod Paths
 pub mod Shown
+pub mod Views
 pub mod Walks
 pub mod Wholes

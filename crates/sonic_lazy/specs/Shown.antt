@@ -2,7 +2,7 @@
 use Rattle.std.specs.Prelude.{◌≡◌, ℕ, Bool, List, [], ◌∷◌, slice_range, map, option_map}
 use Rattle.std.specs.declared.option.Option.{Option}
 use Rattle.std.specs.declared.option.Option.TheVariants.{Some, None}
-use Rattle.sonic_text.specs.Trees.{Node}
+use Rattle.sonic_text.specs.Paths.{Path}
 use Rattle.sonic_lazy.specs.declared.lazyvalue.LazyValue.{LazyValue}
 use Rattle.sonic_lazy.specs.Answers.{Span, IsAnswer, spans}
 use Rattle.sonic_lazy.specs.LazyValues.{raw_bytes}
@@ -19,7 +19,7 @@ pub data ShowAll (t : List ℕ) : List (Option Span) → List (Option LazyValue)
       → ShowAll t entries values → ShowAll t (entry ∷ entries) (value ∷ values)
 
 -- the values are the answer of the paths
-pub record AreValues (t : List ℕ) (is_bytes : Bool) (paths : List (List Node)) (values : List (Option LazyValue)) : Type 0 where
+pub record AreValues (t : List ℕ) (is_bytes : Bool) (paths : List Path) (values : List (Option LazyValue)) : Type 0 where
   pub entries : List (Option Span)
   pub answer : IsAnswer t is_bytes paths (spans entries)
   pub shown : ShowAll t entries values

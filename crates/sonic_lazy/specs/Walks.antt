@@ -1,43 +1,27 @@
 -- What a walk knows that goes through a text once, and follows all paths of a tree in it.
 use Rattle.std.specs.Prelude.{◌≡◌, ◌≢◌, ◌⊎◌, ℕ, ◌<◌, ◌≤◌, Bool, true, false, List, [], ◌∷◌, ◌++◌, Option, Some, None, length, slice_get}
 use Rattle.std.specs.List.{Contains}
+use Rattle.sonic_text.specs.declared.kind.Kind.{Kind}
 use Rattle.sonic_text.specs.declared.stop.Stop.{Stop}
 use Rattle.sonic_text.specs.Strings.{strict}
-use Rattle.sonic_text.specs.Trees.{Node, key, index}
-use Rattle.sonic_text.specs.Values.{IsValue, IsKey, ElementsFit, MembersFit}
+use Rattle.sonic_text.specs.Paths.{Node, Path}
+use Rattle.sonic_text.specs.Values.{IsValue, ItemsFit}
 use Rattle.sonic_text.specs.Documents.{IsRootFault}
 use Rattle.sonic_text.specs.Faults.{IsFault}
-use Rattle.sonic_pointer.specs.Nodes.{is_key}
-use Rattle.sonic_pointer.specs.Paths.{Path, HasNext, IsChildren}
-use Rattle.sonic_lazy.specs.declared.reading.WalkError.{WalkError}
-use Rattle.sonic_lazy.specs.declared.reading.WalkError.TheVariants.{Memory, At}
+use Rattle.sonic_pointer.specs.Paths.{HasNext, IsChildren}
 use Rattle.sonic_lazy.specs.Answers.{Span, Answer, IsAnswer}
-use Rattle.sonic_lazy.specs.Paths.{Outcome, found, lacks, fails, cut, NoneHas, LeadsOn, Evaluates, Leads}
+use Rattle.sonic_lazy.specs.Paths.{Outcome, found, lacks, fails, cut, kind_of, IsNamed, NoneNamed, LeadsOn, Evaluates, Leads}
 
--- what an error says: of want of memory nothing, and of a stop this
-abbrev pub IsStopFor : (Stop → Type 0) → WalkError → Type 0
-IsStopFor Says Memory = Unit {0}
-IsStopFor Says (At s) = Says s
+-- what a walk has found: the span of each path that found one, and whether some path lacks its key
+pub record Findings : Type 0 where
+  pub spans : List (Option Span)
+  pub lacking : Bool
 
--- the bracket that opens an object, or an array
-abbrev pub opening : Bool → ℕ
-opening true = 123
-opening false = 91
-
--- in the object or the array at i the first n items fit, and the next is due at h
-pub data Fits (t : List ℕ) (i : ℕ) : Bool → ℕ → ℕ → Type 0 where
-  members_fit : {n h : ℕ} → MembersFit strict t i n h → Fits t i true n h
-  elements_fit : {n h : ℕ} → ElementsFit strict t i n h → Fits t i false n h
-
--- no item at i leads on by the node before the one that is due at h, which is the n-th
-pub data IsFresh (t : List ℕ) (i : ℕ) : Bool → ℕ → ℕ → Node → Type 0 where
-  fresh_key : {n h : ℕ} {k : List ℕ} → NoneHas t i n h k → IsFresh t i true n h (key k)
-  fresh_index : {n h m : ℕ} → ElementsFit strict t i n h → n ≤ m → IsFresh t i false n h (index m)
-
--- the n-th item, which is due at h, has its value due at v, and leads on by the node
-pub data IsHead (t : List ℕ) : Bool → ℕ → ℕ → ℕ → Node → Type 0 where
-  member_head : {n h v : ℕ} {k : List ℕ} → IsKey strict t h v k → IsHead t true n h v (key k)
-  element_head : {n h v m : ℕ} → v ≡ h → m ≡ n → IsHead t false n h v (index m)
+-- a walk: the text, the place that it has come to, and what it has found
+pub record Walking : Type 0 where
+  pub text : List ℕ
+  pub place : ℕ
+  pub findings : Findings
 
 -- the path with the number k begins with the front, and goes on with the rest
 abbrev pub IsPath : List Path → Path → ℕ → Path → Type 0
@@ -52,29 +36,28 @@ pub record SomeLack (t : List ℕ) (paths : List Path) : Type 0 where
   pub leads : Leads t path (lacks place)
 
 -- the spans are those that their paths found, and some path lacks its key where that is noted
-pub record IsTold (t : List ℕ) (paths : List Path) (spans : List (Option Span)) (lacking : Bool) : Type 0 where
-  pub long : length spans ≡ length paths
-  pub told : (k i j : ℕ) → slice_get spans k ≡ Some (Some (i, j)) → (path : Path) × (slice_get paths k ≡ Some path) × Leads t path (found i j)
-  pub lack : lacking ≡ true → SomeLack t paths
+pub record IsTold (t : List ℕ) (paths : List Path) (f : Findings) : Type 0 where
+  pub long : length f.spans ≡ length paths
+  pub told : (k i j : ℕ) → slice_get f.spans k ≡ Some (Some (i, j)) → (path : Path) × (slice_get paths k ≡ Some path) × Leads t path (found i j)
+  pub lack : f.lacking ≡ true → SomeLack t paths
 
 -- where the path with the number k leads is told: its span is kept, or that some path lacks its key
-pub data IsSettled (t : List ℕ) (spans : List (Option Span)) (lacking : Bool) (k : ℕ) (path : Path) : Type 0 where
-  was_found : {i j : ℕ} → Leads t path (found i j) → slice_get spans k ≡ Some (Some (i, j)) → IsSettled t spans lacking k path
-  was_lacked : {q : ℕ} → Leads t path (lacks q) → lacking ≡ true → IsSettled t spans lacking k path
+pub data IsSettled (t : List ℕ) (f : Findings) (k : ℕ) (path : Path) : Type 0 where
+  was_found : {i j : ℕ} → Leads t path (found i j) → slice_get f.spans k ≡ Some (Some (i, j)) → IsSettled t f k path
+  was_lacked : {q : ℕ} → Leads t path (lacks q) → f.lacking ≡ true → IsSettled t f k path
 
 -- so it is for each path with the front
-abbrev pub AllSettled : List ℕ → List Path → Path → List (Option Span) → Bool → Type 0
-AllSettled t paths front spans lacking = (k : ℕ) (rest : Path) → IsPath paths front k rest → IsSettled t spans lacking k (front ++ rest)
+abbrev pub AllSettled : List ℕ → List Path → Path → Findings → Type 0
+AllSettled t paths front f = (k : ℕ) (rest : Path) → IsPath paths front k rest → IsSettled t f k (front ++ rest)
 
 -- for each that goes on behind the front
-abbrev pub BelowSettled : List ℕ → List Path → Path → List (Option Span) → Bool → Type 0
-BelowSettled t paths front spans lacking =
-    (k : ℕ) (node : Node) (rest : Path) → IsPath paths front k (node ∷ rest) → IsSettled t spans lacking k (front ++ node ∷ rest)
+abbrev pub BelowSettled : List ℕ → List Path → Path → Findings → Type 0
+BelowSettled t paths front f = (k : ℕ) (node : Node) (rest : Path) → IsPath paths front k (node ∷ rest) → IsSettled t f k (front ++ node ∷ rest)
 
 -- what was told is still told
-pub record IsGrown (spans : List (Option Span)) (lacking : Bool) (more : List (Option Span)) (lacks_more : Bool) : Type 0 where
-  pub kept : (k i j : ℕ) → slice_get spans k ≡ Some (Some (i, j)) → slice_get more k ≡ Some (Some (i, j))
-  pub lack : lacking ≡ true → lacks_more ≡ true
+pub record IsGrown (before now : Findings) : Type 0 where
+  pub kept : (k i j : ℕ) → slice_get before.spans k ≡ Some (Some (i, j)) → slice_get now.spans k ≡ Some (Some (i, j))
+  pub lack : before.lacking ≡ true → now.lacking ≡ true
 
 -- from the root the front leads to the place i
 pub record ComesTo (t : List ℕ) (front : Path) (i : ℕ) : Type 0 where
@@ -108,54 +91,54 @@ pub data IsStop (t : List ℕ) (paths : List Path) (front : Path) (i : ℕ) (nee
       → IsStop t paths front i needs s
   faulty : IsFault strict t i s → NoneFailsAt t paths front i → IsNeeded t paths front i needs → IsStop t paths front i needs s
 
--- no object or array with an item begins at i: each node leads to this fail there, or is cut by this fault
-pub data IsNoEntry (t : List ℕ) (i : ℕ) (object : Bool) (s : Stop) : Type 0 where
-  fails_there : ((node : Node) (rest : Path) → is_key node ≡ object → Evaluates t i (node ∷ rest) (fails s)) → IsNoEntry t i object s
-  cut_there : IsFault strict t i s → ((node : Node) (v : ℕ) → is_key node ≡ object → ¬ LeadsOn t i node v) → IsNoEntry t i object s
+-- no container of this kind with an item begins at i: each node that asks for one fails there so, or is cut by this fault
+pub data IsNoEntry (t : List ℕ) (i : ℕ) (kind : Kind) (s : Stop) : Type 0 where
+  fails_there : ((node : Node) (rest : Path) → kind_of node ≡ kind → Evaluates t i (node ∷ rest) (fails s)) → IsNoEntry t i kind s
+  cut_there : IsFault strict t i s → ((node : Node) (v : ℕ) → kind_of node ≡ kind → ¬ LeadsOn t i node v) → IsNoEntry t i kind s
 
--- a front whose children are looked for in the items of the object or the array at a place
+-- a front whose children are looked for in the items of the container at a place
 pub record Here : Type 0 where
   pub text : List ℕ
   pub paths : List Path
   pub front : Path
   pub children : List Node
   pub start : ℕ
-  pub object : Bool
+  pub kind : Kind
   pub needs : Bool
 
 -- it has children, all of the kind that leads on there
 pub record IsHere (a : Here) : Type 0 where
   pub comes : ComesTo a.text a.front a.start
   pub children : IsChildren a.paths a.front a.children
-  pub kind : (c : ℕ) (node : Node) → slice_get a.children c ≡ Some node → is_key node ≡ a.object
+  pub kind : (c : ℕ) (node : Node) → slice_get a.children c ≡ Some node → kind_of node ≡ a.kind
 
 -- some child was not met
 abbrev pub SomeOpen : List Bool → Type 0
 SomeOpen marks = (c : ℕ) × (slice_get marks c ≡ Some false)
 
 -- more is needed: the whole value, as it is asked for or as some path lacks its key, or a child
-abbrev pub IsWanted : Here → List Bool → Bool → Type 0
-IsWanted a marks lacking = (a.needs ≡ true) ⊎ (lacking ≡ true) ⊎ SomeOpen marks
+abbrev pub IsWanted : Here → List Bool → Findings → Type 0
+IsWanted a marks f = (a.needs ≡ true) ⊎ (f.lacking ≡ true) ⊎ SomeOpen marks
 
 -- n items were passed, and the next is due at h: of each child, the paths are settled where it was met, and it is still to come otherwise
-pub record IsLevel (a : Here) (n h : ℕ) (marks : List Bool) (spans : List (Option Span)) (lacking : Bool) : Type 0 where
-  pub fit : Fits a.text a.start a.object n h
+pub record IsLevel (a : Here) (n h : ℕ) (marks : List Bool) (f : Findings) : Type 0 where
+  pub fit : ItemsFit strict a.text a.kind a.start n h
   pub long : length marks ≡ length a.children
-  pub fresh : (c : ℕ) (node : Node) → slice_get marks c ≡ Some false → slice_get a.children c ≡ Some node → IsFresh a.text a.start a.object n h node
+  pub fresh : (c : ℕ) (node : Node) → slice_get marks c ≡ Some false → slice_get a.children c ≡ Some node → NoneNamed a.text a.start a.kind n h node
   pub settled : (c : ℕ) (node : Node) → slice_get marks c ≡ Some true → slice_get a.children c ≡ Some node
-      → AllSettled a.text a.paths (a.front ++ node ∷ []) spans lacking
+      → AllSettled a.text a.paths (a.front ++ node ∷ []) f
 
 -- no child that was not met is this node
 abbrev pub IsNotOpen : Here → List Bool → Node → Type 0
 IsNotOpen a marks node = (c : ℕ) → slice_get marks c ≡ Some false → slice_get a.children c ≢ Some node
 
 -- the next item was passed, too, up to its end
-pub record IsPassed (a : Here) (n h e : ℕ) (marks : List Bool) (spans : List (Option Span)) (lacking : Bool) : Type 0 where
+pub record IsPassed (a : Here) (n h e : ℕ) (marks : List Bool) (f : Findings) : Type 0 where
   pub due : ℕ
   pub node : Node
-  pub head : IsHead a.text a.object n h due node
+  pub head : IsNamed a.text a.kind n h due node
   pub value : IsValue strict a.text due e
-  pub level : IsLevel a n h marks spans lacking
+  pub level : IsLevel a n h marks f
   pub closed : IsNotOpen a marks node
 
 -- the number of the child that a node is, if it is one
@@ -166,58 +149,58 @@ IsChildOf a None node = ¬ HasNext a.paths a.front node
 -- the n-th item has its value due at v, and is this child
 pub record IsItem (a : Here) (n h v : ℕ) (child : Option ℕ) : Type 0 where
   pub node : Node
-  pub head : IsHead a.text a.object n h v node
+  pub head : IsNamed a.text a.kind n h v node
   pub is : IsChildOf a child node
 
 -- all before the next item is told, which is due at h
-pub record IsBefore (a : Here) (n h : ℕ) (marks : List Bool) (spans : List (Option Span)) (lacking : Bool) : Type 0 where
+pub record IsBefore (a : Here) (n h : ℕ) (marks : List Bool) (f : Findings) : Type 0 where
   pub here : IsHere a
-  pub level : IsLevel a n h marks spans lacking
-  pub told : IsTold a.text a.paths spans lacking
-  pub wanted : IsWanted a marks lacking
+  pub level : IsLevel a n h marks f
+  pub told : IsTold a.text a.paths f
+  pub wanted : IsWanted a marks f
 
 -- the value of the next item is due at v, and it is a child that was not met
-pub record IsMeeting (a : Here) (n h v child : ℕ) (marks : List Bool) (spans : List (Option Span)) (lacking : Bool) : Type 0 where
-  pub before : IsBefore a n h marks spans lacking
+pub record IsMeeting (a : Here) (n h v child : ℕ) (marks : List Bool) (f : Findings) : Type 0 where
+  pub before : IsBefore a n h marks f
   pub node : Node
-  pub head : IsHead a.text a.object n h v node
+  pub head : IsNamed a.text a.kind n h v node
   pub is : slice_get a.children child ≡ Some node
   pub unmet : slice_get marks child ≡ Some false
 
 -- the next item was passed up to e, more is needed, and what was told before is still told
-pub record IsBehind (a : Here) (n h e : ℕ) (marks : List Bool) (before : List (Option Span)) (lacked : Bool) (spans : List (Option Span)) (lacking : Bool) : Type 0 where
-  pub passed : IsPassed a n h e marks spans lacking
-  pub told : IsTold a.text a.paths spans lacking
-  pub grown : IsGrown before lacked spans lacking
-  pub wanted : IsWanted a marks lacking
+pub record IsBehind (a : Here) (n h e : ℕ) (marks : List Bool) (before f : Findings) : Type 0 where
+  pub passed : IsPassed a n h e marks f
+  pub told : IsTold a.text a.paths f
+  pub grown : IsGrown before f
+  pub wanted : IsWanted a marks f
 
 -- the paths below are settled, and what was told before is still told
-pub record IsBelow (t : List ℕ) (paths : List Path) (front : Path) (before : List (Option Span)) (lacked : Bool) (spans : List (Option Span)) (lacking : Bool) : Type 0 where
-  pub told : IsTold t paths spans lacking
-  pub grown : IsGrown before lacked spans lacking
-  pub settled : BelowSettled t paths front spans lacking
+pub record IsBelow (t : List ℕ) (paths : List Path) (front : Path) (before f : Findings) : Type 0 where
+  pub told : IsTold t paths f
+  pub grown : IsGrown before f
+  pub settled : BelowSettled t paths front f
 
 -- and no more is needed
-pub record IsDone (a : Here) (before : List (Option Span)) (lacked : Bool) (spans : List (Option Span)) (lacking : Bool) : Type 0 where
-  pub below : IsBelow a.text a.paths a.front before lacked spans lacking
+pub record IsDone (a : Here) (before f : Findings) : Type 0 where
+  pub below : IsBelow a.text a.paths a.front before f
   pub needs : a.needs ≡ false
-  pub lacks : lacking ≡ false
+  pub lacks : f.lacking ≡ false
 
 -- the paths with the front are settled, and what was told before is still told
-pub record IsVisited (t : List ℕ) (paths : List Path) (front : Path) (before : List (Option Span)) (lacked : Bool) (spans : List (Option Span)) (lacking : Bool) : Type 0 where
-  pub told : IsTold t paths spans lacking
-  pub grown : IsGrown before lacked spans lacking
-  pub settled : AllSettled t paths front spans lacking
+pub record IsVisited (t : List ℕ) (paths : List Path) (front : Path) (before f : Findings) : Type 0 where
+  pub told : IsTold t paths f
+  pub grown : IsGrown before f
+  pub settled : AllSettled t paths front f
 
 -- where the value was not read to its end, no more is needed
-abbrev pub IsUnneeded : Bool → Bool → Bool → Type 0
-IsUnneeded whole needs lacking = whole ≡ false → (needs ≡ false) × (lacking ≡ false)
+abbrev pub IsUnneeded : Bool → Bool → Findings → Type 0
+IsUnneeded whole needs f = whole ≡ false → (needs ≡ false) × (f.lacking ≡ false)
 
--- the paths of these numbers have this span now, and all others what they had
-pub record IsFilled (orders : List ℕ) (before now : List (Option Span)) (span : Span) : Type 0 where
+-- the paths of these numbers have this now, and all others what they had
+pub record IsFilled {X : Type 0} (orders : List ℕ) (before now : List (Option X)) (x : X) : Type 0 where
   pub long : length now ≡ length before
-  pub filled : (k : ℕ) → Contains orders k → slice_get now k ≡ Some (Some span)
-  pub each : (k : ℕ) → (slice_get now k ≡ slice_get before k) ⊎ Contains orders k × (slice_get now k ≡ Some (Some span))
+  pub filled : (k : ℕ) → Contains orders k → slice_get now k ≡ Some (Some x)
+  pub each : (k : ℕ) → (slice_get now k ≡ slice_get before k) ⊎ Contains orders k × (slice_get now k ≡ Some (Some x))
 
 -- this is the furthest end of the spans, or there is none
 pub record IsFurthest (spans : List (Option Span)) (r : ℕ) : Type 0 where

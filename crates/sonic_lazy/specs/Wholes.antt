@@ -1,12 +1,17 @@
 -- What a lazy value holds: the text of one value, and whether that is a string with a backslash.
-use Rattle.std.specs.Prelude.{◌↔◌, ℕ, Bool, List, length, IsTrue}
+use Rattle.std.specs.Prelude.{◌↔◌, ℕ, ◌≤◌, Bool, List, length, slice_range, IsTrue}
 use Rattle.std.specs.Str.{IsUtf8}
-use Rattle.sonic_text.specs.Strings.{strict}
+use Rattle.sonic_text.specs.Strings.{strict, IsEscapedString}
 use Rattle.sonic_text.specs.Values.{IsValue}
-use Rattle.sonic_parser.specs.Parsers.{IsEscapedString}
 
 -- one value stands from end to end, in UTF-8, and is marked exactly where it is a string with a backslash
 pub record IsWholeValue (bytes : List ℕ) (is_marked : Bool) : Type 0 where
   pub value : IsValue strict bytes 0 (length bytes)
   pub utf8 : IsUtf8 bytes
   pub mark : IsTrue is_marked ↔ IsEscapedString bytes 0 (length bytes)
+
+-- from i to j stands a value, and its bytes are UTF-8
+pub record IsPart (t : List ℕ) (i j : ℕ) : Type 0 where
+  pub value : IsValue strict t i j
+  pub inside : j ≤ length t
+  pub utf8 : IsUtf8 (slice_range t i j)

@@ -4,19 +4,22 @@ ghost use Rattle.std.specs.Option.{IsSomeAnd};
 ghost use Rattle.std.specs.Str.{IsUtf8};
 ghost use Rattle.sonic_error.specs.declared.code.ErrorCode.TheVariants.{InvalidUTF8};
 ghost use Rattle.sonic_error.specs.Texts.{valid_up_to};
+ghost use Rattle.sonic_parser.specs.Faults.{IsStopFor};
 ghost use Rattle.sonic_lazy.specs.Answers.{IsAnswer, Answer};
-ghost use Rattle.sonic_lazy.specs.Walks.{IsStopFor, IsError, IsFurthest};
+ghost use Rattle.sonic_lazy.specs.Located.{AreMarked, spans_of};
+ghost use Rattle.sonic_lazy.specs.Walks.{IsError, IsFurthest};
 
-use crate::reading::WalkError;
-use crate::walk::{Found, visit};
+use crate::located::Located;
+use crate::state::Walk;
+use crate::walk::visit;
 use sonic_error::ErrorCode;
 use sonic_input::Read;
-use sonic_parser::Parser;
+use sonic_parser::{Fault, Parser};
 use sonic_pointer::PointerTree;
 use sonic_text::Stop;
 use std::alloc::Global;
 
-// The spans that the paths of a tree are answered with, in their order, or the one error.
+// The values that the paths of a tree are answered with, in their order, or the one error.
 //
 // What stands behind the last byte that is needed plays no part.
 pub(crate) fn answer(
@@ -24,79 +27,75 @@ pub(crate) fn answer(
     read: Read<'_>,
     is_bytes: bool,
     tree: &PointerTree,
-) -> Result<Vec<Option<(usize, usize)>>, WalkError>
+) -> Result<Vec<Option<Located>>, Fault>
     requires { read.place ≡ 0 }
-    ensures ok { IfOk result (λ found. IsAnswer read.entry.text is_bytes tree.now (Answer.spans found.items)) }
+    ensures ok { IfOk result (λ found.
+        IsAnswer read.entry.text is_bytes tree.now (Answer.spans (spans_of found.items))) }
+    ensures marked { IfOk result (λ found. AreMarked read.entry.text found.items) }
     ensures err { IfErr result (IsStopFor (IsError read.entry.text is_bytes tree.now)) }
 {
     let size = tree.size();
     if size == 0 {
         return Ok(Vec::new(alloc));
     }
-    let spans = match vec![in alloc; None; size] {
-        Ok(spans) => spans,
-        Err(_) => return Err(WalkError::Memory),
-    };
-    let lacking = false;
-    let mut found = Found { spans, lacking };
     let mut parser = Parser::new(read);
-    visit(alloc, &mut parser, &tree.view(), &mut found, false)?;
-    let reach = reach_of(&found, parser.offset());
+    parser.skip_space_peek();
+    let mut walk = Walk::new(alloc, parser, size)?;
+    visit(&mut walk, &tree.view(), false)?;
+    let (text, end, lacking) = (walk.text(), walk.place(), walk.lacks_key());
+    let found = walk.into_spans();
+    let reach = reach_of(&found, lacking, end);
     if is_bytes {
-        check(parser.text(), reach)?;
+        check(text, reach)?;
     }
-    Ok(found.spans)
+    Ok(found)
 }
 
 // How far the text is needed: to the end of the root where some path lacks its key.
-fn reach_of(found: &Found, end: usize) -> usize
-    ensures whole { found.now.lacking ≡ true → result ≡ end }
-    ensures furthest { found.now.lacking ≡ false → IsFurthest found.now.spans.items result }
+fn reach_of(found: &[Option<Located>], lacking: bool, end: usize) -> usize
+    ensures whole { lacking ≡ true → result ≡ end }
+    ensures furthest { lacking ≡ false → IsFurthest (spans_of found.now) result }
 {
-    if found.lacking {
-        end
-    } else {
-        furthest(&found.spans)
-    }
+    if lacking { end } else { furthest(found) }
 }
 
-// The furthest end of the spans, or 0 where there is none.
-fn furthest(spans: &[Option<(usize, usize)>]) -> usize
-    ensures { IsFurthest spans.now result }
+// The furthest end of the values, or 0 where there is none.
+fn furthest(found: &[Option<Located>]) -> usize
+    ensures { IsFurthest (spans_of found.now) result }
 {
     let mut reach = 0;
-    for span in spans {
-        reach = further(reach, *span);
+    for value in found {
+        reach = further(reach, *value);
     }
     reach
 }
 
-// The end of a span, where it is further.
-fn further(reach: usize, span: Option<(usize, usize)>) -> usize
+// The end of a value, where it is further.
+fn further(reach: usize, value: Option<Located>) -> usize
     ensures after { reach ≤ result }
-    ensures end { IfSome span (λ s. s.1 ≤ result) }
-    ensures one { (result ≡ reach) ⊎ IsSomeAnd span (λ s. s.1 ≡ result) }
+    ensures end { IfSome value (λ x. x.end ≤ result) }
+    ensures one { (result ≡ reach) ⊎ IsSomeAnd value (λ x. x.end ≡ result) }
 {
-    match span {
-        Some((_, end)) if reach < end => end,
+    match value {
+        Some(Located { end, .. }) if reach < end => end,
         _ => reach,
     }
 }
 
 // Looks at the front of a text, whether it is UTF-8.
-fn check(text: &[u8], reach: usize) -> Result<(), WalkError>
+fn check(text: &[u8], reach: usize) -> Result<(), Stop>
     requires { reach ≤ length text.now }
     ensures ok { OnOk result (IsUtf8 (take reach text.now)) }
-    ensures err { IfErr result (IsStopFor (λ s. (IsUtf8 (take reach text.now) → ⊥)
+    ensures err { IfErr result (λ s. (IsUtf8 (take reach text.now) → ⊥)
         × (s ≡ record { place = valid_up_to (take reach text.now); code = InvalidUTF8 })
-        × (s.place ≤ length text.now))) }
+        × (s.place ≤ length text.now)) }
 {
     match simdutf8::compat::from_utf8(&text[..reach]) {
         Ok(_) => Ok(()),
         Err(error) => {
             let place = error.valid_up_to();
             let code = ErrorCode::InvalidUTF8;
-            Err(WalkError::At(Stop { place, code }))
+            Err(Stop { place, code })
         }
     }
 }

@@ -1,7 +1,7 @@
 ghost use Rattle.std.specs.Prelude.{◌≡◌, ◌<◌, ℕ, Bool, List};
 ghost use Rattle.sonic_text.specs.declared.stop.Stop.{Stop};
 ghost use Rattle.sonic_text.specs.Documents.{IsRootFault};
-ghost use Rattle.sonic_text.specs.Trees.{Node};
+ghost use Rattle.sonic_text.specs.Paths.{Node};
 ghost use Rattle.sonic_lazy.specs.Answers.{IsAnswer};
 ghost use Rattle.sonic_lazy.specs.Laws.{ExactlyOne, MixNowhere};
 ghost use Rattle.sonic_lazy.specs.Paths.{Evaluates, Leads, lacks, fails, cut};

@@ -5,13 +5,14 @@ mod answer;
 mod entry;
 mod law;
 mod lazyvalue;
+mod located;
 mod many;
 mod marks;
 #[cfg(test)]
 mod plain;
-mod reading;
 #[cfg(test)]
 mod rows;
+mod state;
 #[cfg(test)]
 mod tests;
 mod walk;

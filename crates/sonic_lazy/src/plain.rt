@@ -1,24 +1,24 @@
 // Each path followed by itself, as plain as it gets, beside the walk that follows them all at once.
 ghost use Rattle.std.specs.Prelude.{◌≡◌, ◌≢◌, ◌+◌, ◌<◌, ◌≤◌, ℕ, List, [], ◌∷◌, Ok, true, false, length, IfOk, IfErr, IfSome, IfNone, OnOk};
-ghost use Rattle.sonic_text.specs.Places.{after_space};
+ghost use Rattle.sonic_text.specs.Paths.{Node};
 ghost use Rattle.sonic_text.specs.Strings.{strict};
 ghost use Rattle.sonic_text.specs.Values.{IsValue};
 ghost use Rattle.sonic_text.specs.Faults.{IsFault, IsKeyFault};
-ghost use Rattle.sonic_text.specs.Trees.{Node};
-ghost use Rattle.sonic_pointer.specs.Nodes.{node_of, path_of, is_key};
-ghost use Rattle.sonic_parser.specs.Parsers.{due, moved};
-ghost use Rattle.sonic_lazy.specs.Paths.{found, lacks, fails, cut, fails_at, nowhere, LeadsOn, Evaluates};
-ghost use Rattle.sonic_lazy.specs.Walks.{IsStopFor, IsHead, Fits};
+ghost use Rattle.sonic_pointer.specs.Nodes.{node_of, path_of};
+ghost use Rattle.sonic_parser.specs.Faults.{IsStopFor};
+ghost use Rattle.sonic_parser.specs.Parsers.{moved};
+ghost use Rattle.sonic_lazy.specs.Paths.{found, lacks, fails, cut, fails_at, kind_of, nowhere, IsNamed, LeadsOn, Evaluates};
 
+use crate::located::Located;
 use crate::many::find_many;
-use crate::reading::{WalkError, behind, key, kind_at, pass_byte, peek, skip};
 use crate::rows::{Paths, tree_of};
-use sonic_error::{ErrorCode, Note, Wanted};
+use crate::state::{empty_code, type_at, wanted_of};
+use sonic_error::{ErrorCode, Note};
 use sonic_input::{JsonSlice, Read};
-use sonic_parser::Parser;
+use sonic_parser::{Fault, Parser};
 use sonic_pointer::PointerNode::{Index, Key};
 use sonic_pointer::{PointerNode, PointerTree};
-use sonic_text::{Stop, byte_at, same_key, skip_space};
+use sonic_text::{Kind, Stop, byte_at, same_key, skip_space};
 use std::alloc::{AllocError, Global};
 use std::process::Abort;
 use std::test::Fail;
@@ -48,97 +48,79 @@ fn parser_at(text: &[u8], place: usize) -> Parser<'_>
     Parser::new(read)
 }
 
-// The end of the value that is due at a place, or its fault.
-fn value_end(alloc: Global, text: &[u8], place: usize) -> Result<usize, WalkError>
+// The end of the value that stands at a place, or its fault.
+fn value_end(alloc: Global, text: &[u8], place: usize) -> Result<usize, Fault>
     requires { place ≤ length text.now }
-    ensures ok { IfOk result (λ end. IsValue strict text.now (after_space text.now place) end) }
-    ensures err { IfErr result (IsStopFor (IsFault strict text.now (after_space text.now place))) }
+    ensures ok { IfOk result (λ end. IsValue strict text.now place end) }
+    ensures err { IfErr result (IsStopFor (IsFault strict text.now place)) }
 {
     let mut parser = parser_at(text, place);
-    skip(alloc, &mut parser)?;
+    parser.skip_value(alloc)?;
     Ok(parser.offset())
 }
 
-// Goes up to the first item of the object or the array that is due, if one with an item is.
-fn enter(parser: &mut Parser<'_>, object: bool) -> bool
-    ensures yes { result ≡ true → Fits parser.old.text (due parser.old) object 0 (due parser.new) }
-    ensures no { result ≡ false → (node : Node) → is_key node ≡ object
-        → (v : ℕ) → ¬ LeadsOn parser.old.text (due parser.old) node v }
-    ensures cursor { parser.new ≡ moved parser.old parser.new.place }
+// The kind of container that a node asks for.
+fn kind_of(node: &PointerNode<'_>) -> Kind
+    ensures { result ≡ kind_of (node_of node.now) }
 {
-    let (opening, closing) = if object { (b'{', b'}') } else { (b'[', b']') };
-    if peek(parser) != opening {
-        return false;
+    match node {
+        Key(_) => Kind::Object,
+        Index(_) => Kind::Array,
     }
-    pass_byte(parser);
-    if peek(parser) == closing {
-        return false;
-    }
-    true
 }
 
-// Whether a node is a key.
-fn is_key(node: &PointerNode<'_>) -> bool
-    ensures { result ≡ is_key (node_of node.now) }
-{
-    matches!(node, Key(_))
-}
-
-// Goes up to the value of the item that is due, and tells whether the node leads to it.
-fn head(
-    alloc: Global,
-    parser: &mut Parser<'_>,
-    node: &PointerNode<'_>,
-    passed: usize,
-) -> Result<bool, WalkError>
+// Goes up to the value of the item that stands here, and tells whether the node names it.
+fn is_named(parser: &mut Parser<'_>, node: &PointerNode<'_>, passed: usize) -> Result<bool, Stop>
     requires reads { parser.old.lossy ≡ strict }
-    ensures item { IfOk result (λ is_it. (item : Node) × IsHead parser.old.text
-        (is_key (node_of node.now)) passed (due parser.old) (due parser.new) item
+    ensures item { IfOk result (λ is_it. (item : Node) × IsNamed parser.old.text
+        (kind_of (node_of node.now)) passed parser.old.place parser.new.place item
         × (is_it ≡ true → item ≡ node_of node.now) × (is_it ≡ false → item ≢ node_of node.now)) }
     ensures cursor { OnOk result (parser.new ≡ moved parser.old parser.new.place) }
-    ensures err { IfErr result (IsStopFor (λ s. (is_key (node_of node.now) ≡ true)
-        × IsKeyFault strict parser.old.text (due parser.old) s)) }
+    ensures err { IfErr result (λ s. (kind_of (node_of node.now) ≡ Kind.Object)
+        × IsKeyFault strict parser.old.text parser.old.place s) }
 {
     match node {
         Key(text) => {
-            let (start, end) = key(alloc, parser)?;
-            Ok(same_key(parser.text(), start, end, *text))
+            let start = parser.offset();
+            let string = parser.key()?;
+            Ok(same_key(parser.text(), start, string.end, *text))
         }
         Index(number) => Ok(*number == passed),
     }
 }
 
-// Goes up to the value that the node leads to in the value that is due, if it leads to one.
-fn seek(alloc: Global, parser: &mut Parser<'_>, node: &PointerNode<'_>) -> Result<bool, WalkError>
+// Goes up to the value that the node leads to in the value that stands here, if it leads to one.
+fn seek(alloc: Global, parser: &mut Parser<'_>, node: &PointerNode<'_>) -> Result<bool, Fault>
     requires reads { parser.old.lossy ≡ strict }
     ensures yes { IfOk result (λ leads. leads ≡ true
-        → LeadsOn parser.old.text (due parser.old) (node_of node.now) (due parser.new)) }
+        → LeadsOn parser.old.text parser.old.place (node_of node.now) parser.new.place) }
     ensures no { IfOk result (λ leads. leads ≡ false
-        → (v : ℕ) → ¬ LeadsOn parser.old.text (due parser.old) (node_of node.now) v) }
+        → (v : ℕ) → ¬ LeadsOn parser.old.text parser.old.place (node_of node.now) v) }
     ensures cursor { OnOk result (parser.new ≡ moved parser.old parser.new.place) }
     ensures err { IfErr result (IsStopFor (λ s. (v : ℕ)
-        → ¬ LeadsOn parser.old.text (due parser.old) (node_of node.now) v)) }
+        → ¬ LeadsOn parser.old.text parser.old.place (node_of node.now) v)) }
 {
-    let object = is_key(node);
-    if !enter(parser, object) {
+    let kind = kind_of(node);
+    if byte_at(parser.text(), parser.offset()) != kind.opening() {
+        return Ok(false);
+    }
+    if !parser.enter(kind) {
         return Ok(false);
     }
     let mut passed = 0;
     'items: loop {
-        if head(alloc, parser, node, passed)? {
+        if is_named(parser, node, passed)? {
             return Ok(true);
         }
-        skip(alloc, parser)?;
-        // Each item takes a byte, so its number is below the place behind it.
-        let end = parser.offset();
-        if !behind(parser, object)? {
+        parser.skip_value(alloc)?;
+        if !parser.next_item(kind)? {
             return Ok(false);
         }
         passed += 1;
     }
 }
 
-// A place at which the value is due that the node leads to, if it leads to one.
+// The place of the value that the node leads to, if it leads to one.
 fn step(
     alloc: Global,
     text: &[u8],
@@ -146,71 +128,58 @@ fn step(
     node: &PointerNode<'_>,
 ) -> Result<Option<usize>, AllocError>
     requires { place ≤ length text.now }
-    ensures leads { IfOk result (λ way. IfSome way (λ next. LeadsOn text.now
-        (after_space text.now place) (node_of node.now) (after_space text.now next))) }
+    ensures leads { IfOk result (λ way. IfSome way (LeadsOn text.now place (node_of node.now))) }
     ensures within { IfOk result (λ way. IfSome way (λ next. next ≤ length text.now)) }
-    ensures nowhere { IfOk result (λ way. IfNone way ((v : ℕ)
-        → ¬ LeadsOn text.now (after_space text.now place) (node_of node.now) v)) }
+    ensures nowhere { IfOk result (λ way. IfNone way
+        ((v : ℕ) → ¬ LeadsOn text.now place (node_of node.now) v)) }
 {
     let mut parser = parser_at(text, place);
     match seek(alloc, &mut parser, node) {
         Ok(true) => Ok(Some(parser.offset())),
-        Ok(false) | Err(WalkError::At(_)) => Ok(None),
-        Err(WalkError::Memory) => Err(AllocError),
+        Ok(false) => Ok(None),
+        Err(Fault::At(_)) => Ok(None),
+        Err(Fault::OutOfMemory) => Err(AllocError),
     }
 }
 
-// Why a node that leads nowhere in the whole value at a place fails there, or `None` where it is a
-// key that an object with members lacks.
-fn refusal(text: &[u8], start: usize, node: &PointerNode<'_>) -> Option<ErrorCode>
+// Why a node that asks for this kind and leads nowhere in the whole value at a place fails there,
+// or `None` where it is a key that an object with members lacks.
+fn refusal(text: &[u8], start: usize, kind: Kind) -> Option<ErrorCode>
     ensures fails { IfSome result (λ code. (q : ℕ)
-        → nowhere text.now start q (node_of node.now) ≡ fails_at q code) }
-    ensures lacks { IfNone result ((q : ℕ)
-        → nowhere text.now start q (node_of node.now) ≡ lacks q) }
+        → nowhere text.now start q kind ≡ fails_at q code) }
+    ensures lacks { IfNone result ((q : ℕ) → nowhere text.now start q kind ≡ lacks q) }
 {
-    let found = kind_at(text, start);
-    match node {
-        Key(_) => {
-            if byte_at(text, start) != b'{' {
-                let wanted = Wanted::Object;
-                return Some(ErrorCode::Message(Note::Mismatch { found, wanted }));
-            }
-            if byte_at(text, skip_space(text, start + 1)) == b'}' {
-                return Some(ErrorCode::GetInEmptyObject);
-            }
-            None
-        }
-        Index(_) => {
-            if byte_at(text, start) != b'[' {
-                let wanted = Wanted::Array;
-                return Some(ErrorCode::Message(Note::Mismatch { found, wanted }));
-            }
-            if byte_at(text, skip_space(text, start + 1)) == b']' {
-                return Some(ErrorCode::GetInEmptyArray);
-            }
-            Some(ErrorCode::GetIndexOutOfArray)
-        }
+    if byte_at(text, start) != kind.opening() {
+        let found = type_at(text, start);
+        let wanted = wanted_of(kind);
+        return Some(ErrorCode::Message(Note::Mismatch { found, wanted }));
+    }
+    if byte_at(text, skip_space(text, start + 1)) == kind.closing() {
+        return Some(empty_code(kind));
+    }
+    match kind {
+        Kind::Array => Some(ErrorCode::GetIndexOutOfArray),
+        Kind::Object => None,
     }
 }
 
-// What a path that is used up is told of the value that is due.
+// What a path that is used up is told of the value that stands here.
 fn stand(alloc: Global, text: &[u8], place: usize) -> Result<Told, AllocError>
     requires { place ≤ length text.now }
     ensures found { (i j : ℕ) → result ≡ Ok (Told.Found i j)
-        → Evaluates text.now (after_space text.now place) [] (found i j) }
-    ensures cut { (s : Stop) → result ≡ Ok (Told.Cut s)
-        → Evaluates text.now (after_space text.now place) [] (cut s) }
+        → Evaluates text.now place [] (found i j) }
+    ensures cut { (s : Stop) → result ≡ Ok (Told.Cut s) → Evaluates text.now place [] (cut s) }
     ensures lacks { (q : ℕ) → result ≢ Ok (Told.Lacks q) }
     ensures fails { (s : Stop) → result ≢ Ok (Told.Fails s) }
 {
     match value_end(alloc, text, place) {
-        Ok(end) => Ok(Told::Found(skip_space(text, place), end)),
-        Err(WalkError::At(stop)) => Ok(Told::Cut(stop)),
-        Err(WalkError::Memory) => Err(AllocError),
+        Ok(end) => Ok(Told::Found(place, end)),
+        Err(Fault::At(stop)) => Ok(Told::Cut(stop)),
+        Err(Fault::OutOfMemory) => Err(AllocError),
     }
 }
 
-// What a path is told of the value that is due, where its next node leads nowhere.
+// What a path is told of the value that stands here, where its next node leads nowhere.
 fn miss(
     alloc: Global,
     text: &[u8],
@@ -218,31 +187,29 @@ fn miss(
     node: &PointerNode<'_>,
 ) -> Result<Told, AllocError>
     requires within { place ≤ length text.now }
-    requires nowhere { (v : ℕ)
-        → ¬ LeadsOn text.now (after_space text.now place) (node_of node.now) v }
+    requires nowhere { (v : ℕ) → ¬ LeadsOn text.now place (node_of node.now) v }
     ensures found { (i j : ℕ) → result ≢ Ok (Told.Found i j) }
     ensures lacks { (q : ℕ) → result ≡ Ok (Told.Lacks q) → (rest : List Node)
-        → Evaluates text.now (after_space text.now place) (node_of node.now ∷ rest) (lacks q) }
+        → Evaluates text.now place (node_of node.now ∷ rest) (lacks q) }
     ensures fails { (s : Stop) → result ≡ Ok (Told.Fails s) → (rest : List Node)
-        → Evaluates text.now (after_space text.now place) (node_of node.now ∷ rest) (fails s) }
+        → Evaluates text.now place (node_of node.now ∷ rest) (fails s) }
     ensures cut { (s : Stop) → result ≡ Ok (Told.Cut s) → (rest : List Node)
-        → Evaluates text.now (after_space text.now place) (node_of node.now ∷ rest) (cut s) }
+        → Evaluates text.now place (node_of node.now ∷ rest) (cut s) }
 {
-    let start = skip_space(text, place);
     match value_end(alloc, text, place) {
         Ok(end) => {
-            let place = end - 1;
-            match refusal(text, start, node) {
-                Some(code) => Ok(Told::Fails(Stop { place, code })),
-                None => Ok(Told::Lacks(place)),
+            let last = end - 1;
+            match refusal(text, place, kind_of(node)) {
+                Some(code) => Ok(Told::Fails(Stop { place: last, code })),
+                None => Ok(Told::Lacks(last)),
             }
         }
-        Err(WalkError::At(stop)) => Ok(Told::Cut(stop)),
-        Err(WalkError::Memory) => Err(AllocError),
+        Err(Fault::At(stop)) => Ok(Told::Cut(stop)),
+        Err(Fault::OutOfMemory) => Err(AllocError),
     }
 }
 
-// Where a path leads in the value that is due at a place.
+// Where a path leads in the value that stands at a place.
 fn follow(
     alloc: Global,
     text: &[u8],
@@ -251,13 +218,13 @@ fn follow(
 ) -> Result<Told, AllocError>
     requires { place ≤ length text.now }
     ensures found { (i j : ℕ) → result ≡ Ok (Told.Found i j)
-        → Evaluates text.now (after_space text.now place) (path_of path.now) (found i j) }
+        → Evaluates text.now place (path_of path.now) (found i j) }
     ensures lacks { (q : ℕ) → result ≡ Ok (Told.Lacks q)
-        → Evaluates text.now (after_space text.now place) (path_of path.now) (lacks q) }
+        → Evaluates text.now place (path_of path.now) (lacks q) }
     ensures fails { (s : Stop) → result ≡ Ok (Told.Fails s)
-        → Evaluates text.now (after_space text.now place) (path_of path.now) (fails s) }
+        → Evaluates text.now place (path_of path.now) (fails s) }
     ensures cut { (s : Stop) → result ≡ Ok (Told.Cut s)
-        → Evaluates text.now (after_space text.now place) (path_of path.now) (cut s) }
+        → Evaluates text.now place (path_of path.now) (cut s) }
 {
     let Some((node, rest)) = path.split_first() else {
         return stand(alloc, text, place);
@@ -274,9 +241,10 @@ fn follow_all(
     text: &[u8],
     paths: &[&[PointerNode<'_>]],
 ) -> Result<Vec<Told>, AllocError> {
+    let start = skip_space(text, 0);
     let mut all = Vec::new(alloc);
     for path in paths {
-        all.push(follow(alloc, text, 0, path)?)?;
+        all.push(follow(alloc, text, start, path)?)?;
     }
     Ok(all)
 }
@@ -319,6 +287,14 @@ fn span(told: &Told) -> Option<(usize, usize)> {
     }
 }
 
+// The span that the walk found, if it found one.
+fn located_span(found: &Option<Located>) -> Option<(usize, usize)> {
+    match found {
+        Some(Located { start, end, .. }) => Some((*start, *end)),
+        None => None,
+    }
+}
+
 // The spans that paths are answered with, or the one stop.
 type Answered = Result<Vec<Option<(usize, usize)>>, Stop>;
 
@@ -337,10 +313,10 @@ fn plain_answer(
     }
     let mut reach = furthest(&all);
     if all.iter().any(needs_root) {
-        reach = match value_end(alloc, text, 0) {
+        reach = match value_end(alloc, text, skip_space(text, 0)) {
             Ok(end) => end,
-            Err(WalkError::At(stop)) => return Ok(Err(stop)),
-            Err(WalkError::Memory) => return Err(AllocError),
+            Err(Fault::At(stop)) => return Ok(Err(stop)),
+            Err(Fault::OutOfMemory) => return Err(AllocError),
         };
     }
     if let Err(error) = std::str::from_utf8(&text[..reach.min(text.len())]) {
@@ -411,7 +387,10 @@ fn check_text(
         find_many(alloc, text, tree),
         plain_answer(alloc, text, paths)?,
     ) {
-        (Ok(found), Ok(spans)) => assert!(rt; found == spans, "{text:?} {paths:?}"),
+        (Ok(found), Ok(spans)) => {
+            let found: Vec<Option<(usize, usize)>> = found.iter().map(located_span).collect(alloc)?;
+            assert!(rt; found == spans, "{text:?} {paths:?}");
+        }
         (Err(error), Err(stop)) => {
             let last = text.len().saturating_sub(1);
             assert_eq!(rt; error.code(), stop.code, "{text:?} {paths:?}");

@@ -1,79 +1,63 @@
 // One walk through a text, which finds what all paths of a tree lead to.
-ghost use Rattle.std.specs.Prelude.{◌≡◌, ◌≢◌, ◌⊎◌, ◌<◌, ◌≤◌, ◌+◌, ℕ, List, Some, true, false, length, slice_get, IfOk, IfErr, OnOk};
-ghost use Rattle.std.specs.List.{Contains};
+ghost use Rattle.std.specs.Prelude.{◌≡◌, ◌≢◌, ◌⊎◌, ◌<◌, ◌≤◌, ◌-◌, ℕ, List, Some, true, false, length, slice_get, IfOk, IfErr, IfSome, IfNone, OnOk};
 ghost use Rattle.sonic_error.specs.declared.code.ErrorCode.TheVariants.{GetIndexOutOfArray};
 ghost use Rattle.sonic_text.specs.Strings.{strict};
+ghost use Rattle.sonic_text.specs.Paths.{Node};
 ghost use Rattle.sonic_text.specs.Values.{IsValue};
 ghost use Rattle.sonic_text.specs.Faults.{IsKeyFault};
-ghost use Rattle.sonic_text.specs.Trees.{Node};
-ghost use Rattle.sonic_pointer.specs.Nodes.{is_key};
-ghost use Rattle.sonic_pointer.specs.Paths.{HasFront};
-ghost use Rattle.sonic_parser.specs.Parsers.{due, moved};
-ghost use Rattle.sonic_lazy.specs.Walks.{IsStopFor, IsStop, ComesTo, IsTold, IsVisited, IsUnneeded, IsBelow, IsDone, IsBefore, IsBehind, IsItem, IsHere, IsMeeting, IsFilled, SomeOpen};
-ghost use Rattle.sonic_lazy.specs.Levels.{here_at};
+ghost use Rattle.sonic_pointer.specs.Paths.{HasFront, IsChildren};
+ghost use Rattle.sonic_parser.specs.Faults.{IsStopFor};
+ghost use Rattle.sonic_lazy.specs.Located.{IsStatus};
+ghost use Rattle.sonic_lazy.specs.Paths.{kind_of};
+ghost use Rattle.sonic_lazy.specs.Walks.{IsStop, ComesTo, IsTold, IsVisited, IsUnneeded, IsBelow, IsDone, IsBefore, IsBehind, IsItem, IsHere, IsMeeting, SomeOpen};
+ghost use Rattle.sonic_lazy.specs.Views.{here_at};
 
 use crate::marks::Marks;
-use crate::reading::{WalkError, behind, enter, key, peek, skip};
+use crate::state::Walk;
 use sonic_error::ErrorCode;
-use sonic_parser::Parser;
+use sonic_parser::{Fault, ParseStatus};
 use sonic_pointer::{Branch, TreeView};
-use sonic_text::Stop;
-use std::alloc::Global;
+use sonic_text::{Kind, Stop};
 
-// What the paths have found so far.
-#[derive(Drop)]
-pub(crate) struct Found {
-    // The span that each path found.
-    pub(crate) spans: Vec<Option<(usize, usize)>>,
-    // Whether some path lacks its key.
-    pub(crate) lacking: bool,
-}
-
-// An object or an array in which the children of a place of the tree are looked for.
+// A container in which the children of a place of the tree are looked for.
 #[derive(Drop)]
 struct Level<'l, 't> {
     view: &'l TreeView<'t>,
     // The place of its bracket.
     start: usize,
-    object: bool,
+    kind: Kind,
     // Whether it has to be read to its end.
     needs: bool,
 }
 
-// Follows the paths that begin with the front of the view in the value that is due.
+// Follows the paths that begin with the front of the view in the value that stands here.
 //
 // It is read to its end where `finish` asks for it, where some path lacks its key, or where a path
 // ends here: then the answer is `true`.
 #[cycle(walk)]
-pub(crate) fn visit(
-    alloc: Global,
-    parser: &mut Parser<'_>,
-    view: &TreeView<'_>,
-    found: &mut Found,
-    finish: bool,
-) -> Result<bool, WalkError>
-    requires reads { parser.old.lossy ≡ strict }
-    requires comes { ComesTo parser.old.text view.now.front (due parser.old) }
+pub(crate) fn visit(walk: &mut Walk<'_>, view: &TreeView<'_>, finish: bool) -> Result<bool, Fault>
+    requires comes { ComesTo walk.old.text view.now.front walk.old.place }
     requires some { HasFront view.now.paths view.now.front }
-    requires told { IsTold parser.old.text view.now.paths found.old.spans.items found.old.lacking }
-    ensures visited { OnOk result (IsVisited parser.old.text view.now.paths view.now.front
-        found.old.spans.items found.old.lacking found.new.spans.items found.new.lacking) }
+    requires told { IsTold walk.old.text view.now.paths walk.old.findings }
+    ensures visited { OnOk result (IsVisited walk.old.text view.now.paths view.now.front
+        walk.old.findings walk.new.findings) }
     ensures whole { IfOk result (λ whole. whole ≡ true
-        → IsValue strict parser.old.text (due parser.old) parser.new.place) }
-    ensures unneeded { IfOk result (λ whole. IsUnneeded whole finish found.new.lacking) }
-    ensures cursor { OnOk result (parser.new ≡ moved parser.old parser.new.place) }
-    ensures err { IfErr result (IsStopFor (IsStop parser.old.text view.now.paths view.now.front
-        (due parser.old) finish)) }
+        → IsValue strict walk.old.text walk.old.place walk.new.place) }
+    ensures unneeded { IfOk result (λ whole. IsUnneeded whole finish walk.new.findings) }
+    ensures text { OnOk result (walk.new.text ≡ walk.old.text) }
+    ensures err { IfErr result (IsStopFor (IsStop walk.old.text view.now.paths view.now.front
+        walk.old.place finish)) }
 {
-    peek(parser);
-    let start = parser.offset();
+    let start = walk.place();
     let orders = view.orders();
     let needs = is_asked(finish, orders);
-    let whole = below(alloc, parser, view, found, needs)?;
-    if whole {
-        fill(found, orders, start, parser.offset());
+    match below(walk, view, needs)? {
+        Some(status) => {
+            walk.keep(orders, start, status);
+            Ok(true)
+        }
+        None => Ok(false),
     }
-    Ok(whole)
 }
 
 // Whether a value has to be read to its end, as it is asked for or as a path ends at it.
@@ -84,229 +68,208 @@ fn is_asked(finish: bool, orders: &[usize]) -> bool
     finish || !orders.is_empty()
 }
 
-// Follows the paths that go on behind the front of the view in the value that is due.
+// Follows the paths that go on behind the front of the view in the value that stands here, and
+// gives the value's status where it was read to its end.
 #[cycle(walk)]
 fn below(
-    alloc: Global,
-    parser: &mut Parser<'_>,
+    walk: &mut Walk<'_>,
     view: &TreeView<'_>,
-    found: &mut Found,
     needs: bool,
-) -> Result<bool, WalkError>
-    requires reads { parser.old.lossy ≡ strict }
-    requires comes { ComesTo parser.old.text view.now.front (due parser.old) }
+) -> Result<Option<ParseStatus>, Fault>
+    requires comes { ComesTo walk.old.text view.now.front walk.old.place }
     requires some { HasFront view.now.paths view.now.front }
-    requires told { IsTold parser.old.text view.now.paths found.old.spans.items found.old.lacking }
-    ensures below { OnOk result (IsBelow parser.old.text view.now.paths view.now.front
-        found.old.spans.items found.old.lacking found.new.spans.items found.new.lacking) }
-    ensures whole { IfOk result (λ whole. whole ≡ true
-        → IsValue strict parser.old.text (due parser.old) parser.new.place) }
-    ensures unneeded { IfOk result (λ whole. IsUnneeded whole needs found.new.lacking) }
-    ensures cursor { OnOk result (parser.new ≡ moved parser.old parser.new.place) }
-    ensures err { IfErr result (IsStopFor (IsStop parser.old.text view.now.paths view.now.front
-        (due parser.old) needs)) }
+    requires told { IsTold walk.old.text view.now.paths walk.old.findings }
+    ensures below { OnOk result (IsBelow walk.old.text view.now.paths view.now.front
+        walk.old.findings walk.new.findings) }
+    ensures whole { IfOk result (λ read. IfSome read (λ status.
+        IsValue strict walk.old.text walk.old.place walk.new.place)) }
+    ensures status { IfOk result (λ read. IfSome read (λ status.
+        IsStatus walk.old.text walk.old.place walk.new.place status)) }
+    ensures unneeded { IfOk result (λ read. IfNone read
+        ((needs ≡ false) × (walk.new.findings.lacking ≡ false))) }
+    ensures text { OnOk result (walk.new.text ≡ walk.old.text) }
+    ensures err { IfErr result (IsStopFor (IsStop walk.old.text view.now.paths view.now.front
+        walk.old.place needs)) }
 {
     if view.count() == 0 {
-        skip(alloc, parser)?;
-        return Ok(true);
+        return Ok(Some(walk.skip()?));
     }
-    peek(parser);
-    let start = parser.offset();
-    let object = has_keys(view);
     let level = Level {
         view,
-        start,
-        object,
+        start: walk.place(),
+        kind: kind_of_children(view),
         needs,
     };
-    inside(alloc, parser, &level, found)
-}
-
-// Whether keys follow the front of the view, or indexes.
-fn has_keys(view: &TreeView<'_>) -> bool
-    ensures { (c : ℕ) (node : Node) → slice_get view.now.children c ≡ Some node → is_key node ≡ result }
-{
-    let _ = view.count();
-    match view.branch() {
-        Branch::Keys => true,
-        Branch::Leaf => false,
-        Branch::Indexes => false,
+    if inside(walk, &level)? {
+        Ok(Some(ParseStatus::None))
+    } else {
+        Ok(None)
     }
 }
 
-// Follows the children of a level in the value that is due.
+// The kind of container that the nodes behind the front of the view ask for.
+fn kind_of_children(view: &TreeView<'_>) -> Kind
+    requires { IsChildren view.now.paths view.now.front view.now.children }
+    ensures { (c : ℕ) (node : Node) → slice_get view.now.children c ≡ Some node → kind_of node ≡ result }
+{
+    match view.branch() {
+        Branch::Keys => Kind::Object,
+        Branch::Leaf => Kind::Array,
+        Branch::Indexes => Kind::Array,
+    }
+}
+
+// Follows the children of a level in the value that stands here: whether it was read to its end.
 #[cycle(walk)]
-fn inside(
-    alloc: Global,
-    parser: &mut Parser<'_>,
-    level: &Level<'_, '_>,
-    found: &mut Found,
-) -> Result<bool, WalkError>
-    requires reads { parser.old.lossy ≡ strict }
-    requires start { level.now.start ≡ due parser.old }
-    requires here { IsHere (here_at parser.old.text level.now) }
+fn inside(walk: &mut Walk<'_>, level: &Level<'_, '_>) -> Result<bool, Fault>
+    requires start { level.now.start ≡ walk.old.place }
+    requires here { IsHere (here_at walk.old.text level.now) }
     requires some { level.now.view.now.children ≢ List.[] }
-    requires told { IsTold parser.old.text level.now.view.now.paths found.old.spans.items found.old.lacking }
-    ensures below { OnOk result (IsBelow parser.old.text level.now.view.now.paths level.now.view.now.front
-        found.old.spans.items found.old.lacking found.new.spans.items found.new.lacking) }
+    requires told { IsTold walk.old.text level.now.view.now.paths walk.old.findings }
+    ensures below { OnOk result (IsBelow walk.old.text level.now.view.now.paths
+        level.now.view.now.front walk.old.findings walk.new.findings) }
     ensures whole { IfOk result (λ whole. whole ≡ true
-        → IsValue strict parser.old.text (due parser.old) parser.new.place) }
-    ensures unneeded { IfOk result (λ whole. IsUnneeded whole level.now.needs found.new.lacking) }
-    ensures cursor { OnOk result (parser.new ≡ moved parser.old parser.new.place) }
-    ensures err { IfErr result (IsStopFor (IsStop parser.old.text level.now.view.now.paths
+        → IsValue strict walk.old.text walk.old.place walk.new.place) }
+    ensures status { IfOk result (λ whole. whole ≡ true
+        → IsStatus walk.old.text walk.old.place walk.new.place ParseStatus.None) }
+    ensures unneeded { IfOk result (λ whole. IsUnneeded whole level.now.needs walk.new.findings) }
+    ensures text { OnOk result (walk.new.text ≡ walk.old.text) }
+    ensures err { IfErr result (IsStopFor (IsStop walk.old.text level.now.view.now.paths
         level.now.view.now.front level.now.start level.now.needs)) }
 {
-    enter(alloc, parser, level.object)?;
-    let mut marks = match Marks::new(alloc, level.view.count()) {
-        Ok(marks) => marks,
-        Err(_) => return Err(WalkError::Memory),
-    };
+    walk.enter(level.kind)?;
+    let mut marks = Marks::new(walk.alloc(), level.view.count())?;
     let mut passed = 0;
     'items: loop {
-        if !item(alloc, parser, level, found, &mut marks, passed)? {
+        if !item(walk, level, &mut marks, passed)? {
             return Ok(false);
         }
-        // Each item takes a byte, so its number is below the place behind it.
-        let end = parser.offset();
-        if !behind(parser, level.object)? {
+        if !walk.next_item(level.kind)? {
             break 'items;
         }
         passed += 1;
     }
-    let place = parser.offset() - 1;
-    close(found, &marks, level.object, place)?;
+    close(walk, &marks, level.kind)?;
     Ok(true)
 }
 
-// Passes the item of a level that is due, and follows the child that it is, unless no more is
+// Passes the item of a level that stands here, and follows the child that it is, unless no more is
 // needed behind it.
 #[cycle(walk)]
 fn item(
-    alloc: Global,
-    parser: &mut Parser<'_>,
+    walk: &mut Walk<'_>,
     level: &Level<'_, '_>,
-    found: &mut Found,
     marks: &mut Marks,
     passed: usize,
-) -> Result<bool, WalkError>
-    requires reads { parser.old.lossy ≡ strict }
-    requires before { IsBefore (here_at parser.old.text level.now) passed (due parser.old) marks.old
-        found.old.spans.items found.old.lacking }
-    ensures more { IfOk result (λ more. more ≡ true → IsBehind (here_at parser.old.text level.now)
-        passed (due parser.old) parser.new.place marks.new
-        found.old.spans.items found.old.lacking found.new.spans.items found.new.lacking) }
-    ensures done { IfOk result (λ more. more ≡ false → IsDone (here_at parser.old.text level.now)
-        found.old.spans.items found.old.lacking found.new.spans.items found.new.lacking) }
-    ensures cursor { OnOk result (parser.new ≡ moved parser.old parser.new.place) }
-    ensures err { IfErr result (IsStopFor (IsStop parser.old.text level.now.view.now.paths
+) -> Result<bool, Fault>
+    requires { IsBefore (here_at walk.old.text level.now) passed walk.old.place marks.old
+        walk.old.findings }
+    ensures more { IfOk result (λ more. more ≡ true → IsBehind (here_at walk.old.text level.now)
+        passed walk.old.place walk.new.place marks.new walk.old.findings walk.new.findings) }
+    ensures done { IfOk result (λ more. more ≡ false
+        → IsDone (here_at walk.old.text level.now) walk.old.findings walk.new.findings) }
+    ensures text { OnOk result (walk.new.text ≡ walk.old.text) }
+    ensures err { IfErr result (IsStopFor (IsStop walk.old.text level.now.view.now.paths
         level.now.view.now.front level.now.start level.now.needs)) }
 {
-    match head(alloc, parser, level, passed)? {
+    match head(walk, level, passed)? {
         Some(child) => {
             if marks.is_met(child) {
-                skip(alloc, parser)?;
+                walk.skip()?;
                 return Ok(true);
             }
-            meet(alloc, parser, level, found, marks, child)
+            meet(walk, level, marks, child)
         }
         None => {
-            skip(alloc, parser)?;
+            walk.skip()?;
             Ok(true)
         }
     }
 }
 
 // Whether more is needed of a level: its end, or a child.
-fn is_wanted(level: &Level<'_, '_>, found: &Found, marks: &Marks) -> bool
-    ensures more { result ≡ true
-        → (level.now.needs ≡ true) ⊎ (found.now.lacking ≡ true) ⊎ SomeOpen marks.now }
+fn is_wanted(level: &Level<'_, '_>, lacking: bool, marks: &Marks) -> bool
+    ensures more { result ≡ true → (level.now.needs ≡ true) ⊎ (lacking ≡ true) ⊎ SomeOpen marks.now }
     ensures done { result ≡ false
-        → (level.now.needs ≡ false) × (found.now.lacking ≡ false) × (SomeOpen marks.now → ⊥) }
+        → (level.now.needs ≡ false) × (lacking ≡ false) × (SomeOpen marks.now → ⊥) }
 {
-    level.needs || found.lacking || !marks.is_done()
+    level.needs || lacking || !marks.is_done()
 }
 
-// Follows a child that was not met before in the value that is due.
+// Follows a child that was not met before in the value that stands here.
 #[cycle(walk)]
 fn meet(
-    alloc: Global,
-    parser: &mut Parser<'_>,
+    walk: &mut Walk<'_>,
     level: &Level<'_, '_>,
-    found: &mut Found,
     marks: &mut Marks,
     child: usize,
-) -> Result<bool, WalkError>
-    requires reads { parser.old.lossy ≡ strict }
-    requires meeting { (n : ℕ) × (h : ℕ) × IsMeeting (here_at parser.old.text level.now) n h
-        (due parser.old) child marks.old found.old.spans.items found.old.lacking }
+) -> Result<bool, Fault>
+    requires { (n : ℕ) × (h : ℕ) × IsMeeting (here_at walk.old.text level.now) n h
+        walk.old.place child marks.old walk.old.findings }
     ensures more { IfOk result (λ more. more ≡ true → (n h : ℕ)
-        → IsMeeting (here_at parser.old.text level.now) n h (due parser.old) child marks.old
-        found.old.spans.items found.old.lacking
-        → IsBehind (here_at parser.old.text level.now) n h parser.new.place marks.new
-        found.old.spans.items found.old.lacking found.new.spans.items found.new.lacking) }
-    ensures done { IfOk result (λ more. more ≡ false → IsDone (here_at parser.old.text level.now)
-        found.old.spans.items found.old.lacking found.new.spans.items found.new.lacking) }
-    ensures cursor { OnOk result (parser.new ≡ moved parser.old parser.new.place) }
-    ensures err { IfErr result (IsStopFor (IsStop parser.old.text level.now.view.now.paths
+        → IsMeeting (here_at walk.old.text level.now) n h walk.old.place child marks.old
+        walk.old.findings
+        → IsBehind (here_at walk.old.text level.now) n h walk.new.place marks.new
+        walk.old.findings walk.new.findings) }
+    ensures done { IfOk result (λ more. more ≡ false
+        → IsDone (here_at walk.old.text level.now) walk.old.findings walk.new.findings) }
+    ensures text { OnOk result (walk.new.text ≡ walk.old.text) }
+    ensures err { IfErr result (IsStopFor (IsStop walk.old.text level.now.view.now.paths
         level.now.view.now.front level.now.start level.now.needs)) }
 {
     marks.meet(child);
-    let more = is_wanted(level, found, marks);
+    let more = is_wanted(level, walk.lacks_key(), marks);
     let (_, below) = level.view.child(child);
-    visit(alloc, parser, &below, found, more)?;
-    Ok(more || found.lacking)
+    visit(walk, &below, more)?;
+    Ok(more || walk.lacks_key())
 }
 
-// Passes what stands before the value of the item that is due: the number of the child that it is.
-fn head(
-    alloc: Global,
-    parser: &mut Parser<'_>,
-    level: &Level<'_, '_>,
-    passed: usize,
-) -> Result<Option<usize>, WalkError>
-    requires reads { parser.old.lossy ≡ strict }
-    ensures item { IfOk result (λ child. IsItem (here_at parser.old.text level.now) passed
-        (due parser.old) (due parser.new) child) }
-    ensures cursor { OnOk result (parser.new ≡ moved parser.old parser.new.place) }
-    ensures later { OnOk result (parser.old.place ≤ parser.new.place) }
-    ensures err { IfErr result (IsStopFor (λ s. (level.now.object ≡ true)
-        × IsKeyFault strict parser.old.text (due parser.old) s)) }
+// Passes what comes before the value of the item that stands here: the number of the child that it
+// is.
+fn head(walk: &mut Walk<'_>, level: &Level<'_, '_>, passed: usize) -> Result<Option<usize>, Stop>
+    ensures item { IfOk result (λ child. IsItem (here_at walk.old.text level.now) passed
+        walk.old.place walk.new.place child) }
+    ensures moved { OnOk result (walk.new ≡ record walk.old { place = walk.new.place }) }
+    ensures later { OnOk result (walk.old.place ≤ walk.new.place) }
+    ensures err { IfErr result (λ s. (level.now.kind ≡ Kind.Object)
+        × IsKeyFault strict walk.old.text walk.old.place s) }
 {
-    if level.object {
-        let (start, end) = key(alloc, parser)?;
-        Ok(level.view.of_key(parser.text(), start, end))
-    } else {
-        Ok(level.view.of_index(passed))
+    match level.kind {
+        Kind::Object => {
+            let start = walk.place();
+            let end = walk.key()?;
+            Ok(level.view.of_key(walk.text(), start, end))
+        }
+        Kind::Array => Ok(level.view.of_index(passed)),
     }
 }
 
-// Tells what the children that were not met lead to, at the bracket that stands at a place.
-fn close(found: &mut Found, marks: &Marks, object: bool, place: usize) -> Result<(), WalkError>
-    ensures spans { found.new.spans ≡ found.old.spans }
-    ensures all { OnOk result ((SomeOpen marks.now → ⊥) → found.new.lacking ≡ found.old.lacking) }
-    ensures some { OnOk result (SomeOpen marks.now → (object ≡ true) × (found.new.lacking ≡ true)) }
-    ensures err { IfErr result (IsStopFor (λ s. SomeOpen marks.now × (object ≡ false)
-        × (s ≡ record { place = place; code = GetIndexOutOfArray }))) }
+// Tells what the children that were not met lead to, behind the closing bracket.
+fn close(walk: &mut Walk<'_>, marks: &Marks, kind: Kind) -> Result<(), Stop>
+    requires { 0 < walk.old.place }
+    ensures kept { walk.new ≡ record walk.old {
+      findings =
+          record walk.old.findings { lacking = walk.new.findings.lacking };
+    } }
+    ensures all { OnOk result ((SomeOpen marks.now → ⊥)
+        → walk.new.findings.lacking ≡ walk.old.findings.lacking) }
+    ensures some { OnOk result (SomeOpen marks.now
+        → (kind ≡ Kind.Object) × (walk.new.findings.lacking ≡ true)) }
+    ensures err { IfErr result (λ s. SomeOpen marks.now × (kind ≡ Kind.Array)
+        × (s ≡ record { place = walk.old.place - 1; code = GetIndexOutOfArray })) }
 {
     if marks.is_done() {
         return Ok(());
     }
-    if object {
-        found.lacking = true;
-        return Ok(());
-    }
-    let code = ErrorCode::GetIndexOutOfArray;
-    Err(WalkError::At(Stop { place, code }))
-}
-
-// Keeps a span for the paths of these numbers.
-#[tactic(auto, using(crate::proofs::Filling::fillings))]
-fn fill(found: &mut Found, orders: &[usize], start: usize, end: usize)
-    requires { (k : ℕ) → Contains orders.now k → k < length found.old.spans.items }
-    ensures lacking { found.new.lacking ≡ found.old.lacking }
-    ensures filled { IsFilled orders.now found.old.spans.items found.new.spans.items (start, end) }
-{
-    for order in orders {
-        found.spans[*order] = Some((start, end));
+    match kind {
+        Kind::Object => {
+            walk.note_lack();
+            Ok(())
+        }
+        Kind::Array => {
+            let place = walk.place() - 1;
+            let code = ErrorCode::GetIndexOutOfArray;
+            Err(Stop { place, code })
+        }
     }
 }

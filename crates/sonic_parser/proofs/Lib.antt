@@ -1,4 +1,4 @@
-pub mod Begins
-pub mod Descending
-pub mod Parsing
-pub mod Skipping
+mod Descending
+mod Parsing
+mod Rules
+mod SkippingLemmas

@@ -1,3 +1,5 @@
+pub mod Containers
+pub mod Faults
 pub mod Parsers
 pub mod Skipping
 pub mod Views

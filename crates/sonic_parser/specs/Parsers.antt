@@ -1,11 +1,14 @@
 -- A parser, and what its calls do with the text that is left.
-use Rattle.std.specs.Prelude.{◌≡◌, ◌↔◌, ◌⊎◌, ℕ, ◌+◌, ◌<◌, Bool, List, slice_range}
+use Rattle.std.specs.Prelude.{◌≡◌, ◌≢◌, ◌↔◌, ◌⊎◌, ℕ, ◌+◌, ◌<◌, Bool, List, slice_range, IsTrue}
 use Rattle.sonic_error.specs.declared.error.Error.{Error}
 use Rattle.sonic_error.specs.declared.code.ErrorCode.TheVariants.{NoMemory}
 use Rattle.sonic_error.specs.Errors.{IsErrorAt, IsPlainError}
+use Rattle.sonic_text.specs.declared.kind.Kind.{Kind}
 use Rattle.sonic_text.specs.declared.stop.Stop.{Stop}
+use Rattle.sonic_text.specs.declared.string.StringEnd.{StringEnd}
 use Rattle.sonic_text.specs.Places.{byte, after_space}
-use Rattle.sonic_text.specs.Values.{IsValue}
+use Rattle.sonic_text.specs.Strings.{IsString, IsEscapedString}
+use Rattle.sonic_text.specs.Values.{opening, closing, IsKey, IsValue}
 use Rattle.sonic_text.specs.Faults.{IsFault}
 use Rattle.sonic_parser.specs.declared.status.ParseStatus.{ParseStatus}
 use Rattle.sonic_parser.specs.declared.status.ParseStatus.TheVariants.{HasEscaped}
@@ -27,10 +30,6 @@ moved parser place = record parser { place = place }
 abbrev pub due : Parsing → ℕ
 due parser = after_space parser.text parser.place
 
--- what stands from i to j is a string with a backslash between its quotes
-abbrev pub IsEscapedString : List ℕ → ℕ → ℕ → Type 0
-IsEscapedString t i j = (byte t i ≡ 34) × (k : ℕ) × (i < k) × (k + 1 < j) × (byte t k ≡ 92)
-
 -- the value that was due was skipped, and this is its text
 pub record IsSkipped (before now : Parsing) (bytes : List ℕ) (needs : ParseStatus) : Type 0 where
   pub value : IsValue before.lossy before.text (due before) now.place
@@ -47,10 +46,28 @@ pub record IsStopped (Fails : Stop → Type 0) (before now : Parsing) (e : Error
 
 -- there is no memory to skip the array or the object that is due, and the parser stands where it stood
 pub record IsOutOfMemory (before now : Parsing) (e : Error) : Type 0 where
-  pub container : (byte before.text (due before) ≡ 91) ⊎ (byte before.text (due before) ≡ 123)
+  pub container : (kind : Kind) × (byte before.text (due before) ≡ opening kind)
   pub error : IsPlainError e NoMemory
   pub cursor : now ≡ before
 
 -- no value was skipped, as it has a fault, or for want of memory
 abbrev pub IsUnskipped : Parsing → Parsing → Error → Type 0
 IsUnskipped before now e = IsStopped (IsFault before.lossy before.text (due before)) before now e ⊎ IsOutOfMemory before now e
+
+-- the container of this kind at the cursor has a first item, which is at the cursor now
+pub record IsEntered (kind : Kind) (before now : Parsing) : Type 0 where
+  pub due : now.place ≡ after_space before.text (before.place + 1)
+  pub item : byte before.text now.place ≢ closing kind
+
+-- the key at the cursor was passed with its colon, and the member's value is due at the cursor now
+pub record IsKeyPassed (before now : Parsing) (found : StringEnd) : Type 0 where
+  pub bytes : List ℕ
+  pub string : IsString before.lossy before.text before.place found.end bytes
+  pub key : IsKey before.lossy before.text before.place now.place bytes
+  pub escaped : IsTrue found.escaped ↔ IsEscapedString before.text before.place found.end
+
+-- the value at the cursor was skipped
+pub record IsPassed (before now : Parsing) (needs : ParseStatus) : Type 0 where
+  pub later : before.place < now.place
+  pub value : IsValue before.lossy before.text before.place now.place
+  pub status : (needs ≡ HasEscaped) ↔ IsEscapedString before.text before.place now.place

@@ -1,17 +1,24 @@
-ghost use Rattle.std.specs.Prelude.{◌≡◌, ◌≢◌, ◌⊎◌, ◌+◌, ◌-◌, ◌<◌, ◌≤◌, true, false, length, slice_range, IfSome, IfNone, IfOk, IfErr, OnSome, OnOk};
+ghost use Rattle.std.specs.Prelude.{◌≡◌, ◌≢◌, ◌⊎◌, ◌+◌, ◌-◌, ◌^◌, ◌<◌, ◌≤◌, true, false, length, slice_range, IfSome, IfNone, IfOk, IfErr, IsErrOf, OnSome, OnOk, OnErr};
 ghost use Rattle.std.specs.Option.{SomeIff};
 ghost use Rattle.std.specs.Str.{IsUtf8};
 ghost use Rattle.sonic_error.specs.Errors.{error_code, IsErrorAt};
 ghost use Rattle.sonic_text.specs.Places.{byte, IsDigit};
-ghost use Rattle.sonic_text.specs.Faults.{IsFault};
+ghost use Rattle.sonic_text.specs.declared.kind.Kind.{Kind};
+ghost use Rattle.sonic_text.specs.Faults.{IsFault, IsKeyFault};
 ghost use Rattle.sonic_text.specs.Literals.{IsLiteral, IsLiteralFault};
 ghost use Rattle.sonic_text.specs.Numbers.{IsNumber, IsNumberFault};
+ghost use Rattle.sonic_text.specs.Values.{opening, IsValue, ItemsFit};
+ghost use Rattle.sonic_parser.specs.Containers.{IsEnd, IsSeparated, IsSeparatorFault};
+ghost use Rattle.sonic_parser.specs.Faults.{IsStopFor};
 
-use crate::skip::{SkipError, Skipped, skip_value};
+use crate::begin::{Begun, Skipped, begin};
+use crate::container::{Next, first_item, key_end, next_item};
+use crate::fault::Fault;
+use crate::skip::close;
 use crate::status::ParseStatus;
-use sonic_error::{Error, ErrorCode, Result};
+use sonic_error::{Error, ErrorCode};
 use sonic_input::Read;
-use sonic_text::{Stop, literal_end, number_end, skip_space};
+use sonic_text::{Kind, Stop, StringEnd, literal_end, number_end, skip_space};
 use std::alloc::Global;
 use std::marker::Model;
 
@@ -27,6 +34,9 @@ use std::marker::Model;
 pub struct Parser<'de> {
     read: Read<'de>,
     lossy: bool,
+    // The kinds of the containers that are open while one is skipped: kept, so that each value that
+    // is skipped after the first finds the memory there.
+    opened: Option<Vec<Kind>>,
 }
 
 impl<'de> Model for Parser<'de> {
@@ -40,7 +50,7 @@ impl<'de> Model for Parser<'de> {
 }
 
 impl<'de> Parser<'de> {
-    ghost use Rattle.sonic_parser.specs.Parsers.{moved, due, IsSkipped, IsUnskipped, IsStopped, IsOutOfMemory};
+    ghost use Rattle.sonic_parser.specs.Parsers.{moved, due, IsSkipped, IsUnskipped, IsStopped, IsOutOfMemory, IsEntered, IsKeyPassed, IsPassed};
 
     /// A strict parser, which starts where the reader stands.
     pub fn new(read: Read<'de>) -> Parser<'de>
@@ -50,7 +60,11 @@ impl<'de> Parser<'de> {
         ensures is_bytes { result.is_bytes ≡ read.entry.is_bytes }
         ensures lossy { result.lossy ≡ false }
     {
-        Parser { read, lossy: false }
+        Parser {
+            read,
+            lossy: false,
+            opened: None,
+        }
     }
 
     /// The same parser, which takes surrogate escapes that don't stand in pairs.
@@ -60,6 +74,7 @@ impl<'de> Parser<'de> {
         Parser {
             read: self.read,
             lossy: true,
+            opened: self.opened,
         }
     }
 
@@ -148,7 +163,7 @@ impl<'de> Parser<'de> {
     /// At the start of `null,` the word `null` moves the cursor to the comma. At the start of `nx`
     /// it is `ErrorCode::InvalidLiteral` at 1, and of `nul` it is `ErrorCode::EofWhileParsing`.
     #[tactic(auto, using(crate::proofs::Parsing::refusals))]
-    pub fn parse_literal(&mut self, literal: &str) -> Result<()>
+    pub fn parse_literal(&mut self, literal: &str) -> Result<(), Error>
         ensures ok { OnOk result (IsLiteral literal.now self.old.text self.old.place self.new.place) }
         ensures cursor { OnOk result (self.new ≡ moved self.old self.new.place) }
         ensures err { IfErr result (λ error.
@@ -168,7 +183,7 @@ impl<'de> Parser<'de> {
     /// It is the longest number: behind the `1` of `1.2.3` it is `1.2`, with the cursor at the
     /// second dot.
     #[tactic(auto, using(crate::proofs::Parsing::refusals))]
-    pub fn skip_number(&mut self, first: u8) -> Result<&'de str>
+    pub fn skip_number(&mut self, first: u8) -> Result<&'de str, Error>
         requires behind { 0 < self.old.place }
         requires first { byte self.old.text (self.old.place - 1) ≡ first }
         requires begins { (first ≡ 45) ⊎ IsDigit first }
@@ -188,6 +203,129 @@ impl<'de> Parser<'de> {
         }
     }
 
+    /// Enters the container of this kind that begins at the cursor: whether it has an item.
+    ///
+    /// The cursor moves to the first item, or, where there is none, behind the closing bracket: of
+    /// `[ 1]` to the `1`, and of `[ ]x` to the `x`.
+    #[inline]
+    pub fn enter(&mut self, kind: Kind) -> bool
+        requires { byte self.old.text self.old.place ≡ opening kind }
+        ensures item { result ≡ true → IsEntered kind self.old self.new }
+        ensures empty { result ≡ false
+            → IsEnd self.old.text kind (self.old.place + 1) self.new.place }
+        ensures cursor { self.new ≡ moved self.old self.new.place }
+    {
+        match first_item(self.read.as_u8_slice(), self.read.index(), kind) {
+            Next::Item(first) => {
+                self.read.set_index(first);
+                true
+            }
+            Next::End(end) => {
+                self.read.set_index(end);
+                false
+            }
+        }
+    }
+
+    /// Goes on after an item of a container of this kind, whose value ended at the cursor: whether
+    /// another item follows.
+    ///
+    /// The cursor moves behind the comma and the white space after it to the next item, or behind
+    /// the closing bracket. After an error it is where it was.
+    #[inline]
+    pub fn next_item(&mut self, kind: Kind) -> Result<bool, Stop>
+        ensures item { IfOk result (λ more. more ≡ true
+            → IsSeparated self.old.text self.old.place self.new.place) }
+        ensures end { IfOk result (λ more. more ≡ false
+            → IsEnd self.old.text kind self.old.place self.new.place) }
+        ensures cursor { self.new ≡ moved self.old self.new.place }
+        ensures fits { OnOk result (self.new.place < 2 ^ 64) }
+        ensures err { IfErr result (λ s. IsSeparatorFault self.old.text kind self.old.place s) }
+        ensures kept { OnErr result (self.new ≡ self.old) }
+    {
+        match next_item(self.read.as_u8_slice(), self.read.index(), kind)? {
+            Next::Item(next) => {
+                self.read.set_index(next);
+                Ok(true)
+            }
+            Next::End(end) => {
+                self.read.set_index(end);
+                Ok(false)
+            }
+        }
+    }
+
+    /// Passes the key that begins at the cursor, its colon and the white space round that, and
+    /// gives where the key ends and whether it has a backslash.
+    ///
+    /// Of `"a" : 1` the key ends at 3, and the cursor moves to the `1`. After an error it is where
+    /// it was.
+    #[inline]
+    pub fn key(&mut self) -> Result<StringEnd, Stop>
+        ensures ok { IfOk result (λ key. IsKeyPassed self.old self.new key) }
+        ensures cursor { self.new ≡ moved self.old self.new.place }
+        ensures err { IfErr result (λ s.
+            IsKeyFault self.old.lossy self.old.text self.old.place s) }
+        ensures kept { OnErr result (self.new ≡ self.old) }
+    {
+        let key = key_end(self.read.as_u8_slice(), self.read.index(), self.lossy)?;
+        self.read.set_index(key.value);
+        Ok(key.string)
+    }
+
+    /// Skips the value that begins at the cursor, however deep it is.
+    ///
+    /// The cursor moves behind the value's last byte. After an error it is where it was. Only a
+    /// container with items takes memory, one byte for each that is open at once. What comes after
+    /// the value isn't read, and nothing is said of its UTF-8.
+    pub fn skip_value(&mut self, alloc: Global) -> Result<ParseStatus, Fault>
+        ensures ok { IfOk result (λ needs. IsPassed self.old self.new needs) }
+        ensures cursor { self.new ≡ moved self.old self.new.place }
+        ensures err { IfErr result (IsStopFor (λ s.
+            IsFault self.old.lossy self.old.text self.old.place s)) }
+        ensures memory { IsErrOf result Fault.OutOfMemory
+            → (kind : Kind) × (byte self.old.text self.old.place ≡ opening kind) }
+        ensures kept { OnErr result (self.new ≡ self.old) }
+    {
+        let text = self.read.as_u8_slice();
+        let start = self.read.index();
+        match begin(text, start, self.lossy)? {
+            Begun::Complete(Skipped { end, status }) => {
+                self.read.set_index(end);
+                Ok(status)
+            }
+            Begun::Inside(kind, first) => {
+                let end = self.close(alloc, kind, first)?;
+                self.read.set_index(end);
+                Ok(ParseStatus::None)
+            }
+        }
+    }
+
+    // The end of the container that begins at the cursor, whose first item is due at a place.
+    fn close(&mut self, alloc: Global, kind: Kind, first: usize) -> Result<usize, Fault>
+        requires within { first ≤ length self.old.text }
+        requires item { ItemsFit self.old.lossy self.old.text kind self.old.place 0 first }
+        ensures within { IfOk result (λ end. end ≤ length self.old.text) }
+        ensures ok { IfOk result (λ end. IsValue self.old.lossy self.old.text self.old.place end) }
+        ensures err { IfErr result (IsStopFor (λ s.
+            IsFault self.old.lossy self.old.text self.old.place s)) }
+        ensures kept { self.new ≡ self.old }
+    {
+        let mut opened = match self.opened.take() {
+            Some(opened) => opened,
+            None => Vec::new(alloc),
+        };
+        let (text, start) = (self.read.as_u8_slice(), self.read.index());
+        opened.clear();
+        let end = match opened.push(kind) {
+            Ok(()) => close(text, start, &mut opened, first, self.lossy),
+            Err(_) => Err(Fault::OutOfMemory),
+        };
+        self.opened = Some(opened);
+        end
+    }
+
     /// Passes the value that is due, however deep it is, and gives its text.
     ///
     /// The text begins with the value's first byte and ends with its last: of ` [1, 2] x` it is
@@ -195,18 +333,22 @@ impl<'de> Parser<'de> {
     /// What stands behind the value isn't read, and nothing is said of its UTF-8. After an error
     /// the cursor stands where the text's fault is, or, for want of memory, where it stood.
     #[tactic(auto, using(crate::proofs::Parsing::refusals))]
-    pub fn skip_one(&mut self, alloc: Global) -> Result<(&'de [u8], ParseStatus)>
+    pub fn skip_one(&mut self, alloc: Global) -> Result<(&'de [u8], ParseStatus), Error>
         ensures ok { IfOk result (λ found. IsSkipped self.old self.new found.0.now found.1) }
         ensures err { IfErr result (λ error. IsUnskipped self.old self.new error) }
         ensures memory { IfErr result (λ error.
             error_code error ≡ ErrorCode.NoMemory → IsOutOfMemory self.old self.new error) }
     {
-        let text = self.read.as_u8_slice();
-        let start = skip_space(text, self.read.index());
-        match skip_value(alloc, text, start, self.lossy) {
-            Ok(Skipped { end, status }) => Ok((self.pass(start, end), status)),
-            Err(SkipError::Memory) => Err(Error::plain(ErrorCode::NoMemory)),
-            Err(SkipError::Fault(stop)) => Err(self.stop(stop)),
+        let place = self.read.index();
+        self.skip_space_peek();
+        let start = self.read.index();
+        match self.skip_value(alloc) {
+            Ok(status) => Ok((self.read.slice(start, self.read.index()), status)),
+            Err(Fault::OutOfMemory) => {
+                self.read.set_index(place);
+                Err(Error::plain(ErrorCode::NoMemory))
+            }
+            Err(Fault::At(stop)) => Err(self.stop(stop)),
         }
     }
 }

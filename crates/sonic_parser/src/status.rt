@@ -1,3 +1,5 @@
+ghost use Rattle.std.specs.Prelude.{◌≡◌, ◌↔◌, IsTrue};
+
 /// What a skipped value needs before its text can be used.
 #[derive(Clone, Copy, Debug, PartialEq, Eq)]
 pub enum ParseStatus {
@@ -5,4 +7,29 @@ pub enum ParseStatus {
     None,
     /// It is a string with a backslash, which stands for other bytes than those between its quotes.
     HasEscaped,
+}
+
+impl ParseStatus {
+    /// Whether it is `ParseStatus::HasEscaped`.
+    #[inline]
+    pub fn has_escaped(self) -> bool
+        ensures { IsTrue result ↔ (self ≡ ParseStatus.HasEscaped) }
+    {
+        match self {
+            ParseStatus::None => false,
+            ParseStatus::HasEscaped => true,
+        }
+    }
+
+    // The status of a string, by whether it has a backslash.
+    #[inline]
+    pub(crate) fn of_string(escaped: bool) -> ParseStatus
+        ensures { (result ≡ ParseStatus.HasEscaped) ↔ IsTrue escaped }
+    {
+        if escaped {
+            ParseStatus::HasEscaped
+        } else {
+            ParseStatus::None
+        }
+    }
 }

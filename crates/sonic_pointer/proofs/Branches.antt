@@ -3,8 +3,8 @@ use Rattle.std.proofs.Common.{◌≡◌, ◌≢◌, ℕ, ◌+◌, ◌-◌, ◌<�
 use Rattle.std.proofs.lemmas.Bool.{cases_lt, cases_eq}
 use Rattle.std.proofs.lemmas.List.{get_or_push, take-append-drop, take_more, length-take-le, take_all, drop_more, nil_from_length}
 use Rattle.std.proofs.lemmas.List.Elements.{All-weaker, All-nil, All-cons}
-use Rattle.sonic_text.specs.Trees.{Node, index}
-use Rattle.sonic_pointer.specs.Paths.{Path, HasNext}
+use Rattle.sonic_text.specs.Paths.{Node, index, Path}
+use Rattle.sonic_pointer.specs.Paths.{HasNext}
 use Rattle.sonic_pointer.specs.Tries.{Spot, spot_at, front_at, label_at, last_node, labels, IsStep, IsBefore, IsSpot, IsTrie}
 use Rattle.sonic_pointer.proofs.Fronts.{HasFront, longer, same, shorter, fork, next_of_front, next_cases, orders_old, orders_none, orders_push}
 use Rattle.sonic_pointer.proofs.Growth.{Grows, IsSound, step_more, labels_more, spot_old, append_other, first_same}

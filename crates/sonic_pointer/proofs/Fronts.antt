@@ -2,9 +2,9 @@
 use Rattle.std.proofs.Common.{◌≡◌, ◌≢◌, ◌⊎◌, ℕ, suc, zero, ◌+◌, ◌<◌, List, [], ◌∷◌, ◌++◌, length, get_or, slice_get, Some, Contains, refl, sym, ap, ◌∙◌, subst, inl, inr, arith, append_assoc, append-nil}
 use Rattle.std.proofs.lemmas.List.Elements.{Contains-append_left, Contains-push, Contains-push_cases}
 use Rattle.std.proofs.lemmas.List.{get_or_push, length_push, get_or_append_left}
-use Rattle.std.proofs.lemmas.Option.{slice_get-get_or, slice_get_within, get_or_from_slice_get}
-use Rattle.sonic_text.specs.Trees.{Node}
-use Rattle.sonic_pointer.specs.Paths.{Path, HasNext, IsOrders}
+use Rattle.std.proofs.lemmas.Option.{slice_get_within, get_or_from_slice_get}
+use Rattle.sonic_text.specs.Paths.{Node, Path}
+use Rattle.sonic_pointer.specs.Paths.{HasNext, IsOrders}
 
 -- some path begins with the nodes of the front
 pub record HasFront (paths : List Path) (front : Path) : Type 0 where
@@ -35,16 +35,6 @@ fork (x ∷ g) (y ∷ f) r s n m e =
 pub next_of_front : {P : List Path} {f : Path} {m : Node} (mid : Path) → HasFront P (f ++ m ∷ mid) → HasNext P f m
 next_of_front {P} {f} {m} mid h = record { rest = mid ++ h.rest; path = subst (Contains P) (append_assoc f (m ∷ mid) h.rest) h.path }
 
--- and so is one that a node follows
-pub front_of_next : {P : List Path} {f : Path} {m : Node} → HasNext P f m → HasFront P (f ++ m ∷ [])
-front_of_next {P} {f} {m} h = record { rest = h.rest; path = subst (Contains P) (sym (append_assoc f (m ∷ []) h.rest)) h.path }
-
-pub front_more : {P : List Path} {f : Path} (p : Path) → HasFront P f → HasFront (P ++ p ∷ []) f
-front_more {P} {f} p h = record { rest = h.rest; path = Contains-append_left P (p ∷ []) (f ++ h.rest) h.path }
-
-pub next_more : {P : List Path} {f : Path} {m : Node} (p : Path) → HasNext P f m → HasNext (P ++ p ∷ []) f m
-next_more {P} {f} {m} p h = record { rest = h.rest; path = Contains-append_left P (p ∷ []) (f ++ m ∷ h.rest) h.path }
-
 -- a node that follows a front once a path is added did so before, or does so in that path
 pub next_cases : {P : List Path} {f : Path} {m : Node} (p : Path) → HasNext (P ++ p ∷ []) f m → HasNext P f m ⊎ ((r : Path) × (p ≡ f ++ m ∷ r))
 next_cases {P} {f} {m} p h =
@@ -52,9 +42,6 @@ next_cases {P} {f} {m} p h =
       | inl old ↦ inl (record { rest = h.rest; path = old })
       | inr new ↦ inr (h.rest, new)
     ]
-
-pub next_own : (P : List Path) (f r : Path) (m : Node) (p : Path) → p ≡ f ++ m ∷ r → HasNext (P ++ p ∷ []) f m
-next_own P f r m p e = record { rest = r; path = subst (Contains (P ++ p ∷ [])) e (Contains-push P p) }
 
 -- the paths with their numbers, once a path is added
 pub number_more : (P : List Path) (p f : Path) (k : ℕ) → slice_get P k ≡ Some f → slice_get (P ++ p ∷ []) k ≡ Some f
@@ -75,10 +62,6 @@ number_cases (q ∷ P) p f (suc k) e =
 
 pub path_of_number : (P : List Path) (f : Path) (k : ℕ) → slice_get P k ≡ Some f → Contains P f
 path_of_number P f k e = (k, slice_get_within P k f e, get_or_from_slice_get P k f f e)
-
--- a path of the list has a number
-pub number_of_path : (P : List Path) (f : Path) → Contains P f → (k : ℕ) × (slice_get P k ≡ Some f)
-number_of_path P f h = (h.0, slice_get-get_or P h.0 f h.1 ∙ ap Some h.2)
 
 -- the orders of a front that the new path isn't
 pub orders_old : {P : List Path} {f : Path} {o : List ℕ} (p : Path) → p ≢ f → IsOrders P f o → IsOrders (P ++ p ∷ []) f o

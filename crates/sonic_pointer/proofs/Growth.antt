@@ -3,8 +3,8 @@ use Rattle.std.proofs.Common.{◌≡◌, ◌≢◌, ◌⊎◌, ℕ, suc, ◌<◌
 use Rattle.std.proofs.lemmas.Bool.{cases_eq}
 use Rattle.std.proofs.lemmas.List.{append_cancel_left}
 use Rattle.std.proofs.lemmas.List.Elements.{All-weaker}
-use Rattle.sonic_text.specs.Trees.{Node}
-use Rattle.sonic_pointer.specs.Paths.{Path, HasNext}
+use Rattle.sonic_text.specs.Paths.{Node, Path}
+use Rattle.sonic_pointer.specs.Paths.{HasNext}
 use Rattle.sonic_pointer.specs.Tries.{Spot, spot_at, front_at, label_at, last_node, labels, IsStep, IsSpot, IsTrie}
 use Rattle.sonic_pointer.proofs.Fronts.{HasFront, next_of_front, next_cases, orders_old, orders_push}
 

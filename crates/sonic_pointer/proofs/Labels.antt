@@ -1,9 +1,9 @@
 -- The children of a place, and the nodes by which they follow it.
 use Rattle.std.proofs.Common.{◌≡◌, ◌≢◌, ℕ, ◌<◌, List, [], ◌∷◌, ◌++◌, length, get_or, sym, ap, ◌∙◌, subst, inl, inr, arith}
 use Rattle.std.proofs.lemmas.List.{length-map, get_or-map}
-use Rattle.sonic_text.specs.Trees.{Node}
+use Rattle.sonic_text.specs.Paths.{Node, Path}
 use Rattle.sonic_pointer.specs.Nodes.{is_key}
-use Rattle.sonic_pointer.specs.Paths.{Path, HasNext, IsMixed}
+use Rattle.sonic_pointer.specs.Paths.{HasNext, IsMixed}
 use Rattle.sonic_pointer.specs.Tries.{Entry, Spot, entry_at, spots_of, spot_at, front_at, label_at, labels, IsStep, IsSpot, IsTree}
 use Rattle.sonic_pointer.proofs.Fronts.{HasFront, longer, same, shorter, fork, next_of_front}
 use Rattle.sonic_pointer.proofs.Trees.{spot_at-of, length-spots_of, sound_of}

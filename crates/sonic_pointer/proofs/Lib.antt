@@ -1,9 +1,9 @@
-pub mod Branches
-pub mod Fronts
-pub mod Growth
-pub mod Inserts
-pub mod Kids
-pub mod Labels
-pub mod NodeOrder
+mod Branches
+mod Fronts
+mod Growth
+mod Inserts
+mod Kids
+mod Labels
+mod NodeOrder
 pub mod Trees
-pub mod Walks
+mod Walks

@@ -3,9 +3,9 @@ use Rattle.std.proofs.Common.{◌≡◌, ◌≢◌, ◌⊎◌, Bool, true, false
 use Rattle.std.proofs.lemmas.Bool.{cases_lt, cases_eq}
 use Rattle.std.proofs.lemmas.List.{length-map, length-set, get_or-map, get_or-set_same, get_or-set_other, get_or_append_left, get_or-append_right, get_or_past, get_or_push, take-append-drop, length-take-le, take_all, length-drop, drop_more}
 use Rattle.std.proofs.lemmas.List.Elements.{All-weaker, All-set, All-append, All-push, All-from_get_or, Contains-get_or}
-use Rattle.sonic_text.specs.Trees.{Node, index}
+use Rattle.sonic_text.specs.Paths.{Node, index, Path}
 use Rattle.sonic_pointer.specs.Nodes.{is_key}
-use Rattle.sonic_pointer.specs.Paths.{Path, HasNext, IsMixed, IsUnmixed, IsShort}
+use Rattle.sonic_pointer.specs.Paths.{HasNext, IsMixed, IsUnmixed, IsShort}
 use Rattle.sonic_pointer.specs.Tries.{Entry, Spot, entry_at, path_at, front_of, spot_of, spots_of, spot_at, front_at, labels, IsGap, IsSpot, IsInside, IsTree, IsLine, with_order, with_child}
 use Rattle.sonic_pointer.proofs.Fronts.{HasFront, next_cases}
 use Rattle.sonic_pointer.proofs.Growth.{IsSound, IsEnded, trie_ended, first_same}

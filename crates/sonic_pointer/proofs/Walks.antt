@@ -2,9 +2,9 @@
 use Rattle.std.proofs.Common.{◌≡◌, ℕ, ◌+◌, ◌<◌, List, ◌∷◌, ◌++◌, [], Some, length, get_or, slice_get, take, drop, sym, ap, ◌∙◌, subst, inl, inr, arith}
 use Rattle.std.proofs.lemmas.List.{take_more, take_all}
 use Rattle.std.proofs.lemmas.Option.{slice_get_within, get_or_from_slice_get}
-use Rattle.sonic_text.specs.Trees.{Node, index}
+use Rattle.sonic_text.specs.Paths.{Node, index, Path}
 use Rattle.sonic_pointer.specs.Nodes.{is_key}
-use Rattle.sonic_pointer.specs.Paths.{Path, HasNext, IsMixed}
+use Rattle.sonic_pointer.specs.Paths.{HasNext, IsMixed}
 use Rattle.sonic_pointer.specs.Tries.{entry_at, spot_at, front_at, IsGap}
 use Rattle.sonic_pointer.specs.Shapes.{entries_of, shape_spots, shape_labels, IsShape, HasOtherKind, IsLeaving}
 use Rattle.sonic_pointer.specs.declared.shape.Shape.{Shape}

@@ -4,7 +4,7 @@ use Rattle.std.specs.Ordering.{nat_cmp}
 use Rattle.std.specs.Cmp.Lexicographic.{slice_cmp}
 use Rattle.std.specs.declared.cmp.Ordering.{Ordering}
 use Rattle.std.specs.declared.cmp.Ordering.TheVariants.{Less, Greater}
-use Rattle.sonic_text.specs.Trees.{Node, key, index}
+use Rattle.sonic_text.specs.Paths.{Node, key, index}
 use Rattle.sonic_pointer.specs.declared.node.PointerNode.{PointerNode}
 use Rattle.sonic_pointer.specs.declared.node.PointerNode.TheVariants.{Key, Index}
 

@@ -1,6 +1,6 @@
 -- What the copy of a path stands for.
 use Rattle.std.specs.Prelude.{List, map, string_bytes}
-use Rattle.sonic_text.specs.Trees.{Node, key, index}
+use Rattle.sonic_text.specs.Paths.{Node, key, index}
 use Rattle.sonic_pointer.specs.declared.owned.OwnedNode.{OwnedNode}
 use Rattle.sonic_pointer.specs.declared.owned.OwnedNode.TheVariants.{Key, Index}
 use Rattle.sonic_pointer.specs.declared.owned.OwnedPath.TheInside.{Inside}

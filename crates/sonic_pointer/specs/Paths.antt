@@ -2,12 +2,8 @@
 use Rattle.std.specs.Prelude.{◌≡◌, ◌≢◌, ◌↔◌, ℕ, ◌≤◌, List, ◌∷◌, ◌++◌, Some, length, slice_get}
 use Rattle.std.specs.List.{Contains, AllPairs}
 use Rattle.std.specs.List.Sorted.{IsStrictlyIncreasing}
-use Rattle.sonic_text.specs.Trees.{Node}
+use Rattle.sonic_text.specs.Paths.{Node, Path}
 use Rattle.sonic_pointer.specs.Nodes.{is_key}
-
--- a path: its nodes in order
-abbrev pub Path : Type 0
-Path = List Node
 
 -- it has no more nodes than a path of a tree may have
 abbrev pub IsShort : Path → Type 0

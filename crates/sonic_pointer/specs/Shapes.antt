@@ -1,8 +1,8 @@
 -- A kept tree as its calls read it.
 use Rattle.std.specs.Prelude.{◌≡◌, ◌≢◌, ℕ, ◌-◌, ◌<◌, ◌≤◌, List, ◌∷◌, ◌++◌, length, set, take, slice_index_or}
-use Rattle.sonic_text.specs.Trees.{Node, index}
+use Rattle.sonic_text.specs.Paths.{Node, index, Path}
 use Rattle.sonic_pointer.specs.Nodes.{is_key}
-use Rattle.sonic_pointer.specs.Paths.{Path, HasNext, IsMixed}
+use Rattle.sonic_pointer.specs.Paths.{HasNext, IsMixed}
 use Rattle.sonic_pointer.specs.Tries.{Entry, Spot, spots_of, spot_at, front_at, labels, entry_at, with_child, IsGap, IsLine, IsTree}
 use Rattle.sonic_pointer.specs.declared.shape.Shape.{Shape}
 use Rattle.sonic_pointer.specs.declared.shape.Leaving.{Leaving}

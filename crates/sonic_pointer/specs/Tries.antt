@@ -2,9 +2,9 @@
 use Rattle.std.specs.Prelude.{◌≡◌, ℕ, ◌+◌, ◌-◌, ◌<◌, ◌≤◌, List, [], ◌∷◌, ◌++◌, length, map, take, slice_index_or}
 use Rattle.std.specs.List.{All, AllPairs, Contains, insert}
 use Rattle.std.specs.declared.cmp.Ordering.TheVariants.{Less}
-use Rattle.sonic_text.specs.Trees.{Node, index}
+use Rattle.sonic_text.specs.Paths.{Node, index, Path}
 use Rattle.sonic_pointer.specs.Nodes.{node_cmp}
-use Rattle.sonic_pointer.specs.Paths.{Path, HasNext, IsOrders, IsShort, IsUnmixed}
+use Rattle.sonic_pointer.specs.Paths.{HasNext, IsOrders, IsShort, IsUnmixed}
 
 -- a kept place: its front is the first nodes of a path, and its children are numbers of places
 pub record Entry : Type 0 where

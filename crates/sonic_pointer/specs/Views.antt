@@ -1,6 +1,6 @@
 -- A place of a tree, as its callers see it.
 use Rattle.std.specs.Prelude.{◌≡◌, Bool, true, false, List}
-use Rattle.sonic_text.specs.Trees.{Node}
+use Rattle.sonic_text.specs.Paths.{Node}
 use Rattle.sonic_pointer.specs.Nodes.{is_key}
 use Rattle.sonic_pointer.specs.Paths.{HasNext}
 use Rattle.sonic_pointer.specs.declared.branch.Branch.{Branch}

@@ -1,7 +1,7 @@
 -- A node that is looked for.
 use Rattle.std.specs.Prelude.{◌≡◌, ℕ, List}
 use Rattle.sonic_text.specs.Strings.{IsString, strict}
-use Rattle.sonic_text.specs.Trees.{Node, key}
+use Rattle.sonic_text.specs.Paths.{Node, key}
 use Rattle.sonic_pointer.specs.Nodes.{node_of}
 use Rattle.sonic_pointer.specs.declared.wanted.Wanted.{Wanted}
 use Rattle.sonic_pointer.specs.declared.wanted.Wanted.TheVariants as variant

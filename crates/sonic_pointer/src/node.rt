@@ -13,7 +13,7 @@ pub enum PointerNode<'p> {
 
 impl<'p> PointerNode<'p> {
     ghost use Rattle.std.specs.Prelude.{◌≡◌, true, false, IfSome, IfNone};
-    ghost use Rattle.sonic_text.specs.Trees.{key, index};
+    ghost use Rattle.sonic_text.specs.Paths.{key, index};
     ghost use Rattle.sonic_pointer.specs.Nodes.{node_of, is_key};
 
     /// The key, or `None` for an index.
@@ -54,7 +54,7 @@ impl<'p> PointerNode<'p> {
 
 impl<'p> From<usize> for PointerNode<'p> {
     ghost use Rattle.std.specs.Prelude.{◌≡◌};
-    ghost use Rattle.sonic_text.specs.Trees.{index};
+    ghost use Rattle.sonic_text.specs.Paths.{index};
     ghost use Rattle.sonic_pointer.specs.Nodes.{node_of};
 
     ghost from_gives = { λ number node. node_of node ≡ index number };
@@ -66,7 +66,7 @@ impl<'p> From<usize> for PointerNode<'p> {
 
 impl<'p> From<&usize> for PointerNode<'p> {
     ghost use Rattle.std.specs.Prelude.{◌≡◌};
-    ghost use Rattle.sonic_text.specs.Trees.{index};
+    ghost use Rattle.sonic_text.specs.Paths.{index};
     ghost use Rattle.sonic_pointer.specs.Nodes.{node_of};
 
     ghost from_gives = { λ number node. node_of node ≡ index number.now };
@@ -78,7 +78,7 @@ impl<'p> From<&usize> for PointerNode<'p> {
 
 impl<'p> From<&'p str> for PointerNode<'p> {
     ghost use Rattle.std.specs.Prelude.{◌≡◌};
-    ghost use Rattle.sonic_text.specs.Trees.{key};
+    ghost use Rattle.sonic_text.specs.Paths.{key};
     ghost use Rattle.sonic_pointer.specs.Nodes.{node_of};
 
     ghost from_gives = { λ text node. node_of node ≡ key text.now };
@@ -90,7 +90,7 @@ impl<'p> From<&'p str> for PointerNode<'p> {
 
 impl<'p> From<&'p String> for PointerNode<'p> {
     ghost use Rattle.std.specs.Prelude.{◌≡◌, string_bytes};
-    ghost use Rattle.sonic_text.specs.Trees.{key};
+    ghost use Rattle.sonic_text.specs.Paths.{key};
     ghost use Rattle.sonic_pointer.specs.Nodes.{node_of};
 
     ghost from_gives = { λ text node. node_of node ≡ key (string_bytes text.now) };
@@ -102,7 +102,7 @@ impl<'p> From<&'p String> for PointerNode<'p> {
 
 impl<'p> From<&'p FastStr> for PointerNode<'p> {
     ghost use Rattle.std.specs.Prelude.{◌≡◌};
-    ghost use Rattle.sonic_text.specs.Trees.{key};
+    ghost use Rattle.sonic_text.specs.Paths.{key};
     ghost use Rattle.sonic_pointer.specs.Nodes.{node_of};
 
     ghost from_gives = { λ text node. node_of node ≡ key text.now };

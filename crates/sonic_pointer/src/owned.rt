@@ -1,6 +1,6 @@
 // Copies of paths.
 ghost use Rattle.std.specs.Prelude.{◌≡◌, ◌<◌, IfOk, length, slice_index_or};
-ghost use Rattle.sonic_text.specs.Trees.{index};
+ghost use Rattle.sonic_text.specs.Paths.{index};
 ghost use Rattle.sonic_pointer.specs.Nodes.{node_of, path_of};
 
 use crate::node::PointerNode;
@@ -21,7 +21,7 @@ pub(crate) struct OwnedPath {
 
 impl Model for OwnedPath {
     ghost use Rattle.std.specs.Prelude.{List};
-    ghost use Rattle.sonic_text.specs.Trees.{Node};
+    ghost use Rattle.sonic_text.specs.Paths.{Node};
 
     ghost Value = { List Node };
 

@@ -1,8 +1,8 @@
 // A tree as its calls read it.
 ghost use Rattle.std.specs.Prelude.{◌≡◌, ◌<◌, ◌↔◌, IsTrue, IfOk, IfErr, Some, length, slice_get};
-ghost use Rattle.sonic_text.specs.Trees.{Node};
+ghost use Rattle.sonic_text.specs.Paths.{Node, Path};
 ghost use Rattle.sonic_pointer.specs.Nodes.{node_of, path_of};
-ghost use Rattle.sonic_pointer.specs.Paths.{Path, IsMixed};
+ghost use Rattle.sonic_pointer.specs.Paths.{IsMixed};
 ghost use Rattle.sonic_pointer.specs.Tries.{entry_at, label_at, IsStep, IsGap};
 
 use crate::fault::PathError;

@@ -34,7 +34,7 @@ pub struct PointerTree {
 
 impl Model for PointerTree {
     ghost use Rattle.std.specs.Prelude.{List};
-    ghost use Rattle.sonic_text.specs.Trees.{Node};
+    ghost use Rattle.sonic_text.specs.Paths.{Node};
 
     ghost Value = { List (List Node) };
 

@@ -1,7 +1,7 @@
 // Places of a tree.
 ghost use Rattle.std.specs.Prelude.{◌≡◌, ◌<◌, ◌∷◌, ◌++◌, ℕ, List, [], Some, IfSome, IfNone, length, slice_get};
 ghost use Rattle.sonic_text.specs.Strings.{IsString, strict};
-ghost use Rattle.sonic_text.specs.Trees.{Node, key, index};
+ghost use Rattle.sonic_text.specs.Paths.{Node, key, index};
 ghost use Rattle.sonic_pointer.specs.Nodes.{node_of};
 ghost use Rattle.sonic_pointer.specs.Paths.{HasNext, IsOrders, IsChildren};
 ghost use Rattle.sonic_pointer.specs.Views.{IsBranch};

@@ -1,7 +1,7 @@
 // A node that is looked for.
 ghost use Rattle.std.specs.Prelude.{◌≡◌, ℕ, List};
 ghost use Rattle.sonic_text.specs.Strings.{IsString, strict};
-ghost use Rattle.sonic_text.specs.Trees.{Node, key};
+ghost use Rattle.sonic_text.specs.Paths.{Node, key};
 ghost use Rattle.sonic_pointer.specs.Nodes.{node_of, node_cmp};
 
 use crate::node::PointerNode;

@@ -1,23 +1,27 @@
 pub mod Ascii
-pub mod Codepoints
+mod Codepoints
 pub mod Decimals
-pub mod EscapeFaults
-pub mod Escapes
-pub mod FirstBytes
-pub mod HexDigits
-pub mod Keys
-pub mod LiteralStrings
-pub mod Literals
+mod EscapeFaults
+mod Escapes
+mod FirstBytes
+mod HexDigits
+pub mod Insides
+pub mod Items
+mod Keys
+mod LiteralStrings
+mod Literals
+mod Meanings
 pub mod NumberParts
 pub mod Numbers
-pub mod Objects
 pub mod Outcomes
 pub mod Parts
 pub mod Places
 pub mod Stops
-pub mod StringParts
+mod StringParts
+pub mod StringTexts
 pub mod Strings
-pub mod Tables
-pub mod Unescaping
+mod Tables
+mod Unescaping
 pub mod ValueParts
 pub mod Values
+pub mod Within

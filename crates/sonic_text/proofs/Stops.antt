@@ -4,6 +4,7 @@ use Rattle.std.specs.Prelude.{Bool, List, Option, None, Some, is_some, not, nat_
 use Rattle.std.proofs.lemmas.Bool.Decides.{nat_tests}
 use Rattle.sonic_error.specs.declared.code.ErrorCode.{ErrorCode}
 use Rattle.sonic_error.specs.declared.code.ErrorCode.TheVariants.{EofWhileParsing, InvalidEscape, InvalidSurrogateUnicodeCodePoint, InvalidUnicodeCodePoint, NoMemory}
+use Rattle.sonic_text.specs.declared.kind.Kind.TheVariants.{Array, Object}
 use Rattle.sonic_text.specs.declared.stop.Stop.{Stop}
 use Rattle.sonic_text.specs.Places.{byte, bad}
 use Rattle.sonic_text.specs.Numbers.{IsIntFault, IsNumberFault}
@@ -14,7 +15,7 @@ use Rattle.sonic_text.specs.Strings.IsStringFault.{control_char, in_escape}
 use Rattle.sonic_text.specs.Faults.{IsKeyFault, IsFault}
 use Rattle.sonic_text.specs.Faults.IsKeyFault.{no_quote, key_fault, no_colon}
 use Rattle.sonic_text.specs.Faults.IsFault.{no_value, null_fault, true_fault, false_fault, number_fault, string_fault}
-use Rattle.sonic_text.specs.Faults.IsFault.{in_element, behind_element, in_key, in_member, behind_member}
+use Rattle.sonic_text.specs.Faults.IsFault.{in_key, in_value, after_item}
 
 place_by_test : (p n : ℕ) (c d : ErrorCode) (b : Bool) → nat_lt p n ≡ b
     → (let s : Stop = if b then record { place = p; code = c } else record { place = n; code = d } in s.place ≤ n)
@@ -55,11 +56,9 @@ fault_within {t = t} {s = s} (true_fault b f) = stop_within t _ _ s f.stop
 fault_within {t = t} {s = s} (false_fault b f) = stop_within t _ _ s f.stop
 fault_within (number_fault b f) = number_fault_within f
 fault_within (string_fault b f) = string_fault_within f
-fault_within (in_element es f) = fault_within f
-fault_within {t = t} {s = s} (behind_element es x n e) = stop_within t _ _ s e
-fault_within (in_key ms f) = key_fault_within f
-fault_within (in_member ms y f) = fault_within f
-fault_within {t = t} {s = s} (behind_member ms y x n e) = stop_within t _ _ s e
+fault_within (in_key is f) = key_fault_within f
+fault_within (in_value is y f) = fault_within f
+fault_within {t = t} {s = s} (after_item is y x n e) = stop_within t _ _ s e
 
 -- whichever of two codes it is, it isn't this
 if_not : (b : Bool) (x y : Option ErrorCode) → x ≢ Some NoMemory → y ≢ Some NoMemory → (if b then x else y) ≢ Some NoMemory
@@ -140,8 +139,7 @@ fault_not (true_fault b f) = literal_fault_not f
 fault_not (false_fault b f) = literal_fault_not f
 fault_not (number_fault b f) = number_fault_not f
 fault_not (string_fault b f) = string_fault_not f
-fault_not (in_element es f) = fault_not f
-fault_not {t = t} {s = s} (behind_element es x n e) = stop_not t _ _ s e (λ h. cc)
-fault_not (in_key ms f) = key_fault_not f
-fault_not (in_member ms y f) = fault_not f
-fault_not {t = t} {s = s} (behind_member ms y x n e) = stop_not t _ _ s e (λ h. cc)
+fault_not (in_key is f) = key_fault_not f
+fault_not (in_value is y f) = fault_not f
+fault_not {t = t} {s = s} (after_item {kind = Array} is y x n e) = stop_not t _ _ s e (λ h. cc)
+fault_not {t = t} {s = s} (after_item {kind = Object} is y x n e) = stop_not t _ _ s e (λ h. cc)

@@ -1,15 +1,18 @@
 -- A value that stands in a text stands in each part of it that holds it, and so does a string with a backslash.
 use Rattle.std.proofs.Common.{◌≡◌, ◌∙◌, ◌↔◌, ℕ, ◌+◌, ◌-◌, ◌<◌, ◌≤◌, Bool, List, length, arith, refl, sym, codes}
-use Rattle.std.specs.Prelude.{slice_range}
+use Rattle.std.specs.Prelude.{slice_range, Option}
+use Rattle.sonic_text.specs.declared.kind.Kind.{Kind}
 use Rattle.sonic_text.specs.Places.{byte, after_space}
 use Rattle.sonic_text.specs.Literals.{IsLiteral}
-use Rattle.sonic_text.specs.Values.{IsValue, IsKey, ElementsFit, MembersFit}
-use Rattle.sonic_text.specs.Values.IsValue.{null_literal, true_literal, false_literal, number, string, empty_array, array, empty_object, object}
-use Rattle.sonic_text.specs.Values.ElementsFit.{first_element, next_element}
-use Rattle.sonic_text.specs.Values.MembersFit.{first_member, next_member}
+use Rattle.sonic_text.specs.Strings.{IsEscapedString}
+use Rattle.sonic_text.specs.Values.{IsKey, closing, ItemHead, IsValue, ItemsFit}
+use Rattle.sonic_text.specs.Values.ItemHead.{no_head, key_head}
+use Rattle.sonic_text.specs.Values.IsValue.{null_literal, true_literal, false_literal, number, string, empty, filled}
+use Rattle.sonic_text.specs.Values.ItemsFit.{first_item, next_item}
+use Rattle.sonic_text.proofs.Items.{closing_not_end}
 use Rattle.sonic_text.proofs.Places.{after_space_later}
 use Rattle.sonic_text.proofs.Strings.{string_longer}
-use Rattle.sonic_text.proofs.Values.{key-longer, value-longer, elements-later, members-later}
+use Rattle.sonic_text.proofs.Values.{head-later, value-longer, items-later}
 use Rattle.sonic_text.proofs.Parts.{IsPart, byte_part, other_part, space_part, part_is, part_length}
 use Rattle.sonic_text.proofs.NumberParts.{number_part}
 use Rattle.sonic_text.proofs.StringParts.{string_part}
@@ -48,6 +51,12 @@ module _ {t u : List ℕ} {d : ℕ} (part : IsPart t u d) where
         due = due_part (after_space t h.end) (after_space u z) j y g.0 f l q;
       }
 
+  -- what stands before an item's value
+  pub head_part : {m : Bool} {kind : Kind} {i j : ℕ} {l : Option (List ℕ)} (x y : ℕ) → i ≡ d + x → j ≡ d + y → y ≤ length u → ItemHead m t kind i j l
+      → ItemHead m u kind x y l
+  head_part x y e f l (no_head h) = no_head (omega arith)
+  head_part x y e f l (key_head h) = key_head (key_part x y e f l h)
+
   mutual
     -- a value
     pub value_part : {m : Bool} {i j : ℕ} (x y : ℕ) → i ≡ d + x → j ≡ d + y → y ≤ length u → IsValue m t i j → IsValue m u x y
@@ -56,60 +65,36 @@ module _ {t u : List ℕ} {d : ℕ} (part : IsPart t u d) where
     value_part {i = i} {j} x y e f l (false_literal h) = false_literal (literal_part (codes "false") i j x y e f l h)
     value_part x y e f l (number h) = number (number_part part x y e f l h)
     value_part x y e f l (string h) = string (string_part part x y e f l h)
-    value_part {i = i} {j} x y e f l (empty_array b c q) =
+    value_part {i = i} {j} x y e f l (empty kind b c q) =
         let a = after_space_later t (i + 1) in
-        let g = behind_part 93 (i + 1) (x + 1) j (omega arith) (omega arith) (omega arith) c in
-        empty_array (byte_part part i x e (omega arith) ∙ b) g.1 (omega arith)
-    value_part {i = i} {j} x y e f l (array {v = v} {e = w} es h c q) =
-        let n = elements-later es in
+        let g = behind_part (closing kind) (i + 1) (x + 1) j (omega arith) (omega arith) (omega arith) c in
+        empty kind (byte_part part i x e (omega arith) ∙ b) g.1 (omega arith)
+    value_part {i = i} {j} x y e f l (filled {kind} {h = k} {v = v} {e = w} is z h c q) =
+        let n = items-later is in
+        let r = head-later z in
         let o = value-longer h in
         let a = after_space_later t w in
-        let g = behind_part 93 w (w - d) j (omega arith) (omega arith) (omega arith) c in
-        array (elements_part x (v - d) e (omega arith) (omega arith) es) (value_part (v - d) (w - d) (omega arith) (omega arith) (omega arith) h) g.1 (omega arith)
-    value_part {i = i} {j} x y e f l (empty_object b c q) =
-        let a = after_space_later t (i + 1) in
-        let g = behind_part 125 (i + 1) (x + 1) j (omega arith) (omega arith) (omega arith) c in
-        empty_object (byte_part part i x e (omega arith) ∙ b) g.1 (omega arith)
-    value_part {i = i} {j} x y e f l (object {k = k} {v = v} {e = w} ms z h c q) =
-        let n = members-later ms in
-        let r = key-longer z in
-        let o = value-longer h in
-        let a = after_space_later t w in
-        let g = behind_part 125 w (w - d) j (omega arith) (omega arith) (omega arith) c in
-        let b = key_part (k - d) (v - d) (omega arith) (omega arith) (omega arith) z in
+        let g = behind_part (closing kind) w (w - d) j (omega arith) (omega arith) (omega arith) c in
+        let b = head_part (k - d) (v - d) (omega arith) (omega arith) (omega arith) z in
         let s = value_part (v - d) (w - d) (omega arith) (omega arith) (omega arith) h in
-        object (members_part x (k - d) e (omega arith) (omega arith) ms) b s g.1 (omega arith)
+        filled (items_part x (k - d) e (omega arith) (omega arith) is) b s g.1 (omega arith)
 
-    -- elements
-    pub elements_part : {m : Bool} {i n j : ℕ} (x y : ℕ) → i ≡ d + x → j ≡ d + y → y ≤ length u → ElementsFit m t i n j → ElementsFit m u x n y
-    elements_part {i = i} {j = j} x y e f l (first_element b q o s) =
+    -- items
+    pub items_part : {m : Bool} {kind : Kind} {i n j : ℕ} (x y : ℕ) → i ≡ d + x → j ≡ d + y → y ≤ length u → ItemsFit m t kind i n j → ItemsFit m u kind x n y
+    items_part {kind = kind} {i = i} {j = j} x y e f l (first_item b q o s) =
         let a = after_space_later t (i + 1) in
-        first_element (byte_part part i x e (omega arith) ∙ b) (due_part i x j y e f l q) (other_part part 93 j y (λ z. omega arith) f o) s
-    elements_part {i = i} {j = j} x y e f l (next_element {u = v} {e = w} es h c q s) =
-        let n = elements-later es in
+        first_item (byte_part part i x e (omega arith) ∙ b) (due_part i x j y e f l q)
+        (other_part part (closing kind) j y (λ z. closing_not_end kind (omega arith)) f o) s
+    items_part {i = i} {j = j} x y e f l (next_item {u = k} {v = v} {e = w} is z h c q s) =
+        let n = items-later is in
+        let p = head-later z in
         let o = value-longer h in
         let a = after_space_later t w in
         let r = after_space_later t (after_space t w + 1) in
         let g = behind_part 44 w (w - d) j (omega arith) (omega arith) (omega arith) c in
-        let b = value_part (v - d) (w - d) (omega arith) (omega arith) (omega arith) h in
-        let z = due_part (after_space t w) (after_space u (w - d)) j y g.0 f l q in
-        next_element (elements_part x (v - d) e (omega arith) (omega arith) es) b g.1 z s
-
-    -- members
-    pub members_part : {m : Bool} {i n j : ℕ} (x y : ℕ) → i ≡ d + x → j ≡ d + y → y ≤ length u → MembersFit m t i n j → MembersFit m u x n y
-    members_part {i = i} {j = j} x y e f l (first_member b q o s) =
-        let a = after_space_later t (i + 1) in
-        first_member (byte_part part i x e (omega arith) ∙ b) (due_part i x j y e f l q) (other_part part 125 j y (λ z. omega arith) f o) s
-    members_part {i = i} {j = j} x y e f l (next_member {h = k} {v = v} {e = w} ms z h c q s) =
-        let n = members-later ms in
-        let p = key-longer z in
-        let o = value-longer h in
-        let a = after_space_later t w in
-        let r = after_space_later t (after_space t w + 1) in
-        let g = behind_part 44 w (w - d) j (omega arith) (omega arith) (omega arith) c in
-        let b = key_part (k - d) (v - d) (omega arith) (omega arith) (omega arith) z in
+        let b = head_part (k - d) (v - d) (omega arith) (omega arith) (omega arith) z in
         let c = value_part (v - d) (w - d) (omega arith) (omega arith) (omega arith) h in
-        next_member (members_part x (k - d) e (omega arith) (omega arith) ms) b c g.1 (due_part (after_space t w) (after_space u (w - d)) j y g.0 f l q) s
+        next_item (items_part x (k - d) e (omega arith) (omega arith) is) b c g.1 (due_part (after_space t w) (after_space u (w - d)) j y g.0 f l q) s
 
 -- a value stands in its own text, from the beginning to the end
 pub value_of_part : {m : Bool} {t : List ℕ} {i j : ℕ} → IsValue m t i j → j ≤ length t → IsValue m (slice_range t i j) 0 (length (slice_range t i j))
@@ -120,8 +105,7 @@ value_of_part {t = t} {i} {j} h l =
 
 -- a string with a backslash is one in its own text, and back
 pub escaped_of_part : (t : List ℕ) (i j : ℕ) → i < j → j ≤ length t
-    → ((byte t i ≡ 34) × (k : ℕ) × (i < k) × (k + 1 < j) × (byte t k ≡ 92))
-    ↔ ((byte (slice_range t i j) 0 ≡ 34) × (k : ℕ) × (0 < k) × (k + 1 < length (slice_range t i j)) × (byte (slice_range t i j) k ≡ 92))
+    → IsEscapedString t i j ↔ IsEscapedString (slice_range t i j) 0 (length (slice_range t i j))
 escaped_of_part t i j l m =
     let u = slice_range t i j in
     let e : i + length u ≡ j = part_length t i j (omega arith) m in

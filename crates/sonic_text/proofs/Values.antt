@@ -1,29 +1,27 @@
--- Values, elements and members lead on, and a value that is due has at most one outcome.
+-- Values and items lead on, and a value that is due has at most one outcome.
 use Rattle.std.proofs.Common.{◌≡◌, ◌≢◌, ℕ, zero, suc, ◌+◌, ◌<◌, inl, inr, sym, ◌∙◌, length, arith, refl, add-zero, codes}
 use Rattle.std.proofs.Common.{Result, Ok, Err, MatchResult}
 use Rattle.std.proofs.lemmas.Bool.{cases_order}
-use Rattle.std.specs.Prelude.{Bool, List}
-use Rattle.sonic_error.specs.declared.code.ErrorCode.TheVariants.{ExpectedArrayCommaOrEnd, InvalidJsonValue}
+use Rattle.std.specs.Prelude.{Bool, List, Option}
+use Rattle.sonic_error.specs.declared.code.ErrorCode.TheVariants.{InvalidJsonValue}
+use Rattle.sonic_text.specs.declared.kind.Kind.{Kind}
 use Rattle.sonic_text.specs.declared.stop.Stop.{Stop}
 use Rattle.sonic_text.specs.Places.{byte, after_space, bad}
 use Rattle.sonic_text.specs.Literals.{IsLiteral, IsLiteralFault}
 use Rattle.sonic_text.specs.Numbers.{IsNumber, IsNumberFault}
 use Rattle.sonic_text.specs.Strings.{IsString, IsStringFault}
-use Rattle.sonic_text.specs.Values.{IsValue, IsKey, ElementsFit, MembersFit}
-use Rattle.sonic_text.specs.Values.IsValue.{null_literal, true_literal, false_literal, number, string, empty_array, array, empty_object, object}
-use Rattle.sonic_text.specs.Values.ElementsFit.{first_element, next_element}
-use Rattle.sonic_text.specs.Values.MembersFit.{first_member, next_member}
+use Rattle.sonic_text.specs.Values.{opening, closing, ItemHead, IsValue, ItemsFit}
+use Rattle.sonic_text.specs.Values.IsValue.{null_literal, true_literal, false_literal, number, string, empty, filled}
+use Rattle.sonic_text.specs.Values.ItemsFit.{first_item, next_item}
 use Rattle.sonic_text.specs.Faults.{IsFault}
-use Rattle.sonic_text.specs.Faults.IsFault.{no_value, null_fault, true_fault, false_fault, number_fault, string_fault}
-use Rattle.sonic_text.specs.Faults.IsFault.{in_element, behind_element, in_key, in_member, behind_member}
-use Rattle.sonic_text.proofs.FirstBytes.{Kind, none, a_null, a_true, a_false, a_number, a_string, an_array, an_object, Begins, begins_one}
-use Rattle.sonic_text.proofs.Objects.{Outcome, OneAt, OneBehind, Last, last_one, last_no_comma, LastMember, last_member_one, last_member_no_comma}
-use Rattle.sonic_text.proofs.Objects.LastMember.{at_key, behind_key}
+use Rattle.sonic_text.specs.Faults.IsFault.{no_value, null_fault, true_fault, false_fault, number_fault, string_fault, in_key, in_value, after_item}
+use Rattle.sonic_text.proofs.FirstBytes.{Sort, none, a_null, a_true, a_false, a_number, a_string, a_container, Begins, begins_one}
+use Rattle.sonic_text.proofs.Items.{Outcome, OneAt, OneBehind, LastItem, at_key, at_value, last_one, last_no_comma, opening_not_end, opening_one}
 use Rattle.sonic_text.proofs.Places.{after_space_later, byte_within}
 use Rattle.sonic_text.proofs.Literals.{literal_never_both, literal_fault_one}
 use Rattle.sonic_text.proofs.Numbers.{number_longer, number_begins, number_one, number_never_both, number_fault_one}
 use Rattle.sonic_text.proofs.Strings.{string_longer, string_one, string_never_both, string_fault_one}
-pub use Rattle.sonic_text.proofs.Objects.{key-longer, key_one}
+pub use Rattle.sonic_text.proofs.Items.{key-longer, key_one, head-later, head_one}
 
 mutual
   -- a value ends behind the place where it begins
@@ -33,225 +31,139 @@ mutual
   value-longer (false_literal h) = omega arith
   value-longer (number h) = number_longer h
   value-longer (string h) = string_longer h
-  value-longer {t = t} {i = i} (empty_array b c q) = omega (arith, after_space_later t (i + 1))
-  value-longer {t = t} (array {e = e} es x c q) = omega (arith, elements-later es, value-longer x, after_space_later t e)
-  value-longer {t = t} {i = i} (empty_object b c q) = omega (arith, after_space_later t (i + 1))
-  value-longer {t = t} (object {e = e} ms y x c q) =
-      omega (arith, members-later ms, key-longer y, value-longer x, after_space_later t e)
+  value-longer {t = t} {i = i} (empty kind b c q) = omega (arith, after_space_later t (i + 1))
+  value-longer {t = t} (filled {e = e} is y x c q) = omega (arith, items-later is, head-later y, value-longer x, after_space_later t e)
 
-  -- the elements of an array lead on
-  pub elements-later : {m : Bool} {t : List ℕ} {i n v : ℕ} → ElementsFit m t i n v → i < v
-  elements-later {t = t} {i = i} (first_element b q d e) = omega (arith, after_space_later t (i + 1))
-  elements-later {t = t} (next_element {e = e} es x c q p) =
-      omega (arith, elements-later es, value-longer x, after_space_later t e, after_space_later t (after_space t e + 1))
+  -- the items of a container lead on
+  pub items-later : {m : Bool} {t : List ℕ} {kind : Kind} {i n h : ℕ} → ItemsFit m t kind i n h → i < h
+  items-later {t = t} {i = i} (first_item b q d e) = omega (arith, after_space_later t (i + 1))
+  items-later {t = t} (next_item {e = e} is y x c q p) =
+      omega (arith, items-later is, head-later y, value-longer x, after_space_later t e, after_space_later t (after_space t e + 1))
 
-  -- the members of an object lead on
-  pub members-later : {m : Bool} {t : List ℕ} {i n k : ℕ} → MembersFit m t i n k → i < k
-  members-later {t = t} {i = i} (first_member b q d e) = omega (arith, after_space_later t (i + 1))
-  members-later {t = t} (next_member {e = e} ms y x c q p) =
-      omega (arith, members-later ms, key-longer y, value-longer x, after_space_later t e, after_space_later t (after_space t e + 1))
+-- a container begins with its bracket
+pub items_open : {m : Bool} {t : List ℕ} {kind : Kind} {i n h : ℕ} → ItemsFit m t kind i n h → byte t i ≡ opening kind
+items_open (first_item b q d e) = b
+items_open (next_item is y x c q p) = items_open is
 
--- an array begins with a bracket
-pub elements_open : {m : Bool} {t : List ℕ} {i n v : ℕ} → ElementsFit m t i n v → byte t i ≡ 91
-elements_open (first_element b q d e) = b
-elements_open (next_element es x c q p) = elements_open es
+-- so containers at one place are of one kind
+pub items_kind : {m : Bool} {t : List ℕ} {a b : Kind} {i n p h g : ℕ} → ItemsFit m t a i n h → ItemsFit m t b i p g → a ≡ b
+items_kind {a = a} {b} is fs = opening_one a b (let e = items_open is in let f = items_open fs in omega arith)
 
--- an object begins with a brace
-pub members_open : {m : Bool} {t : List ℕ} {i n k : ℕ} → MembersFit m t i n k → byte t i ≡ 123
-members_open (first_member b q d e) = b
-members_open (next_member ms y x c q p) = members_open ms
+-- no closing bracket stands where the first item is due
+pub items_not_empty : {m : Bool} {t : List ℕ} {kind : Kind} {i n h : ℕ} → ItemsFit m t kind i n h → byte t (after_space t (i + 1)) ≢ closing kind
+items_not_empty (first_item b q d e) = rw q at d
+items_not_empty (next_item is y x c q p) = items_not_empty is
 
--- no bracket stands where the first element is due
-pub elements_not_empty : {m : Bool} {t : List ℕ} {i n v : ℕ} → ElementsFit m t i n v → byte t (after_space t (i + 1)) ≢ 93
-elements_not_empty (first_element b q d e) = rw q at d
-elements_not_empty (next_element es x c q p) = elements_not_empty es
-
--- no brace stands where the first key is due
-pub members_not_empty : {m : Bool} {t : List ℕ} {i n k : ℕ} → MembersFit m t i n k → byte t (after_space t (i + 1)) ≢ 125
-members_not_empty (first_member b q d e) = rw q at d
-members_not_empty (next_member ms y x c q p) = members_not_empty ms
-
--- in the array at i the element behind the first n stands from u to e, and a comma follows
-pub record IsElement (m : Bool) (t : List ℕ) (i n : ℕ) : Type 0 where
-  pub u : ℕ
-  pub e : ℕ
-  pub before : ElementsFit m t i n u
-  pub value : IsValue m t u e
-  pub comma : byte t (after_space t e) ≡ 44
-
--- in the object at i the key of the member behind the first n stands at h, its value from v to e, and a comma follows
-pub record IsMember (m : Bool) (t : List ℕ) (i n : ℕ) : Type 0 where
+-- in the container at i the item behind the first n is due at h, its value stands from v to e, and a comma follows
+pub record IsItem (m : Bool) (t : List ℕ) (kind : Kind) (i n : ℕ) : Type 0 where
   pub h : ℕ
   pub v : ℕ
   pub e : ℕ
-  pub bytes : List ℕ
-  pub before : MembersFit m t i n h
-  pub key : IsKey m t h v bytes
+  pub key : Option (List ℕ)
+  pub before : ItemsFit m t kind i n h
+  pub head : ItemHead m t kind h v key
   pub value : IsValue m t v e
   pub comma : byte t (after_space t e) ≡ 44
 
--- where n elements fit, so does each of them
-pub elements_before : {m : Bool} {t : List ℕ} {i p n v : ℕ} → ElementsFit m t i n v → p < n → IsElement m t i p
-elements_before (first_element b q d e) l = absurd (omega arith)
-elements_before {m} {t} {i} {p} (next_element {p = k} {u} {e} es x c q o) l = elim (cases_order p k) [
-  | inl z ↦ let fs : ElementsFit m t i p u = rw z es in record { u = u; e = e; before = fs; value = x; comma = c }
-  | inr (inl z) ↦ elements_before es z
+-- where n items fit, so does each of them
+pub items_before : {m : Bool} {t : List ℕ} {kind : Kind} {i p n h : ℕ} → ItemsFit m t kind i n h → p < n → IsItem m t kind i p
+items_before (first_item b q d e) l = absurd (omega arith)
+items_before {m} {t} {kind} {i} {p} (next_item {p = k} {u} {v} {e} {l = b} is y x c q o) l = elim (cases_order p k) [
+  | inl z ↦ let fs : ItemsFit m t kind i p u = rw z is in record { h = u; v = v; e = e; key = b; before = fs; head = y; value = x; comma = c }
+  | inr (inl z) ↦ items_before is z
   | inr (inr z) ↦ absurd (omega arith)
 ]
 
--- where n members fit, so does each of them
-pub members_before : {m : Bool} {t : List ℕ} {i p n k : ℕ} → MembersFit m t i n k → p < n → IsMember m t i p
-members_before (first_member b q d e) l = absurd (omega arith)
-members_before {m} {t} {i} {p} (next_member {p = k} {h} {v} {e} {b = b} ms y x c q o) l = elim (cases_order p k) [
-  | inl z ↦ let ns : MembersFit m t i p h = rw z ms in record { h = h; v = v; e = e; bytes = b; before = ns; key = y; value = x; comma = c }
-  | inr (inl z) ↦ members_before ms z
-  | inr (inr z) ↦ absurd (omega arith)
-]
-
--- n elements lead to one place, if the values behind i have one outcome
-elements_same : {m : Bool} {t : List ℕ} {i n p v w : ℕ} → OneBehind m t i → n ≡ p → ElementsFit m t i n v → ElementsFit m t i p w → v ≡ w
-elements_same one e (first_element b q d o) (first_element c p f g) = cc
-elements_same one e (first_element b q d o) (next_element es x c p f) = absurd (omega arith)
-elements_same one e (next_element es x c p f) (first_element b q d o) = absurd (omega arith)
-elements_same {m} {t} one e (next_element {u} {e = a} es x c q o) (next_element {u = w} {e = b} fs y d p g) =
-    let same : u ≡ w = elements_same one (omega arith) es fs in
-    let z : IsValue m t u b = rw same y in
-    let ends : ◌≡◌ {A = Result ℕ Stop} (Ok a) (Ok b) = one u (elements-later es) (Ok a) (Ok b) x z in
+-- n items lead to one place, if the values behind i have one outcome
+items_same : {m : Bool} {t : List ℕ} {kind : Kind} {i n p h g : ℕ} → OneBehind m t i → n ≡ p → ItemsFit m t kind i n h → ItemsFit m t kind i p g → h ≡ g
+items_same one e (first_item b q d o) (first_item c p f g) = cc
+items_same one e (first_item b q d o) (next_item is y x c p f) = absurd (omega arith)
+items_same one e (next_item is y x c p f) (first_item b q d o) = absurd (omega arith)
+items_same {m} {t} {kind} {i} one e (next_item {u} {v} {e = a} is y x c q o) (next_item {u = w} {v = z} {e = b} {l = j} fs k r d p g) =
+    let same : u ≡ w = items_same one (omega arith) is fs in
+    let head : ItemHead m t kind u z j = rw same k in
+    let due : v ≡ z = (head_one y head).0 in
+    let s : IsValue m t v b = rw due r in
+    let l : i < v = omega (arith, items-later is, head-later y) in
+    let ends : ◌≡◌ {A = Result ℕ Stop} (Ok a) (Ok b) = one v l (Ok a) (Ok b) x s in
     let f : a ≡ b = cc in
     rw (q, p, f)
 
--- n members lead to one place, if the values behind i have one outcome
-members_same : {m : Bool} {t : List ℕ} {i n p k l : ℕ} → OneBehind m t i → n ≡ p → MembersFit m t i n k → MembersFit m t i p l → k ≡ l
-members_same one e (first_member b q d o) (first_member c p f g) = cc
-members_same one e (first_member b q d o) (next_member ms y x c p f) = absurd (omega arith)
-members_same one e (next_member ms y x c p f) (first_member b q d o) = absurd (omega arith)
-members_same {m} {t} one e (next_member {h} {v} {e = a} ms y x c q o) (next_member {h = g} {v = w} {e = b} {b = bytes} ns z r d p f) =
-    let same : h ≡ g = members_same one (omega arith) ms ns in
-    let key : IsKey m t h w bytes = rw same z in
-    let due : v ≡ w = (key_one y key).0 in
-    let s : IsValue m t v b = rw due r in
-    let l : h < v = key-longer y in
-    let ends : ◌≡◌ {A = Result ℕ Stop} (Ok a) (Ok b) = one v (omega (arith, members-later ms)) (Ok a) (Ok b) x s in
-    let u : a ≡ b = cc in
-    rw (q, p, u)
+-- the container of this kind at i has this outcome
+pub data ContainerOutcome (m : Bool) (t : List ℕ) (kind : Kind) (i : ℕ) (r : Result ℕ Stop) : Type 0 where
+  no_item : byte t (after_space t (i + 1)) ≡ closing kind → r ≡ Ok (after_space t (i + 1) + 1) → ContainerOutcome m t kind i r
+  at_last : {n h : ℕ} → ItemsFit m t kind i n h → LastItem m t kind h r → ContainerOutcome m t kind i r
 
--- the array at i has this outcome
-data ArrayOutcome (m : Bool) (t : List ℕ) (i : ℕ) (r : Result ℕ Stop) : Type 0 where
-  no_element : byte t (after_space t (i + 1)) ≡ 93 → r ≡ Ok (after_space t (i + 1) + 1) → ArrayOutcome m t i r
-  at_last : {n v : ℕ} → ElementsFit m t i n v → Last m t 93 ExpectedArrayCommaOrEnd v r → ArrayOutcome m t i r
+-- where more items fit, none of them is the last
+last_too_early : {m : Bool} {t : List ℕ} {kind : Kind} {i n p h g : ℕ} {r : Result ℕ Stop} → OneBehind m t i → n < p → ItemsFit m t kind i n h
+    → LastItem m t kind h r → ItemsFit m t kind i p g → ⊥
+last_too_early {m} {t} {kind} {h = h} one l is a fs =
+    let b = items_before fs l in
+    let e : b.h ≡ h = items_same one refl b.before is in
+    let y : ItemHead m t kind h b.v b.key = rw e at b.head in
+    last_no_comma one (items-later is) a y b.value b.comma
 
--- where more elements fit, none of them is the last
-last_too_early : {m : Bool} {t : List ℕ} {i n p v w : ℕ} {r : Result ℕ Stop} → OneBehind m t i → n < p → ElementsFit m t i n v
-    → Last m t 93 ExpectedArrayCommaOrEnd v r → ElementsFit m t i p w → ⊥
-last_too_early {m} {t} {v = v} one l es a fs =
-    let b = elements_before fs l in
-    let e : b.u ≡ v = elements_same one refl b.before es in
-    let x : IsValue m t v b.e = rw e at b.value in
-    last_no_comma (omega arith) (one v (elements-later es)) a x b.comma
-
--- an array has one outcome, if the values behind its beginning have one
-array_one : {m : Bool} {t : List ℕ} {i : ℕ} {r q : Result ℕ Stop} → OneBehind m t i → ArrayOutcome m t i r → ArrayOutcome m t i q → r ≡ q
-array_one one (no_element b e) (no_element c f) = cc
-array_one one (no_element b e) (at_last fs z) = absurd (elements_not_empty fs b)
-array_one one (at_last es a) (no_element c f) = absurd (elements_not_empty es c)
-array_one {m} {t} {q = q} one (at_last {n} {v} es a) (at_last {n = p} {v = w} fs b) = elim (cases_order n p) [
+-- a container has one outcome, if the values behind its beginning have one
+container_one : {m : Bool} {t : List ℕ} {kind : Kind} {i : ℕ} {r q : Result ℕ Stop} → OneBehind m t i → ContainerOutcome m t kind i r
+    → ContainerOutcome m t kind i q → r ≡ q
+container_one one (no_item b e) (no_item c f) = cc
+container_one one (no_item b e) (at_last fs z) = absurd (items_not_empty fs b)
+container_one one (at_last is a) (no_item c f) = absurd (items_not_empty is c)
+container_one {m} {t} {kind} {q = q} one (at_last {n} {h} is a) (at_last {n = p} {h = g} fs b) = elim (cases_order n p) [
   | inl e ↦
-      let o : w ≡ v = elements_same one (sym e) fs es in
-      let c : Last m t 93 ExpectedArrayCommaOrEnd v q = rw o at b in
-      last_one (one v (elements-later es)) a c
-  | inr (inl l) ↦ absurd (last_too_early one l es a fs)
-  | inr (inr l) ↦ absurd (last_too_early one l fs b es)
-]
-
--- the object at i has this outcome
-data ObjectOutcome (m : Bool) (t : List ℕ) (i : ℕ) (r : Result ℕ Stop) : Type 0 where
-  no_member : byte t (after_space t (i + 1)) ≡ 125 → r ≡ Ok (after_space t (i + 1) + 1) → ObjectOutcome m t i r
-  at_member : {n k : ℕ} → MembersFit m t i n k → LastMember m t k r → ObjectOutcome m t i r
-
--- where values behind i have one outcome, so have those behind each key
-one_behind_key : {m : Bool} {t : List ℕ} {i n k : ℕ} → OneBehind m t i → MembersFit m t i n k → OneBehind m t k
-one_behind_key {i = i} {k = k} one ms = let l : i < k = members-later ms in λ v h. one v (omega arith)
-
--- where more members fit, none of them is the last
-last_member_too_early : {m : Bool} {t : List ℕ} {i n p k l : ℕ} {r : Result ℕ Stop} → OneBehind m t i → n < p → MembersFit m t i n k
-    → LastMember m t k r → MembersFit m t i p l → ⊥
-last_member_too_early {m} {t} {k = k} one l ms a ns =
-    let b = members_before ns l in
-    let e : b.h ≡ k = members_same one refl b.before ms in
-    let y : IsKey m t k b.v b.bytes = rw e at b.key in
-    last_member_no_comma (one_behind_key one ms) a y b.value b.comma
-
--- an object has one outcome, if the values behind its beginning have one
-object_one : {m : Bool} {t : List ℕ} {i : ℕ} {r q : Result ℕ Stop} → OneBehind m t i → ObjectOutcome m t i r → ObjectOutcome m t i q → r ≡ q
-object_one one (no_member b e) (no_member c f) = cc
-object_one one (no_member b e) (at_member ns z) = absurd (members_not_empty ns b)
-object_one one (at_member ms a) (no_member c f) = absurd (members_not_empty ms c)
-object_one {m} {t} {q = q} one (at_member {n} {k} ms a) (at_member {n = p} {k = l} ns b) = elim (cases_order n p) [
-  | inl e ↦
-      let o : l ≡ k = members_same one (sym e) ns ms in
-      let c : LastMember m t k q = rw o at b in
-      last_member_one (one_behind_key one ms) a c
-  | inr (inl l) ↦ absurd (last_member_too_early one l ms a ns)
-  | inr (inr l) ↦ absurd (last_member_too_early one l ns b ms)
+      let o : g ≡ h = items_same one (sym e) fs is in
+      let c : LastItem m t kind h q = rw o at b in
+      last_one one (items-later is) a c
+  | inr (inl l) ↦ absurd (last_too_early one l is a fs)
+  | inr (inr l) ↦ absurd (last_too_early one l fs b is)
 ]
 
 -- a string stands from i to j, for some bytes
 abbrev StringEnds : Bool → List ℕ → ℕ → ℕ → Type 0
 StringEnds m t i j = (b : List ℕ) × IsString m t i j b
 
--- the outcome of a value of this kind
-abbrev View : Kind → Bool → List ℕ → ℕ → Result ℕ Stop → Type 0
+-- the outcome of a value of this sort
+abbrev View : Sort → Bool → List ℕ → ℕ → Result ℕ Stop → Type 0
 View none m t i r = r ≡ Err (bad t i InvalidJsonValue)
 View a_null m t i r = MatchResult r (IsLiteral (codes "null") t i) (IsLiteralFault (codes "null") t i)
 View a_true m t i r = MatchResult r (IsLiteral (codes "true") t i) (IsLiteralFault (codes "true") t i)
 View a_false m t i r = MatchResult r (IsLiteral (codes "false") t i) (IsLiteralFault (codes "false") t i)
 View a_number m t i r = MatchResult r (IsNumber t i) (IsNumberFault t i)
 View a_string m t i r = MatchResult r (StringEnds m t i) (IsStringFault m t i)
-View an_array m t i r = ArrayOutcome m t i r
-View an_object m t i r = ObjectOutcome m t i r
+View (a_container kind) m t i r = ContainerOutcome m t kind i r
 
--- the outcome of a value with the kind of its first byte
+-- the outcome of a value with the sort of its first byte
 record Viewed (m : Bool) (t : List ℕ) (i : ℕ) (r : Result ℕ Stop) : Type 0 where
-  kind : Kind
-  begins : Begins kind (byte t i)
-  view : View kind m t i r
+  sort : Sort
+  begins : Begins sort (byte t i)
+  view : View sort m t i r
 
 -- a word that stands at i begins there with its first letter
 pub first_letter : (word t : List ℕ) (i : ℕ) {j : ℕ} → 0 < length word → IsLiteral word t i j → byte t i ≡ byte word 0
 first_letter word t i l h = rw add-zero at (h.0.1 0 l)
 
--- an outcome of an array is one of a kind
-array_view : {m : Bool} {t : List ℕ} {i n v : ℕ} {r : Result ℕ Stop} → ElementsFit m t i n v → Last m t 93 ExpectedArrayCommaOrEnd v r → Viewed m t i r
-array_view es a = record { kind = an_array; begins = elements_open es; view = at_last es a }
+-- an outcome of a container is one of a sort
+container_view : {m : Bool} {t : List ℕ} {kind : Kind} {i n h : ℕ} {r : Result ℕ Stop} → ItemsFit m t kind i n h → LastItem m t kind h r → Viewed m t i r
+container_view {kind = kind} is a = record { sort = a_container kind; begins = items_open is; view = at_last is a }
 
--- an outcome of an object is one of a kind
-object_view : {m : Bool} {t : List ℕ} {i n k : ℕ} {r : Result ℕ Stop} → MembersFit m t i n k → LastMember m t k r → Viewed m t i r
-object_view ms a = record { kind = an_object; begins = members_open ms; view = at_member ms a }
-
--- each outcome is one of a kind
+-- each outcome is one of a sort
 outcome_view : (m : Bool) (t : List ℕ) (i : ℕ) (r : Result ℕ Stop) → Outcome m t i r → Viewed m t i r
-outcome_view m t i (Ok j) (null_literal h) = record { kind = a_null; begins = first_letter (codes "null") t i (omega arith) h; view = h }
-outcome_view m t i (Ok j) (true_literal h) = record { kind = a_true; begins = first_letter (codes "true") t i (omega arith) h; view = h }
-outcome_view m t i (Ok j) (false_literal h) = record { kind = a_false; begins = first_letter (codes "false") t i (omega arith) h; view = h }
-outcome_view m t i (Ok j) (number h) = record { kind = a_number; begins = number_begins h; view = h }
-outcome_view m t i (Ok j) (string {b = b} h) = record { kind = a_string; begins = h.opens; view = (b, h) }
-outcome_view m t i (Ok j) (empty_array b c q) = record { kind = an_array; begins = b; view = no_element c (rw q) }
-outcome_view m t i (Ok j) (array {e = e} es x c q) = array_view es record { last = Ok e; outcome = x; after = inl (c, rw q) }
-outcome_view m t i (Ok j) (empty_object b c q) = record { kind = an_object; begins = b; view = no_member c (rw q) }
-outcome_view m t i (Ok j) (object {e = e} ms y x c q) =
-    object_view ms (behind_key y record { last = Ok e; outcome = x; after = inl (c, rw q) })
-outcome_view m t i (Err s) (no_value h q) = record { kind = none; begins = h; view = rw q }
-outcome_view m t i (Err s) (null_fault b f) = record { kind = a_null; begins = b; view = f }
-outcome_view m t i (Err s) (true_fault b f) = record { kind = a_true; begins = b; view = f }
-outcome_view m t i (Err s) (false_fault b f) = record { kind = a_false; begins = b; view = f }
-outcome_view m t i (Err s) (number_fault b f) = record { kind = a_number; begins = b; view = f }
-outcome_view m t i (Err s) (string_fault b f) = record { kind = a_string; begins = b; view = f }
-outcome_view m t i (Err s) (in_element es f) = array_view es record { last = Err s; outcome = f; after = refl }
-outcome_view m t i (Err s) (behind_element {e = e} es x c q) = array_view es record { last = Ok e; outcome = x; after = inr (c, rw q) }
-outcome_view m t i (Err s) (in_key ms f) = object_view ms (at_key f refl)
-outcome_view m t i (Err s) (in_member ms y f) = object_view ms (behind_key y record { last = Err s; outcome = f; after = refl })
-outcome_view m t i (Err s) (behind_member {e = e} ms y x c q) =
-    object_view ms (behind_key y record { last = Ok e; outcome = x; after = inr (c, rw q) })
+outcome_view m t i (Ok j) (null_literal h) = record { sort = a_null; begins = first_letter (codes "null") t i (omega arith) h; view = h }
+outcome_view m t i (Ok j) (true_literal h) = record { sort = a_true; begins = first_letter (codes "true") t i (omega arith) h; view = h }
+outcome_view m t i (Ok j) (false_literal h) = record { sort = a_false; begins = first_letter (codes "false") t i (omega arith) h; view = h }
+outcome_view m t i (Ok j) (number h) = record { sort = a_number; begins = number_begins h; view = h }
+outcome_view m t i (Ok j) (string {b = b} h) = record { sort = a_string; begins = h.opens; view = (b, h) }
+outcome_view m t i (Ok j) (empty kind b c q) = record { sort = a_container kind; begins = b; view = no_item c (rw q) }
+outcome_view m t i (Ok j) (filled {e = e} is y x c q) = container_view is (at_value (Ok e) y x (inl (c, rw q)))
+outcome_view m t i (Err s) (no_value h q) = record { sort = none; begins = h; view = rw q }
+outcome_view m t i (Err s) (null_fault b f) = record { sort = a_null; begins = b; view = f }
+outcome_view m t i (Err s) (true_fault b f) = record { sort = a_true; begins = b; view = f }
+outcome_view m t i (Err s) (false_fault b f) = record { sort = a_false; begins = b; view = f }
+outcome_view m t i (Err s) (number_fault b f) = record { sort = a_number; begins = b; view = f }
+outcome_view m t i (Err s) (string_fault b f) = record { sort = a_string; begins = b; view = f }
+outcome_view m t i (Err s) (in_key is f) = container_view is (at_key refl f refl)
+outcome_view m t i (Err s) (in_value is y f) = container_view is (at_value (Err s) y f refl)
+outcome_view m t i (Err s) (after_item {e = e} is y x c q) = container_view is (at_value (Ok e) y x (inr (c, rw q)))
 
 -- an end and a fault that are each the only one, and never both, are one outcome
 match_one : (P : ℕ → Type 0) (F : Stop → Type 0) (r q : Result ℕ Stop) → ((j k : ℕ) → P j → P k → j ≡ k) → ((s z : Stop) → F s → F z → s ≡ z)
@@ -267,8 +179,8 @@ word_one : (word t : List ℕ) (i : ℕ) (r q : Result ℕ Stop) → MatchResult
 word_one word t i r q =
     match_one (IsLiteral word t i) (IsLiteralFault word t i) r q (λ j k h g. cc (h.1, g.1)) (λ s z. literal_fault_one) (λ j s. literal_never_both word t i)
 
--- a value of one kind has one outcome, if the values behind it have one
-view_one : (k : Kind) (m : Bool) (t : List ℕ) (i : ℕ) (r q : Result ℕ Stop) → Begins k (byte t i) → (i < length t → OneBehind m t i)
+-- a value of one sort has one outcome, if the values behind it have one
+view_one : (k : Sort) (m : Bool) (t : List ℕ) (i : ℕ) (r q : Result ℕ Stop) → Begins k (byte t i) → (i < length t → OneBehind m t i)
     → View k m t i r → View k m t i q → r ≡ q
 view_one none m t i r q b one h g = cc
 view_one a_null m t i r q b one h g = word_one (codes "null") t i r q h g
@@ -278,22 +190,29 @@ view_one a_number m t i r q b one h g =
     match_one (IsNumber t i) (IsNumberFault t i) r q (λ j k. number_one) (λ s z. number_fault_one) (λ j s. number_never_both) h g
 view_one a_string m t i r q b one h g =
     match_one (StringEnds m t i) (IsStringFault m t i) r q (λ j k x y. (string_one x.1 y.1).0) (λ s z. string_fault_one) (λ j s x. string_never_both x.1) h g
-view_one an_array m t i r q b one h g = array_one (one (byte_within t i (λ e. omega arith))) h g
-view_one an_object m t i r q b one h g = object_one (one (byte_within t i (λ e. omega arith))) h g
+view_one (a_container kind) m t i r q b one h g = container_one (one (byte_within t i (λ e. opening_not_end kind (omega arith)))) h g
 
 -- a value has at most one outcome, if the values behind it have one
 one_here : (m : Bool) (t : List ℕ) (i : ℕ) → (i < length t → OneBehind m t i) → OneAt m t i
 one_here m t i one r q x y =
     let a = outcome_view m t i r x in
     let b = outcome_view m t i q y in
-    let e : b.kind ≡ a.kind = sym (begins_one b.kind (byte t i) b.begins) ∙ begins_one a.kind (byte t i) a.begins in
-    let w : View a.kind m t i q = rw e at b.view in
-    view_one a.kind m t i r q a.begins one a.view w
+    let e : b.sort ≡ a.sort = sym (begins_one b.sort (byte t i) b.begins) ∙ begins_one a.sort (byte t i) a.begins in
+    let w : View a.sort m t i q = rw e at b.view in
+    view_one a.sort m t i r q a.begins one a.view w
 
 -- a value has at most one outcome, by the number of places from i on
 one_from : (n : ℕ) (m : Bool) (t : List ℕ) (i : ℕ) → length t < i + n → OneAt m t i
 one_from zero m t i l = one_here m t i (λ h. absurd (omega arith))
 one_from (suc n) m t i l = one_here m t i (λ h v o. one_from n m t v (omega arith))
+
+-- where a container's bracket stands, the outcome is one of a container of that kind
+pub container_outcome : {m : Bool} {t : List ℕ} {kind : Kind} {i : ℕ} (r : Result ℕ Stop) → byte t i ≡ opening kind → Outcome m t i r
+    → ContainerOutcome m t kind i r
+container_outcome {m} {t} {kind} {i} r b x =
+    let a = outcome_view m t i r x in
+    let e : a.sort ≡ a_container kind = sym (begins_one a.sort (byte t i) a.begins) ∙ begins_one (a_container kind) (byte t i) b in
+    rw e at a.view
 
 -- a value that is due has at most one outcome
 pub outcome_one : (m : Bool) (t : List ℕ) (i : ℕ) (r q : Result ℕ Stop) → Outcome m t i r → Outcome m t i q → r ≡ q
@@ -311,10 +230,6 @@ value_fault_one {m} {t} {i} {s} {r} f g = let e = outcome_one m t i (Err s) (Err
 pub value_never_both : {m : Bool} {t : List ℕ} {i j : ℕ} {s : Stop} → IsValue m t i j → IsFault m t i s → ⊥
 value_never_both {m} {t} {i} {j} {s} x f = let e = outcome_one m t i (Ok j) (Err s) x f in cc
 
--- n elements lead to one place
-pub elements_one : {m : Bool} {t : List ℕ} {i n v w : ℕ} → ElementsFit m t i n v → ElementsFit m t i n w → v ≡ w
-elements_one {m} {t} es fs = elements_same (λ v l. outcome_one m t v) refl es fs
-
--- n members lead to one place
-pub members_one : {m : Bool} {t : List ℕ} {i n k l : ℕ} → MembersFit m t i n k → MembersFit m t i n l → k ≡ l
-members_one {m} {t} ms ns = members_same (λ v o. outcome_one m t v) refl ms ns
+-- n items lead to one place
+pub items_one : {m : Bool} {t : List ℕ} {kind : Kind} {i n h g : ℕ} → ItemsFit m t kind i n h → ItemsFit m t kind i n g → h ≡ g
+items_one {m} {t} is fs = items_same (λ v l. outcome_one m t v) refl is fs

@@ -1,6 +1,5 @@
--- Whole texts (RFC 8259, sections 2 and 8.1).
-use Rattle.std.specs.Prelude.{◌≡◌, ℕ, List, length, take}
-use Rattle.std.specs.Str.{IsUtf8}
+-- Whole texts (RFC 8259, section 2).
+use Rattle.std.specs.Prelude.{ℕ, List}
 use Rattle.sonic_text.specs.declared.stop.Stop.{Stop}
 use Rattle.sonic_text.specs.Places.{after_space}
 use Rattle.sonic_text.specs.Strings.{strict}
@@ -14,11 +13,3 @@ IsWhole t j = IsValue strict t (after_space t 0) j
 -- no value begins the text, for this reason
 abbrev pub IsRootFault : List ℕ → Stop → Type 0
 IsRootFault t s = IsFault strict t (after_space t 0) s
-
--- a value begins the text, and it is UTF-8 up to the value's end
-abbrev pub IsFront : List ℕ → Type 0
-IsFront t = (j : ℕ) × IsWhole t j × IsUtf8 (take j t)
-
--- and nothing but white space follows
-abbrev pub IsDocument : List ℕ → Type 0
-IsDocument t = (j : ℕ) × IsWhole t j × IsUtf8 (take j t) × (after_space t j ≡ length t)

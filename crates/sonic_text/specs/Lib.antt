@@ -3,6 +3,7 @@ pub mod Faults
 pub mod Laws
 pub mod Literals
 pub mod Numbers
+pub mod Paths
 pub mod Places
 pub mod Strings
 pub mod Trees

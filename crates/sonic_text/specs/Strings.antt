@@ -94,6 +94,10 @@ pub record IsString (m : Bool) (t : List ℕ) (i j : ℕ) (b : List ℕ) : Type 
   pub closes : byte t close ≡ 34
   pub end : j ≡ close + 1
 
+-- what stands from i to j is a string with a backslash between its quotes
+abbrev pub IsEscapedString : List ℕ → ℕ → ℕ → Type 0
+IsEscapedString t i j = (byte t i ≡ 34) × (k : ℕ) × (i < k) × (k + 1 < j) × (byte t k ≡ 92)
+
 -- the byte stands for a hexadecimal digit from low to high
 unfoldable pub hex_within : ℕ → ℕ → ℕ → Bool
 hex_within low high b = is_some (hex_digit b) && nat_le low (unwrap_or (hex_digit b) 0) && nat_le (unwrap_or (hex_digit b) 0) high

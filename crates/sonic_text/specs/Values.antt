@@ -1,5 +1,7 @@
 -- Values (RFC 8259, sections 3 to 5).
-use Rattle.std.specs.Prelude.{◌≡◌, ◌≢◌, ℕ, ◌+◌, Bool, List, codes}
+use Rattle.std.specs.Prelude.{◌≡◌, ◌≢◌, ℕ, ◌+◌, Bool, List, Option, Some, None, codes}
+use Rattle.sonic_text.specs.declared.kind.Kind.{Kind}
+use Rattle.sonic_text.specs.declared.kind.Kind.TheVariants.{Array, Object}
 use Rattle.sonic_text.specs.Places.{byte, after_space}
 use Rattle.sonic_text.specs.Literals.{IsLiteral}
 use Rattle.sonic_text.specs.Numbers.{IsNumber}
@@ -12,6 +14,20 @@ pub record IsKey (m : Bool) (t : List ℕ) (k v : ℕ) (b : List ℕ) : Type 0 w
   pub colon : byte t (after_space t end) ≡ 58
   pub due : v ≡ after_space t (after_space t end + 1)
 
+-- the bracket that opens a container of this kind, and the one that closes it
+abbrev pub opening : Kind → ℕ
+opening Array = 91
+opening Object = 123
+
+abbrev pub closing : Kind → ℕ
+closing Array = 93
+closing Object = 125
+
+-- of the item of this kind that is due at h the value is due at v: nothing stands before an element's, and this key and a colon before a member's
+pub data ItemHead (m : Bool) (t : List ℕ) : Kind → ℕ → ℕ → Option (List ℕ) → Type 0 where
+  no_head : {h v : ℕ} → v ≡ h → ItemHead m t Array h v None
+  key_head : {h v : ℕ} {b : List ℕ} → IsKey m t h v b → ItemHead m t Object h v (Some b)
+
 mutual
   -- from i to j stands a value
   pub data IsValue (m : Bool) (t : List ℕ) : ℕ → ℕ → Type 0 where
@@ -20,20 +36,12 @@ mutual
     false_literal : {i j : ℕ} → IsLiteral (codes "false") t i j → IsValue m t i j
     number : {i j : ℕ} → IsNumber t i j → IsValue m t i j
     string : {i j : ℕ} {b : List ℕ} → IsString m t i j b → IsValue m t i j
-    empty_array : {i j : ℕ} → byte t i ≡ 91 → byte t (after_space t (i + 1)) ≡ 93 → j ≡ after_space t (i + 1) + 1 → IsValue m t i j
-    array : {i n v e j : ℕ} → ElementsFit m t i n v → IsValue m t v e → byte t (after_space t e) ≡ 93 → j ≡ after_space t e + 1 → IsValue m t i j
-    empty_object : {i j : ℕ} → byte t i ≡ 123 → byte t (after_space t (i + 1)) ≡ 125 → j ≡ after_space t (i + 1) + 1 → IsValue m t i j
-    object : {i n k v e j : ℕ} {b : List ℕ} → MembersFit m t i n k → IsKey m t k v b → IsValue m t v e → byte t (after_space t e) ≡ 125
+    empty : (kind : Kind) {i j : ℕ} → byte t i ≡ opening kind → byte t (after_space t (i + 1)) ≡ closing kind → j ≡ after_space t (i + 1) + 1 → IsValue m t i j
+    filled : {kind : Kind} {i n h v e j : ℕ} {l : Option (List ℕ)} → ItemsFit m t kind i n h → ItemHead m t kind h v l → IsValue m t v e → byte t (after_space t e) ≡ closing kind
         → j ≡ after_space t e + 1 → IsValue m t i j
 
-  -- in the array at i the first n elements, each with its comma, fit up to v, where the next value is due
-  pub data ElementsFit (m : Bool) (t : List ℕ) : ℕ → ℕ → ℕ → Type 0 where
-    first_element : {i n v : ℕ} → byte t i ≡ 91 → v ≡ after_space t (i + 1) → byte t v ≢ 93 → n ≡ 0 → ElementsFit m t i n v
-    next_element : {i p u e n v : ℕ} → ElementsFit m t i p u → IsValue m t u e → byte t (after_space t e) ≡ 44 → v ≡ after_space t (after_space t e + 1)
-        → n ≡ p + 1 → ElementsFit m t i n v
-
-  -- in the object at i the first n members, each with its comma, fit up to k, where the next key is due
-  pub data MembersFit (m : Bool) (t : List ℕ) : ℕ → ℕ → ℕ → Type 0 where
-    first_member : {i n k : ℕ} → byte t i ≡ 123 → k ≡ after_space t (i + 1) → byte t k ≢ 125 → n ≡ 0 → MembersFit m t i n k
-    next_member : {i p h v e n k : ℕ} {b : List ℕ} → MembersFit m t i p h → IsKey m t h v b → IsValue m t v e → byte t (after_space t e) ≡ 44
-        → k ≡ after_space t (after_space t e + 1) → n ≡ p + 1 → MembersFit m t i n k
+  -- in the container of this kind at i the first n items, each with its comma, fit up to h, where the next item is due
+  pub data ItemsFit (m : Bool) (t : List ℕ) : Kind → ℕ → ℕ → ℕ → Type 0 where
+    first_item : {kind : Kind} {i n h : ℕ} → byte t i ≡ opening kind → h ≡ after_space t (i + 1) → byte t h ≢ closing kind → n ≡ 0 → ItemsFit m t kind i n h
+    next_item : {kind : Kind} {i p u v e n h : ℕ} {l : Option (List ℕ)} → ItemsFit m t kind i p u → ItemHead m t kind u v l → IsValue m t v e → byte t (after_space t e) ≡ 44
+        → h ≡ after_space t (after_space t e + 1) → n ≡ p + 1 → ItemsFit m t kind i n h

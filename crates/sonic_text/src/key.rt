@@ -19,37 +19,6 @@ fn goes_on(key: &[u8], done: usize, piece: &[u8]) -> bool
     key[done..].starts_with(piece)
 }
 
-/// Whether the string from `start` to `end`, both quotes included, stands for the key.
-///
-/// Chars are compared, and not how they are written (RFC 8259, section 8.3): both `"a"` and
-/// `"\u0061"` are the same key as `a`. It takes no memory.
-pub fn same_key(text: &[u8], start: usize, end: usize, key: &str) -> bool
-    requires { (b : List ℕ) × IsString strict text.now start end b }
-    ensures { IsTrue result ↔ IsString strict text.now start end key.now }
-{
-    let key = key.as_bytes();
-    let mut place = start + 1;
-    let mut done = 0;
-    'chars: loop {
-        let stop = plain_end(text, place, end);
-        if !goes_on(key, done, &text[place..stop]) {
-            return false;
-        }
-        done += stop - place;
-        if stop + 1 == end {
-            return done == key.len();
-        }
-        let (code, next) = escape_at(text, stop);
-        let mut buffer = [0; 4];
-        let len = codepoint_to_utf8(code, &mut buffer);
-        if !goes_on(key, done, &buffer[..len]) {
-            return false;
-        }
-        done += len;
-        place = next;
-    }
-}
-
 // How a text that goes on with the piece, where the key doesn't, compares with the key.
 fn piece_order(key: &[u8], done: usize, piece: &[u8]) -> Ordering
     requires inside { done ≤ length key.now }
@@ -84,13 +53,24 @@ pub fn compare_key(text: &[u8], start: usize, end: usize, key: &str) -> Ordering
         if stop + 1 == end {
             return done.cmp(&key.len());
         }
-        let (code, behind) = escape_at(text, stop);
+        let (code, next) = escape_at(text, stop);
         let mut buffer = [0; 4];
         let count = codepoint_to_utf8(code, &mut buffer);
         if !goes_on(key, done, &buffer[..count]) {
             return piece_order(key, done, &buffer[..count]);
         }
         done += count;
-        place = behind;
+        place = next;
     }
+}
+
+/// Whether the string from `start` to `end`, both quotes included, stands for the key.
+///
+/// Chars are compared, and not how they are written (RFC 8259, section 8.3): both `"a"` and
+/// `"\u0061"` are the same key as `a`. It takes no memory.
+pub fn same_key(text: &[u8], start: usize, end: usize, key: &str) -> bool
+    requires { (b : List ℕ) × IsString strict text.now start end b }
+    ensures { IsTrue result ↔ IsString strict text.now start end key.now }
+{
+    compare_key(text, start, end, key).is_eq()
 }

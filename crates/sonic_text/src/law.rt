@@ -1,8 +1,10 @@
-ghost use Rattle.std.specs.Prelude.{ℕ, ◌≤◌, Bool, List, length};
+ghost use Rattle.std.specs.Prelude.{◌≡◌, ◌↔◌, ℕ, ◌≤◌, Bool, List, length};
 ghost use Rattle.sonic_text.specs.Faults.{IsFault};
 ghost use Rattle.sonic_text.specs.Laws.{HasOneOutcome};
 ghost use Rattle.sonic_text.specs.Literals.{IsLiteral, IsLiteralFault};
 ghost use Rattle.sonic_text.specs.Numbers.{IsNumber, IsNumberFault};
+ghost use Rattle.sonic_text.specs.Strings.{strict};
+ghost use Rattle.sonic_text.specs.Trees.{Tree, Means};
 ghost use Rattle.sonic_text.specs.Values.{IsValue};
 
 /// A law of the numbers, for every text and every place: either a number stands there and ends at
@@ -32,4 +34,13 @@ pub fn literal_has_one_outcome()
 /// answer that they allow.
 pub fn value_has_one_outcome()
     ensures { (m : Bool) (t : List ℕ) (i : ℕ) → HasOneOutcome (IsValue m t i) (IsFault m t i) }
+{}
+
+/// The law of what values mean, for every text: each value means a tree, only values do, and a
+/// place has only one. So `[1, {"a":1,"a":2}]` means the list of the numeral `1` and of an object
+/// with two members, in their order.
+pub fn value_means_one_tree()
+    ensures means { (t : List ℕ) (i j : ℕ) → IsValue strict t i j ↔ ((x : Tree) × Means t i j x) }
+    ensures one_tree { (t : List ℕ) (i j k : ℕ) (x y : Tree) → Means t i j x → Means t i k y
+        → x ≡ y }
 {}

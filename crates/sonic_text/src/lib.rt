@@ -3,6 +3,7 @@
 
 mod hex;
 mod key;
+mod kind;
 mod law;
 mod literal;
 mod number;
@@ -22,7 +23,10 @@ mod utf8;
 
 pub use hex::hex4;
 pub use key::{compare_key, same_key};
-pub use law::{literal_has_one_outcome, number_has_one_outcome, value_has_one_outcome};
+pub use kind::Kind;
+pub use law::{
+    literal_has_one_outcome, number_has_one_outcome, value_has_one_outcome, value_means_one_tree,
+};
 pub use literal::literal_end;
 pub use number::{number_end, whole_i64, whole_u64};
 pub use scan::{byte_at, skip_digits, skip_space, stop_at};

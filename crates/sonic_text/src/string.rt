@@ -1,7 +1,7 @@
 ghost use Rattle.std.specs.Prelude.{◌≡◌, ◌+◌, ◌<◌, ◌≤◌, ◌↔◌, ℕ, List, length, true, false, IsTrue, IfOk, IfErr, is_some, Some, None};
 ghost use Rattle.sonic_error.specs.declared.code.ErrorCode.TheVariants.{InvalidUnicodeCodePoint};
 ghost use Rattle.sonic_text.specs.Places.{byte, bad};
-ghost use Rattle.sonic_text.specs.Strings.{escaped, hex_digit, is_low_byte, IsHex4, IsLow, IsChar, IsEscapeFault, IsString, IsStringFault};
+ghost use Rattle.sonic_text.specs.Strings.{escaped, hex_digit, is_low_byte, IsHex4, IsLow, IsChar, IsEscapeFault, IsString, IsEscapedString, IsStringFault};
 
 use crate::hex::digit_of;
 use crate::scan::{byte_at, stop_at};
@@ -152,8 +152,8 @@ pub fn string_end(text: &[u8], start: usize, lossy: bool) -> Result<StringEnd, S
     requires { byte text.now start ≡ 34 }
     ensures ok { IfOk result (λ s. (start < s.end) × (s.end ≤ length text.now)
         × (b : List ℕ) × IsString lossy text.now start s.end b) }
-    ensures escaped { IfOk result (λ s. IsTrue s.escaped
-        ↔ (k : ℕ) × (start < k) × (k + 1 < s.end) × (byte text.now k ≡ 92)) }
+    ensures escaped { IfOk result (λ s.
+        IsTrue s.escaped ↔ IsEscapedString text.now start s.end) }
     ensures err { IfErr result (λ s. IsStringFault lossy text.now start s) }
 {
     let mut place = start + 1;

@@ -2,7 +2,7 @@
 use Rattle.std.proofs.Common.{◌≡◌, ◌⊎◌, ℕ, Bool, List, [], map, drop, refl, Some}
 use Rattle.std.specs.List.{flat_map}
 use Rattle.std.specs.declared.option.Option.{Option}
-use Rattle.sonic_pointer.specs.Paths.{Path}
+use Rattle.sonic_text.specs.Paths.{Path}
 use Rattle.sonic_lazy.specs.Answers.{Span, span_of, IsAnswer, no_more, no_path, finding, spans}
 use Rattle.sonic_lazy.specs.Causes.{IsAnswerable}
 use Rattle.sonic_lazy.specs.Causes.IsAnswerable.{nothing_asked, all_told}

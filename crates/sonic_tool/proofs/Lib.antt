@@ -1,16 +1,15 @@
-pub mod Completing
-pub mod Given
-pub mod Heads
-pub mod Indexes
-pub mod LineHeads
-pub mod LineNodes
-pub mod LineOutcomes
-pub mod LinePieces
-pub mod LineStrings
-pub mod LineTests
-pub mod OneHead
-pub mod OneLine
-pub mod OneReport
-pub mod Replies
-pub mod Reporting
-pub mod Taken
+mod Completing
+mod Given
+mod Heads
+mod Indexes
+mod LineHeads
+mod LineNodes
+mod LineOutcomes
+mod LinePieces
+mod LineTests
+mod OneHead
+mod OneLine
+mod OneReport
+mod Replies
+mod Reporting
+mod Taken

@@ -4,7 +4,8 @@ use Rattle.std.proofs.lemmas.List.{length-map}
 use Rattle.std.specs.Prelude.{slice_range}
 use Rattle.sonic_pointer.specs.declared.node.PointerNode.{PointerNode}
 use Rattle.sonic_pointer.specs.Nodes.{node_of, path_of}
-use Rattle.sonic_pointer.specs.Paths.{Path, IsMixed}
+use Rattle.sonic_pointer.specs.Paths.{IsMixed}
+use Rattle.sonic_text.specs.Paths.{Path}
 use Rattle.sonic_tool.specs.Heads.{line_end, line_at, IsBlank, IsHead}
 use Rattle.sonic_tool.specs.Heads.IsHead.{blank_line, blank_end, last_line, one_more_line}
 use Rattle.sonic_tool.specs.Lines.{IsNodeLine, AreLinesAfter, AreLines, IsBadLine, IsFirstBadAfter, IsFirstBadLine}

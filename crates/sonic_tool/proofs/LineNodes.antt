@@ -3,10 +3,9 @@ use Rattle.std.proofs.Common.{◌≡◌, ◌≢◌, ℕ, ◌+◌, ◌<◌, ◌�
 use Rattle.sonic_text.specs.declared.stop.Stop.{Stop}
 use Rattle.sonic_text.specs.Places.{byte, after_space}
 use Rattle.sonic_text.specs.Strings.{strict, IsStringFault}
-use Rattle.sonic_text.specs.Trees.{Node, key, index}
+use Rattle.sonic_text.specs.Paths.{Node, key, index, Path}
 use Rattle.sonic_text.specs.Faults.{NothingFits}
 use Rattle.sonic_text.proofs.Strings.{string_one, string_never_both}
-use Rattle.sonic_pointer.specs.Paths.{Path}
 use Rattle.sonic_tool.specs.Paths.{IsIndex}
 use Rattle.sonic_tool.specs.Lines.{IsNodeAt, NodesStand, IsNodeArray, IsNodeLine}
 use Rattle.sonic_tool.specs.Lines.IsNodeAt.{key_node, index_node}

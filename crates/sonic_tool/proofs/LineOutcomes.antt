@@ -1,6 +1,7 @@
 -- The lines of a head say one thing.
 use Rattle.std.proofs.Common.{◌≡◌, ◌⊎◌, inl, inr, ℕ, ◌≤◌, length, ◌+◌, List, [], ◌∷◌, ◌++◌, arith, refl}
-use Rattle.sonic_pointer.specs.Paths.{Path, IsMixed}
+use Rattle.sonic_pointer.specs.Paths.{IsMixed}
+use Rattle.sonic_text.specs.Paths.{Path}
 use Rattle.sonic_tool.specs.declared.lines.Lines.{Lines}
 use Rattle.sonic_tool.specs.declared.lines.Lines.TheVariants.{Paths, Bad}
 use Rattle.sonic_tool.specs.Lines.{IsNodeLine, AreLinesAfter, IsBadLine, IsFirstBadAfter, SaysPaths}

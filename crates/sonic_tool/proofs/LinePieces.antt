@@ -7,7 +7,7 @@ use Rattle.std.specs.Prelude.{slice_range, OnOk}
 use Rattle.std.specs.Result.{is_err}
 use Rattle.std.specs.List.{All}
 use Rattle.std.specs.Str.{IsUtf8}
-use Rattle.sonic_text.specs.Trees.{key}
+use Rattle.sonic_text.specs.Paths.{key}
 use Rattle.sonic_tool.specs.declared.pieces.Piece.{Piece}
 use Rattle.sonic_tool.specs.declared.pieces.Piece.TheVariants.{Key, Index}
 use Rattle.sonic_tool.specs.Pieces.{piece_node, IsPiece}

@@ -1,19 +1,19 @@
 -- A line says a path or none, and the path mixes with earlier ones or doesn't.
-use Rattle.std.proofs.Common.{◌≡◌, ◌≢◌, ◌⊎◌, inl, inr, ℕ, zero, suc, ◌+◌, ◌<◌, ◌≤◌, Bool, true, false, List, [], ◌∷◌, ◌++◌, length, Contains, arith, refl, ap}
+use Rattle.std.proofs.Common.{◌≡◌, ◌≢◌, ◌⊎◌, inl, inr, ℕ, zero, suc, ◌+◌, ◌<◌, ◌≤◌, Bool, true, false, List, [], ◌∷◌, ◌++◌, length, Contains, arith, refl}
 use Rattle.std.specs.Str.{IsUtf8, is_utf8}
 use Rattle.std.proofs.lemmas.Bool.{cases_eq, cases_lt}
 use Rattle.std.proofs.lemmas.List.Elements.{Contains-append_right, Contains-append_cases, Contains-push_cases}
 use Rattle.std.proofs.lemmas.Str.{IsUtf8-from_is_utf8, is_utf8-from_IsUtf8}
 use Rattle.sonic_text.specs.Places.{byte, after_space}
 use Rattle.sonic_text.specs.Strings.{strict}
-use Rattle.sonic_text.specs.Trees.{Node, key, index}
+use Rattle.sonic_text.specs.Paths.{Node, key, index, Path}
 use Rattle.sonic_text.proofs.Numbers.{int_longer}
 use Rattle.sonic_text.proofs.Places.{after_space_later, byte_within}
 use Rattle.sonic_text.proofs.Strings.{string_longer, string_some}
 use Rattle.sonic_pointer.specs.Nodes.{is_key}
-use Rattle.sonic_pointer.specs.Paths.{Path, IsMixed}
+use Rattle.sonic_pointer.specs.Paths.{IsMixed}
 use Rattle.sonic_pointer.proofs.Trees.{kinds_same}
-use Rattle.sonic_lazy.proofs.Nodes.{text_or_other}
+use Rattle.sonic_lazy.proofs.Nodes.{node_or_other}
 use Rattle.sonic_tool.specs.Lines.{IsNodeAt, NodesStand, IsNodeArray, IsNodeLine}
 use Rattle.sonic_tool.specs.Lines.IsNodeAt.{key_node, index_node}
 use Rattle.sonic_tool.specs.Lines.NodesStand.{one_node, more_nodes}
@@ -138,13 +138,6 @@ line_by_test line false e = inr (λ p. let t = is_utf8-from_IsUtf8 line p.1.text
 pub node_line_or_none : (line : List ℕ) → SomePath line ⊎ ¬ SomePath line
 node_line_or_none line = line_by_test line (is_utf8 line) refl
 
--- two nodes are equal or they aren't
-same_node : (x y : Node) → (x ≡ y) ⊎ (x ≢ y)
-same_node (key a) (key b) = elim (text_or_other a b) [ inl e ↦ inl (ap key e) | inr n ↦ inr (λ e. n cc) ]
-same_node (key a) (index m) = inr (λ e. cc)
-same_node (index n) (key b) = inr (λ e. cc)
-same_node (index n) (index m) = elim (cases_eq n m) [ inl e ↦ inl (ap index e) | inr d ↦ inr (λ e. d cc) ]
-
 -- two paths have an equal front, followed by nodes of two kinds
 record Mix (q path : Path) : Type 0 where
   pub front : Path
@@ -194,7 +187,7 @@ mix_or_not [] path = inr (λ m. nothing_follows m.front m.other m.others m.was)
 mix_or_not (x ∷ q) [] = inr (λ m. nothing_follows m.front m.node m.rest m.is)
 mix_or_not (x ∷ q) (y ∷ path) = elim (kinds_same (is_key x) (is_key y)) [
   | inr kinds ↦ inl (record { front = []; node = y; rest = path; other = x; others = q; is = refl; was = refl; kinds = kinds })
-  | inl kind ↦ elim (same_node x y) [
+  | inl kind ↦ elim (node_or_other x y) [
     | inr differ ↦ inr (λ m. differ (mix_behind kind m).0)
     | inl same ↦ elim (mix_or_not q path) [
       | inl m ↦ inl (mix_before same m)

@@ -5,7 +5,7 @@ use Rattle.std.proofs.lemmas.Slice.Eq.{bytes_eq-Decides}
 use Rattle.std.specs.Bool.{Decides}
 use Rattle.std.specs.Str.{bytes_eq}
 use Rattle.std.specs.declared.option.Option.{Option}
-use Rattle.sonic_pointer.specs.Paths.{Path}
+use Rattle.sonic_text.specs.Paths.{Path}
 use Rattle.sonic_lazy.specs.Answers.{Answer, spans, error}
 use Rattle.sonic_lazy.proofs.OneAnswer.{answer_one}
 use Rattle.sonic_tool.specs.declared.reading.TheConstants.{LIMIT}

@@ -1,6 +1,6 @@
 -- What the parts of a report give.
-use Rattle.std.proofs.Common.{◌≡◌, ◌≢◌, ℕ, ◌+◌, ◌-◌, ◌≤◌, Bool, true, List, [], ◌∷◌, length, map, drop, arith, refl, sym, if◌then◌else◌, false, ◌∙◌, Result, Ok, Err}
-use Rattle.std.specs.Prelude.{◌==◌, ◌&&◌, IfOk, IsErr, slice_range}
+use Rattle.std.proofs.Common.{◌≡◌, ℕ, ◌-◌, ◌≤◌, Bool, true, List, length, map, drop, arith, refl, ◌∙◌, Result, Ok, Err}
+use Rattle.std.specs.Prelude.{IfOk, IsErr, slice_range}
 use Rattle.std.specs.List.{flat_map}
 use Rattle.std.specs.declared.alloc.AllocError.{AllocError}
 use Rattle.std.specs.declared.option.Option.{Option}
@@ -9,25 +9,23 @@ use Rattle.sonic_error.specs.declared.error.Error.{Error}
 use Rattle.sonic_error.specs.declared.code.ErrorCode.{ErrorCode}
 use Rattle.sonic_error.specs.declared.code.ErrorCode.TheVariants.{NoMemory}
 use Rattle.sonic_error.specs.Errors.{error_code, IsErrorAt}
-use Rattle.sonic_text.specs.declared.stop.Stop.{Stop}
-use Rattle.sonic_text.specs.Places.{byte, after_space}
-use Rattle.sonic_text.specs.Trees.{Node, key, index}
+use Rattle.sonic_text.specs.Paths.{Node, Path}
 use Rattle.sonic_text.proofs.Parts.{part_length}
 use Rattle.sonic_text.proofs.Values.{value-longer}
-use Rattle.sonic_pointer.specs.Paths.{Path}
 use Rattle.sonic_lazy.specs.declared.lazyvalue.LazyValue.{LazyValue}
 use Rattle.sonic_lazy.specs.Answers.{Span, span_of, AllLead, no_more, one_more, ComeTo, no_path, finding, spans, error}
-use Rattle.sonic_lazy.specs.Paths.{Outcome, found, lacks, fails, cut, nowhere, Evaluates, stands, goes_on, leads_nowhere, Leads}
+use Rattle.sonic_lazy.specs.Paths.{Outcome, found, lacks, fails, cut, Evaluates, Leads}
 use Rattle.sonic_lazy.specs.Shown.{Shows, shows_none, shows_span, ShowAll, no_more_values, one_more_value, AreValues}
 use Rattle.sonic_lazy.specs.Causes.{IsRefusal, out_of_memory}
 use Rattle.sonic_lazy.specs.Causes.IsRefusal.{answered as refused}
-use Rattle.sonic_lazy.proofs.Within.{value_within}
+use Rattle.sonic_text.proofs.Within.{value_within}
 use Rattle.sonic_tool.specs.declared.reply.Reply.{Reply}
 use Rattle.sonic_tool.specs.declared.status.Status.{Status}
 use Rattle.sonic_tool.specs.declared.status.Status.TheVariants.{Done, DocumentError}
 use Rattle.sonic_tool.specs.Heads.{IsHead}
 use Rattle.sonic_tool.specs.Lines.{AreLines}
 use Rattle.sonic_tool.specs.Replies.{text_of, line_of_value, error_bytes}
+use Rattle.sonic_lazy.proofs.Answering.{found_value}
 use Rattle.sonic_tool.specs.Reports.{IsGetReport, ReportsPaths, line_of_entry, line_of_error}
 use Rattle.sonic_tool.specs.Reports.IsAnswerReport.{entry_lines, error_line}
 use Rattle.sonic_tool.specs.Reports.IsGetReport.{bad_line, answered}
@@ -37,35 +35,9 @@ abbrev WithinEntry : List ℕ → Option Span → Type 0
 WithinEntry t None = Unit {0}
 WithinEntry t (Some (i, j)) = (i ≤ j) × (j ≤ length t)
 
--- what fails finds nothing
-fails_not_found : (s : Stop) (i j : ℕ) → fails s ≢ found i j
-fails_not_found s i j e = absurd cc
-
--- nor does what lacks its key
-lacks_not_found : (q i j : ℕ) → lacks q ≢ found i j
-lacks_not_found q i j e = absurd cc
-
--- what is chosen of two outcomes that find nothing finds nothing
-neither_found : {i j : ℕ} (b : Bool) (x y : Outcome) → x ≢ found i j → y ≢ found i j → (if b then x else y) ≢ found i j
-neither_found true x y n m = n
-neither_found false x y n m = m
-
--- a node that leads nowhere finds nothing
-nowhere_found : (t : List ℕ) (v q i j : ℕ) (node : Node) → nowhere t v q node ≢ found i j
-nowhere_found t v q i j (key k) =
-    let empty = byte t v == 123 && byte t (after_space t (v + 1)) == 125 in
-    let object = byte t v == 123 in
-    neither_found empty _ _ (fails_not_found _ i j) (neither_found object _ _ (lacks_not_found q i j) (fails_not_found _ i j))
-nowhere_found t v q i j (index n) =
-    let empty = byte t v == 91 && byte t (after_space t (v + 1)) == 93 in
-    let array = byte t v == 91 in
-    neither_found empty _ _ (fails_not_found _ i j) (neither_found array _ _ (fails_not_found _ i j) (fails_not_found _ i j))
-
 -- what a path finds is such a span
 found_within : {t : List ℕ} {v i j : ℕ} (path : List Node) → Evaluates t v path (found i j) → WithinEntry t (Some (i, j))
-found_within [] (stands x) = let l = value-longer x in (omega arith, value_within x)
-found_within (node ∷ rest) (goes_on leads e) = found_within rest e
-found_within {t} {v} {i} {j} (node ∷ rest) (leads_nowhere {j = k} x never e) = absurd (nowhere_found t v (k - 1) i j node (sym e))
+found_within path e = let x = found_value path e in (let l = value-longer x in omega arith, value_within x)
 
 -- the span of an outcome is one
 span_within : {t : List ℕ} (path : List Node) (o : Outcome) → Leads t path o → WithinEntry t (span_of o)

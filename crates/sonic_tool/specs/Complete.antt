@@ -1,6 +1,6 @@
 -- Inputs that are answered by values alone.
 use Rattle.std.specs.Prelude.{ℕ, ◌≤◌, true, List, length, drop}
-use Rattle.sonic_pointer.specs.Paths.{Path}
+use Rattle.sonic_text.specs.Paths.{Path}
 use Rattle.sonic_lazy.specs.Causes.{IsAnswerable}
 use Rattle.sonic_tool.specs.declared.reading.TheConstants.{LIMIT}
 use Rattle.sonic_tool.specs.Heads.{IsHead}

@@ -3,8 +3,8 @@ use Rattle.std.specs.Prelude.{◌≡◌, ℕ, ◌+◌, ◌≤◌, List, [], ◌�
 use Rattle.std.specs.Str.{IsUtf8}
 use Rattle.sonic_text.specs.Places.{byte, after_space}
 use Rattle.sonic_text.specs.Strings.{IsString, strict}
-use Rattle.sonic_text.specs.Trees.{Node, key, index}
-use Rattle.sonic_pointer.specs.Paths.{Path, IsMixed}
+use Rattle.sonic_text.specs.Paths.{Node, key, index, Path}
+use Rattle.sonic_pointer.specs.Paths.{IsMixed}
 use Rattle.sonic_tool.specs.declared.lines.Lines.{Lines}
 use Rattle.sonic_tool.specs.declared.lines.Lines.TheVariants.{Paths, Bad}
 use Rattle.sonic_tool.specs.Heads.{IsHead}

@@ -2,7 +2,7 @@
 use Rattle.std.specs.Prelude.{ℕ, ◌≤◌, List, length, map, slice_range}
 use Rattle.std.specs.Str.{IsUtf8}
 use Rattle.std.specs.List.{All}
-use Rattle.sonic_text.specs.Trees.{Node, key, index}
+use Rattle.sonic_text.specs.Paths.{Node, key, index}
 use Rattle.sonic_tool.specs.declared.pieces.Piece.{Piece}
 use Rattle.sonic_tool.specs.declared.pieces.Piece.TheVariants.{Key, Index}
 use Rattle.sonic_tool.specs.declared.pieces.LinePath.TheInside.{Inside}

@@ -10,7 +10,7 @@ use Rattle.sonic_error.specs.declared.code.ErrorCode.TheVariants.{Message, Io, E
 use Rattle.sonic_error.specs.Codes.{category_of}
 use Rattle.sonic_error.specs.Places.{offset_of, line_of, column_of}
 use Rattle.sonic_text.specs.declared.stop.Stop.{Stop}
-use Rattle.sonic_pointer.specs.Paths.{Path}
+use Rattle.sonic_text.specs.Paths.{Path}
 use Rattle.sonic_lazy.specs.Answers.{Span, Answer, spans, error, IsAnswer}
 use Rattle.sonic_tool.specs.declared.reading.TheConstants.{LIMIT}
 use Rattle.sonic_tool.specs.declared.status.Status.{Status}

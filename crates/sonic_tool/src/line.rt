@@ -1,11 +1,10 @@
 // Lines of keys and indexes.
 ghost use Rattle.std.specs.Prelude.{◌≡◌, ◌≤◌, ◌∷◌, ◌++◌, ℕ, [], length, None, IfOk, IfSome, IsUtf8};
 ghost use Rattle.sonic_text.specs.Places.{byte};
-ghost use Rattle.sonic_text.specs.Trees.{Node};
-ghost use Rattle.sonic_pointer.specs.Paths.{Path};
+ghost use Rattle.sonic_text.specs.Paths.{Node, Path};
 ghost use Rattle.sonic_tool.specs.Lines.{IsNodeAt, NodesStand, IsNodeArray, IsNodeLine};
 
-use crate::path::{Behind, NODES, behind_index, index_at};
+use crate::path::{NODES, index_at};
 use crate::pieces::LinePath;
 use sonic_text::{byte_at, skip_space, string_end};
 use std::alloc::{AllocError, Global};
@@ -74,10 +73,14 @@ fn nodes(alloc: Global, line: &[u8], first: usize) -> Result<Option<NodeArray>, 
         let Some(end) = push_node(&mut path, line, due)? else {
             return Ok(None);
         };
-        match behind_index(line, end) {
-            Some(Behind::Comma(next)) => due = next,
-            Some(Behind::Bracket(end)) => return Ok(Some(NodeArray { path, end })),
-            None => return Ok(None),
+        let place = skip_space(line, end);
+        match byte_at(line, place) {
+            b',' => due = skip_space(line, place + 1),
+            b']' => {
+                let end = place + 1;
+                return Ok(Some(NodeArray { path, end }));
+            }
+            _ => return Ok(None),
         }
     }
     Ok(None)

@@ -1,6 +1,7 @@
 // Heads of any number of lines, each of keys and indexes.
 ghost use Rattle.std.specs.Prelude.{◌≡◌, ◌+◌, ◌<◌, ◌≤◌, ◌∷◌, ◌++◌, [], false, length, IsTrue, IfOk};
-ghost use Rattle.sonic_pointer.specs.Paths.{Path, IsMixed};
+ghost use Rattle.sonic_pointer.specs.Paths.{IsMixed};
+ghost use Rattle.sonic_text.specs.Paths.{Path};
 ghost use Rattle.sonic_tool.specs.Lines.{IsNodeLine, IsBadLine, SaysPaths};
 
 use crate::head::{find_line_end, is_blank};

@@ -1,11 +1,10 @@
-// The indexes of a path line, and what stands behind them.
+// The indexes of a path line.
 ghost use Rattle.std.specs.Prelude.{◌≡◌, ◌<◌, ◌≤◌, ℕ, length, None, IfSome};
-ghost use Rattle.sonic_text.specs.Faults.{NothingFits};
 ghost use Rattle.sonic_text.specs.Places.{byte};
 ghost use Rattle.sonic_text.specs.Numbers.{IsInt};
-ghost use Rattle.sonic_tool.specs.Paths.{BeginsMore, IsIndex, IsBehind};
+ghost use Rattle.sonic_tool.specs.Paths.{BeginsMore, IsIndex};
 
-use sonic_text::{byte_at, skip_digits, skip_space, whole_u64};
+use sonic_text::{byte_at, skip_digits, whole_u64};
 
 // How many nodes a path line may have.
 pub(crate) const NODES: usize = 255;
@@ -15,29 +14,6 @@ pub(crate) const NODES: usize = 255;
 pub(crate) struct Index {
     pub(crate) value: usize,
     pub(crate) end: usize,
-}
-
-// What stands behind an index.
-#[derive(Clone, Copy)]
-pub(crate) enum Behind {
-    // A comma, and the next index is due here.
-    Comma(usize),
-    // The closing bracket, and the array ends here.
-    Bracket(usize),
-}
-
-// What stands behind the index that ended at a place, if it is a comma or the closing bracket.
-pub(crate) fn behind_index(line: &[u8], end: usize) -> Option<Behind>
-    requires { end ≤ length line.now }
-    ensures some { IfSome result (λ found. IsBehind line.now end found) }
-    ensures none { result ≡ None → NothingFits line.now end 93 }
-{
-    let place = skip_space(line, end);
-    match byte_at(line, place) {
-        b',' => Some(Behind::Comma(skip_space(line, place + 1))),
-        b']' => Some(Behind::Bracket(place + 1)),
-        _ => None,
-    }
 }
 
 // The index that stands at a place, if one does.

@@ -1,7 +1,7 @@
 // The path of a line, as small pieces of one text.
 ghost use Rattle.std.specs.Prelude.{◌≡◌, ℕ, List, [], ◌∷◌, ◌++◌, length, IfOk, OnOk, IsUtf8};
 ghost use Rattle.sonic_text.specs.Strings.{IsString, strict};
-ghost use Rattle.sonic_text.specs.Trees.{key, index};
+ghost use Rattle.sonic_text.specs.Paths.{key, index};
 ghost use Rattle.sonic_pointer.specs.Nodes.{node_of, path_of};
 ghost use Rattle.sonic_tool.specs.Pieces.{piece_node, IsPiece};
 
@@ -26,7 +26,7 @@ pub(crate) struct LinePath {
 
 impl Model for LinePath {
     ghost use Rattle.std.specs.Prelude.{List};
-    ghost use Rattle.sonic_text.specs.Trees.{Node};
+    ghost use Rattle.sonic_text.specs.Paths.{Node};
 
     ghost Value = { List Node };
 

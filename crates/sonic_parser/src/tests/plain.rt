@@ -1,59 +1,36 @@
 // The grammar by recursive descent, as plain as it gets, beside the loop over open brackets.
-ghost use Rattle.std.specs.Prelude.{◌≡◌, ◌<◌, ◌≤◌, true, length, IfOk, IfErr};
+ghost use Rattle.std.specs.Prelude.{◌<◌, ◌≤◌, length, IfOk, IfErr};
 ghost use Rattle.sonic_text.specs.Values.{IsValue};
-ghost use Rattle.sonic_text.specs.Faults.{IsFault, IsKeyFault};
-ghost use Rattle.sonic_parser.specs.Skipping.{IsItem};
+ghost use Rattle.sonic_text.specs.Faults.{IsFault};
 
 use crate::Parser;
-use crate::begin::{Begun, Behind, after_value, begin, key_end};
+use crate::begin::{Begun, begin};
+use crate::container::{Next, next_item};
+use crate::skip::item_value;
 use sonic_input::Read;
 use sonic_text::{Stop, skip_space};
 use std::alloc::Global;
 use std::process::Abort;
 use std::test::Fail;
 
-// The place where the value of an element or a member is due.
-#[tactic(auto, using(crate::proofs::Descending::steps))]
-fn item_value(text: &[u8], place: usize, object: bool, lossy: bool) -> Result<usize, Stop>
-    requires { place ≤ length text.now }
-    ensures ok { IfOk result (λ v. IsItem object lossy text.now place v) }
-    ensures err { IfErr result (λ s. (object ≡ true) × IsKeyFault lossy text.now place s) }
-{
-    if !object {
-        return Ok(place);
-    }
-    match key_end(text, place, lossy) {
-        Ok(value) => Ok(value),
-        Err(stop) => Err(stop),
-    }
-}
-
 // The end of the value that is due at a place, or its fault.
 #[tactic(auto, using(crate::proofs::Descending::steps))]
 fn value_end(text: &[u8], start: usize, lossy: bool) -> Result<usize, Stop>
     requires { start ≤ length text.now }
-    ensures ok { IfOk result (λ j. (start < j) × (j ≤ length text.now) × IsValue lossy text.now start j) }
+    ensures within { IfOk result (λ j. (start < j) × (j ≤ length text.now)) }
+    ensures ok { IfOk result (λ j. IsValue lossy text.now start j) }
     ensures err { IfErr result (λ s. IsFault lossy text.now start s) }
 {
-    let (mut place, object) = match begin(text, start, lossy) {
-        Ok(Begun::Complete(end)) => return Ok(end),
-        Ok(Begun::InArray(first)) => (first, false),
-        Ok(Begun::InObject(first)) => (first, true),
-        Err(stop) => return Err(stop),
+    let (kind, mut place) = match begin(text, start, lossy)? {
+        Begun::Complete(skipped) => return Ok(skipped.end),
+        Begun::Inside(kind, first) => (kind, first),
     };
     'items: loop {
-        let value = match item_value(text, place, object, lossy) {
-            Ok(value) => value,
-            Err(stop) => return Err(stop),
-        };
-        let end = match value_end(text, value, lossy) {
-            Ok(end) => end,
-            Err(stop) => return Err(stop),
-        };
-        match after_value(text, end, object) {
-            Ok(Behind::Comma(next)) => place = next,
-            Ok(Behind::Bracket(close)) => return Ok(close),
-            Err(stop) => return Err(stop),
+        let value = item_value(text, place, kind, lossy)?;
+        let end = value_end(text, value, lossy)?;
+        match next_item(text, end, kind)? {
+            Next::Item(next) => place = next,
+            Next::End(close) => return Ok(close),
         }
     }
 }

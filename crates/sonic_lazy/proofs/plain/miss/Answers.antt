@@ -3,18 +3,18 @@ use Rattle.sonic_text.proofs.Values.{value-longer}
 use Rattle.sonic_lazy.specs.Paths.Evaluates.{leads_nowhere, cut_before}
 use Rattle.sonic_lazy.proofs.plain.miss.Goals as goal
 
-pub overflow_sub-place : goal.overflow_sub-place
-overflow_sub-place c = omega (arith, value-longer c.in-Ok.ensures.ok)
+pub overflow_sub-last : goal.overflow_sub-last
+overflow_sub-last c = omega (arith, value-longer c.in-Ok.ensures.ok)
 
 pub returns-in-Some-clause-fails : goal.returns-in-Some-clause-fails
 returns-in-Some-clause-fails c = λ s e rest.
-    let told = rw c.skip_space-start.ensures.place at (c.in-Some.ensures.fails (c.in-Ok.end - 1)) in
+    let told = rw c.kind_of.ensures at (c.in-Some.ensures.fails (c.in-Ok.end - 1)) in
     let stop : record { place = c.in-Ok.end - 1; code = c.in-Some.code } ≡ s = cc e in
     rw (← stop) (leads_nowhere c.in-Ok.ensures.ok c.requires.nowhere (sym told))
 
 pub returns-in-None-clause-lacks : goal.returns-in-None-clause-lacks
 returns-in-None-clause-lacks c = λ q e rest.
-    let told = rw c.skip_space-start.ensures.place at (c.in-None.ensures.lacks (c.in-Ok.end - 1)) in
+    let told = rw c.kind_of.ensures at (c.in-None.ensures.lacks (c.in-Ok.end - 1)) in
     let place : c.in-Ok.end - 1 ≡ q = cc e in
     rw (← place) (leads_nowhere c.in-Ok.ensures.ok c.requires.nowhere (sym told))
 

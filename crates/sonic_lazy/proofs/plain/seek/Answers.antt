@@ -1,96 +1,106 @@
-use Rattle.std.proofs.Common.{◌≡◌, ◌+◌, ap, length, arith, refl}
+use Rattle.std.proofs.Common.{◌∙◌, ◌+◌, ap, sym, length, arith, refl}
 use Rattle.std.proofs.lemmas.Result.{err_from_is_err_and}
 use Rattle.sonic_text.specs.Places.{after_space}
+use Rattle.sonic_text.specs.Values.{first_item, next_item}
+use Rattle.sonic_text.proofs.Items.{head_never_both, closing_no_comma}
 use Rattle.sonic_text.proofs.Places.{after_space_later, byte_within}
-use Rattle.sonic_text.proofs.Values.{value-longer}
+use Rattle.sonic_text.proofs.Values.{head-later}
 use Rattle.sonic_pointer.specs.Nodes.{node_of}
-use Rattle.sonic_lazy.proofs.Firsts.{head_later}
-use Rattle.sonic_lazy.proofs.Seeking.{fresh_first, leads_by_item, none_by_key, none_by_value, none_by_byte, none_by_bracket}
+use Rattle.sonic_lazy.proofs.Entering.{none_unopened, none_empty}
+use Rattle.sonic_lazy.proofs.Firsts.{first_unnamed}
+use Rattle.sonic_lazy.proofs.Nodes.{named_leads, none_leads, one_more_unnamed}
 use Rattle.sonic_lazy.proofs.Stopping.{stop_weaker}
-use Rattle.sonic_lazy.proofs.Walking.{count_below, next_fits, still_fresh}
+use Rattle.sonic_lazy.proofs.Walking.{count_below, not_named, past_value, past_byte, past_key}
 use Rattle.sonic_lazy.proofs.plain.seek.Goals as goal
+
+pub returns-then-byte_at-opening-clause-no : goal.returns-then-byte_at-opening-clause-no
+returns-then-byte_at-opening-clause-no c = λ e.
+    let byte = rw (c.text.ensures, c.offset.ensures.place) at c.byte_at.ensures.value in
+    let bracket = rw c.kind_of-kind.ensures at c.opening.ensures in
+    λ v. none_unopened (λ same. c.if-byte_at-opening.true (byte ∙ (same ∙ sym bracket))) (node_of c.args.node.now) v refl
+
+pub returns-then-not-enter-clause-no : goal.returns-then-not-enter-clause-no
+returns-then-not-enter-clause-no c = λ e v.
+    let end = rw c.kind_of-kind.ensures at (c.if-not-enter.ensures.empty refl) in
+    none_empty end.0 (node_of c.args.node.now) v refl
 
 pub items-init : goal.items-init
 items-init c =
-    let fit = rw (c.is_key-object.ensures, c.enter.ensures.cursor) at (c.enter.ensures.yes c.if-not-enter.false) in
+    let byte = rw (c.text.ensures, c.offset.ensures.place) at c.byte_at.ensures.value in
+    let bracket = rw c.kind_of-kind.ensures at (sym byte ∙ (c.if-byte_at-opening.false ∙ c.opening.ensures)) in
+    let entered = rw c.kind_of-kind.ensures at (c.if-not-enter.ensures.item refl) in
     record {
       cursor = c.enter.ensures.cursor;
-      fit = rw c.enter.ensures.cursor fit;
-      fresh = rw c.enter.ensures.cursor (fresh_first (node_of c.args.node.now) fit);
+      none = rw c.enter.ensures.cursor (first_unnamed (node_of c.args.node.now) (first_item bracket entered.due entered.item refl));
     }
 
-pub returns-in_err-head-clause-err : goal.returns-in_err-head-clause-err
-returns-in_err-head-clause-err c =
+pub returns-in_err-is_named-clause-err : goal.returns-in_err-is_named-clause-err
+returns-in_err-is_named-clause-err c =
     let p = err_from_is_err_and c.from_residual.result c.from_residual.ensures.1 in
-    let fit = rw c.items.invariant.cursor at c.items.invariant.fit in
-    let fresh = rw c.items.invariant.cursor at c.items.invariant.fresh in
-    let e = rw c.items.invariant.cursor at c.in_err-head.ensures.err in
-    rw (p.1, p.2) (stop_weaker c.in_err-head.field-0.0 (λ s f. none_by_key (node_of c.args.node.now) fit fresh f) e)
+    let none = rw c.items.invariant.cursor at c.items.invariant.none in
+    let e = rw c.items.invariant.cursor at c.in_err-is_named.ensures.err in
+    rw (p.1, p.2) (none_leads none (λ v x. head_never_both e.0 x.head e.1) (past_key e.0 none.fit e.1))
 
 pub returns-then-branch-clause-yes : goal.returns-then-branch-clause-yes
 returns-then-branch-clause-yes c = λ e.
-    let item = c.in_ok-head.ensures.item in
-    rw c.items.invariant.cursor at (leads_by_item c.items.invariant.fresh item.1 (item.2 c.if-branch.true))
+    let item = c.in_ok-is_named.ensures.item in
+    rw c.items.invariant.cursor at (named_leads c.items.invariant.none (rw (item.2 c.if-branch.true) at item.1))
 
-pub returns-in_err-skip-clause-err : goal.returns-in_err-skip-clause-err
-returns-in_err-skip-clause-err c =
-    let p = err_from_is_err_and c.from_residual-in_err-skip.result c.from_residual-in_err-skip.ensures.1 in
-    let fit = rw c.items.invariant.cursor at c.items.invariant.fit in
-    let fresh = rw c.items.invariant.cursor at c.items.invariant.fresh in
-    let item = rw (c.in_ok-head.ensures.cursor, c.items.invariant.cursor) at c.in_ok-head.ensures.item in
-    let e = rw (c.in_ok-head.ensures.cursor, c.items.invariant.cursor) at c.in_err-skip.ensures.err in
-    rw (p.1, p.2) (stop_weaker c.in_err-skip.field-0.0 (λ s f. none_by_value fit fresh item.1 (item.3 c.if-branch.false) f) e)
+pub returns-in_err-skip_value-clause-err : goal.returns-in_err-skip_value-clause-err
+returns-in_err-skip_value-clause-err c =
+    let p = err_from_is_err_and c.from_residual-in_err-skip_value.result c.from_residual-in_err-skip_value.ensures.1 in
+    let none = rw c.items.invariant.cursor at c.items.invariant.none in
+    let item = rw c.items.invariant.cursor at c.in_ok-is_named.ensures.item in
+    let e = rw (c.in_ok-is_named.ensures.cursor, c.items.invariant.cursor, c.requires.reads) at c.in_err-skip_value.ensures.err in
+    rw (p.1, p.2) (stop_weaker c.in_err-skip_value.field-0.0 (λ s f. none_leads none (not_named item.1 (item.3 c.if-branch.false)) (past_value none.fit item.1 f)) e)
 
-pub returns-in_err-behind-clause-err : goal.returns-in_err-behind-clause-err
-returns-in_err-behind-clause-err c =
-    let p = err_from_is_err_and c.from_residual-in_err-behind.result c.from_residual-in_err-behind.ensures.1 in
-    let fit = rw c.items.invariant.cursor at c.items.invariant.fit in
-    let fresh = rw c.items.invariant.cursor at c.items.invariant.fresh in
-    let item = rw (c.in_ok-head.ensures.cursor, c.items.invariant.cursor) at c.in_ok-head.ensures.item in
-    let value = rw (c.in_ok-head.ensures.cursor, c.items.invariant.cursor) at c.in_ok-skip.ensures.ok in
-    let e = rw (c.in_ok-skip.ensures.cursor, c.in_ok-head.ensures.cursor, c.items.invariant.cursor) at c.in_err-behind.ensures.err in
-    rw (p.1, p.2) (stop_weaker c.in_err-behind.field-0.0 (λ s f. none_by_byte fit fresh item.1 (item.3 c.if-branch.false) value f.0.0) e)
+pub returns-in_err-next_item-clause-err : goal.returns-in_err-next_item-clause-err
+returns-in_err-next_item-clause-err c =
+    let p = err_from_is_err_and c.from_residual-in_err-next_item.result c.from_residual-in_err-next_item.ensures.1 in
+    let none = rw c.items.invariant.cursor at c.items.invariant.none in
+    let item = rw c.items.invariant.cursor at c.in_ok-is_named.ensures.item in
+    let value = rw (c.in_ok-is_named.ensures.cursor, c.items.invariant.cursor, c.requires.reads) at c.in_ok-skip_value.ensures.ok.value in
+    let e = rw (c.in_ok-skip_value.ensures.cursor, c.in_ok-is_named.ensures.cursor, c.items.invariant.cursor) at c.in_err-next_item.ensures.err in
+    rw (p.1, p.2) (none_leads none (not_named item.1 (item.3 c.if-branch.false)) (past_byte none.fit item.1 value e.0.0))
 
 pub returns-then-not-branch-clause-no : goal.returns-then-not-branch-clause-no
 returns-then-not-branch-clause-no c = λ e.
-    let fit = rw c.items.invariant.cursor at c.items.invariant.fit in
-    let fresh = rw c.items.invariant.cursor at c.items.invariant.fresh in
-    let item = rw (c.in_ok-head.ensures.cursor, c.items.invariant.cursor) at c.in_ok-head.ensures.item in
-    let value = rw (c.in_ok-head.ensures.cursor, c.items.invariant.cursor) at c.in_ok-skip.ensures.ok in
-    let bracket = rw (c.in_ok-skip.ensures.cursor, c.in_ok-head.ensures.cursor, c.items.invariant.cursor, c.is_key-object.ensures) at (c.in_ok-behind.ensures.bracket c.if-not-branch.true) in
-    none_by_bracket fit fresh item.1 (item.3 c.if-branch.false) value bracket
+    let none = rw c.items.invariant.cursor at c.items.invariant.none in
+    let item = rw c.items.invariant.cursor at c.in_ok-is_named.ensures.item in
+    let value = rw (c.in_ok-is_named.ensures.cursor, c.items.invariant.cursor, c.requires.reads) at c.in_ok-skip_value.ensures.ok.value in
+    let end = rw (c.in_ok-skip_value.ensures.cursor, c.in_ok-is_named.ensures.cursor, c.items.invariant.cursor) at (c.in_ok-next_item.ensures.end c.if-not-branch.true) in
+    none_leads none (not_named item.1 (item.3 c.if-branch.false)) (past_byte none.fit item.1 value (λ comma. closing_no_comma c.kind_of-kind.result (sym end.0 ∙ comma)))
 
 pub overflow_add-passed : goal.overflow_add-passed
 overflow_add-passed c =
-    let few = count_below c.items.invariant.fit in
-    let later = head_later c.in_ok-head.ensures.item.1 in
-    let longer = value-longer c.in_ok-skip.ensures.ok in
-    omega (arith, few, later, longer, c.offset-end.ensures.place, c.offset-end.type_inv)
+    let few = count_below c.items.invariant.none.fit in
+    let later = head-later c.in_ok-is_named.ensures.item.1.head in
+    let comma = c.in_ok-next_item.ensures.item c.if-not-branch.false in
+    let first = after_space_later c.skip_value.new.self.text c.skip_value.new.self.place in
+    let second = after_space_later c.skip_value.new.self.text (after_space c.skip_value.new.self.text c.skip_value.new.self.place + 1) in
+    omega (arith, few, later, c.in_ok-skip_value.ensures.ok.later, comma.1, first, second, c.in_ok-next_item.ensures.fits)
 
 pub items-smaller : goal.items-smaller
 items-smaller c =
-    let later = head_later c.in_ok-head.ensures.item.1 in
-    let longer = value-longer c.in_ok-skip.ensures.ok in
-    let comma = c.in_ok-behind.ensures.comma c.if-not-branch.false in
-    let within = byte_within c.skip.new.parser.text (after_space c.skip.new.parser.text c.skip.new.parser.place) (λ z. omega (arith, comma, z)) in
-    let head : length c.head.new.parser.text ≡ length c.items.parser.text = ap (λ p. length p.text) c.in_ok-head.ensures.cursor in
-    let skip : length c.skip.new.parser.text ≡ length c.head.new.parser.text = ap (λ p. length p.text) c.in_ok-skip.ensures.cursor in
-    let behind : length c.behind.new.parser.text ≡ length c.skip.new.parser.text = ap (λ p. length p.text) c.in_ok-behind.ensures.cursor in
-    let place : c.behind.new.parser.place ≡ after_space c.skip.new.parser.text c.skip.new.parser.place + 1 = ap (λ p. p.place) c.in_ok-behind.ensures.cursor in
-    let first = after_space_later c.items.parser.text c.items.parser.place in
-    let second = after_space_later c.skip.new.parser.text c.skip.new.parser.place in
-    omega (arith, later, longer, within, head, skip, behind, place, first, second)
+    let later = head-later c.in_ok-is_named.ensures.item.1.head in
+    let comma = c.in_ok-next_item.ensures.item c.if-not-branch.false in
+    let within = byte_within c.skip_value.new.self.text (after_space c.skip_value.new.self.text c.skip_value.new.self.place) (λ z. omega (arith, comma.0, z)) in
+    let named = ap (λ p. length p.text) c.in_ok-is_named.ensures.cursor in
+    let skipped = ap (λ p. length p.text) c.in_ok-skip_value.ensures.cursor in
+    let long = ap (λ p. length p.text) c.in_ok-next_item.ensures.cursor in
+    let first = after_space_later c.skip_value.new.self.text c.skip_value.new.self.place in
+    let second = after_space_later c.skip_value.new.self.text (after_space c.skip_value.new.self.text c.skip_value.new.self.place + 1) in
+    omega (arith, later, c.in_ok-skip_value.ensures.ok.later, within, named, skipped, long, comma.1, first, second)
 
 pub items-preserved : goal.items-preserved
 items-preserved c =
-    let fit = rw c.items.invariant.cursor at c.items.invariant.fit in
-    let fresh = rw c.items.invariant.cursor at c.items.invariant.fresh in
-    let item = rw (c.in_ok-head.ensures.cursor, c.items.invariant.cursor) at c.in_ok-head.ensures.item in
-    let value = rw (c.in_ok-head.ensures.cursor, c.items.invariant.cursor) at c.in_ok-skip.ensures.ok in
-    let comma = rw (c.in_ok-skip.ensures.cursor, c.in_ok-head.ensures.cursor, c.items.invariant.cursor) at (c.in_ok-behind.ensures.comma c.if-not-branch.false) in
-    let next = next_fits fit item.1 value comma refl refl in
+    let none = rw c.items.invariant.cursor at c.items.invariant.none in
+    let item = rw c.items.invariant.cursor at c.in_ok-is_named.ensures.item in
+    let value = rw (c.in_ok-is_named.ensures.cursor, c.items.invariant.cursor, c.requires.reads) at c.in_ok-skip_value.ensures.ok.value in
+    let comma = rw (c.in_ok-skip_value.ensures.cursor, c.in_ok-is_named.ensures.cursor, c.items.invariant.cursor) at (c.in_ok-next_item.ensures.item c.if-not-branch.false) in
+    let next = next_item none.fit item.1.head value comma.0 comma.1 refl in
     record {
-      cursor = rw (c.in_ok-behind.ensures.cursor, c.in_ok-skip.ensures.cursor, c.in_ok-head.ensures.cursor, c.items.invariant.cursor) refl;
-      fit = rw (c.in_ok-behind.ensures.cursor, c.in_ok-skip.ensures.cursor, c.in_ok-head.ensures.cursor, c.items.invariant.cursor) next;
-      fresh = rw (c.in_ok-behind.ensures.cursor, c.in_ok-skip.ensures.cursor, c.in_ok-head.ensures.cursor, c.items.invariant.cursor) (still_fresh fresh item.1 (item.3 c.if-branch.false) next refl);
+      cursor = rw (c.in_ok-next_item.ensures.cursor, c.in_ok-skip_value.ensures.cursor, c.in_ok-is_named.ensures.cursor, c.items.invariant.cursor) refl;
+      none = rw (c.in_ok-next_item.ensures.cursor, c.in_ok-skip_value.ensures.cursor, c.in_ok-is_named.ensures.cursor, c.items.invariant.cursor)
+          (one_more_unnamed none item.1 (item.3 c.if-branch.false) next refl);
     }

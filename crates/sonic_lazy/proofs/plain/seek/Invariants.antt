@@ -1,14 +1,13 @@
 use Rattle.std.proofs.Common.{◌≡◌, ◌-◌, length}
-use Rattle.sonic_pointer.specs.Nodes.{node_of, is_key}
-use Rattle.sonic_parser.specs.Parsers.{due, moved}
-use Rattle.sonic_lazy.specs.Walks.{Fits, IsFresh}
+use Rattle.sonic_pointer.specs.Nodes.{node_of}
+use Rattle.sonic_parser.specs.Parsers.{moved}
+use Rattle.sonic_lazy.specs.Paths.{kind_of, NoneNamed}
 use Rattle.sonic_lazy.proofs.plain.seek.Given as goal
 
 abbrev pub invariant-items : goal.invariant-items
 invariant-items l = record {
   cursor : l.parser ≡ moved l.fn.parser l.parser.place;
-  fit : Fits l.parser.text (due l.fn.parser) (is_key (node_of l.node)) l.passed (due l.parser);
-  fresh : IsFresh l.parser.text (due l.fn.parser) (is_key (node_of l.node)) l.passed (due l.parser) (node_of l.node);
+  none : NoneNamed l.parser.text l.fn.parser.place (kind_of (node_of l.node)) l.passed l.parser.place (node_of l.node);
 }
 
 abbrev pub decreases-items : goal.decreases-items

@@ -1,11 +1,10 @@
 use Rattle.std.proofs.Common.{◌≡◌}
-use Rattle.sonic_text.specs.Places.{after_space}
 use Rattle.sonic_lazy.specs.Paths.Evaluates.{stands, cut_here}
 use Rattle.sonic_lazy.proofs.plain.stand.Goals as goal
 
 pub returns-in-Ok-clause-found : goal.returns-in-Ok-clause-found
 returns-in-Ok-clause-found c = λ i j e.
-    let start : after_space c.args.text.now c.args.place ≡ i = cc (c.skip_space.ensures.place, e) in
+    let start : c.args.place ≡ i = cc e in
     let end : c.in-Ok.end ≡ j = cc e in
     rw (← start, ← end) (stands c.in-Ok.ensures.ok)
 

@@ -1,9 +1,16 @@
+use Rattle.std.proofs.lemmas.Result.{err_from_is_err_and}
 use Rattle.sonic_text.specs.Values.IsValue.{string}
 use Rattle.sonic_text.specs.Faults.IsFault.{string_fault}
 use Rattle.sonic_parser.proofs.begin.begin_string.Goals as goal
 
-pub returns-in-Ok-clause-ok : goal.returns-in-Ok-clause-ok
-returns-in-Ok-clause-ok c = (c.in-Ok.ensures.ok.0, c.in-Ok.ensures.ok.1, string c.in-Ok.ensures.ok.3)
+pub returns-in_err-string-clause-err : goal.returns-in_err-string-clause-err
+returns-in_err-string-clause-err c =
+    let p = err_from_is_err_and c.from_residual.result c.from_residual.ensures.1 in
+    rw (p.1, p.2) (string_fault c.requires c.in_err-string.ensures.err)
 
-pub returns-in-Err-clause-err : goal.returns-in-Err-clause-err
-returns-in-Err-clause-err c = string_fault c.requires.quote c.in-Err.ensures.err
+pub returns-clause-ok : goal.returns-clause-ok
+returns-clause-ok c =
+    let ok = c.in_ok-string.ensures.ok in
+    let (f, g) = c.of_string-status.ensures in
+    let (k, l) = c.in_ok-string.ensures.escaped in
+    record { later = ok.0; within = ok.1; value = string ok.3; status = (λ e. k (f e), λ e. g (l e)) }

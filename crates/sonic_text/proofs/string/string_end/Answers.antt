@@ -17,6 +17,11 @@ chars-init c =
       found = (λ e. absurd (cc), λ h. absurd (omega (arith, h.1, h.2)));
     }
 
+pub returns-then-byte-eq34-clause-escaped : goal.returns-then-byte-eq34-clause-escaped
+returns-then-byte-eq34-clause-escaped c =
+    let (f, g) = c.chars.invariant.found in
+    (λ e. (let (k, a, b, d) = f e in (c.requires, k, a, omega arith, d)), λ (q, k, a, b, d). g (k, a, omega arith, d))
+
 pub returns-then-byte-lt32-clause-err : goal.returns-then-byte-lt32-clause-err
 returns-then-byte-lt32-clause-err c = control_char c.chars.invariant.fits.1 (omega arith) c.stop_at.ensures
 

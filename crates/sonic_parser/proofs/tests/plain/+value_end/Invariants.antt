@@ -6,7 +6,7 @@ abbrev pub decreases-value_end : goal.decreases-value_end
 decreases-value_end l = length l.text.now - l.start
 
 abbrev pub invariant-items : goal.invariant-items
-invariant-items l = IsDue l.object l.lossy l.text l.start l.place
+invariant-items l = IsDue l.kind l.lossy l.text l.start l.place
 
 abbrev pub decreases-items : goal.decreases-items
 decreases-items l = length l.text - l.place

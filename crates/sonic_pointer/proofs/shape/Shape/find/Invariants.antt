@@ -1,5 +1,5 @@
 use Rattle.std.proofs.Common.{◌-◌, ◌<◌, ◌≤◌, length, get_or, ℕ}
-use Rattle.sonic_text.specs.Trees.{Node}
+use Rattle.sonic_text.specs.Paths.{Node}
 use Rattle.sonic_pointer.specs.Tries.{IsBefore}
 use Rattle.sonic_pointer.specs.Wanted.{Stands}
 use Rattle.sonic_pointer.specs.Shapes.{shape_labels}

@@ -1,6 +1,6 @@
 use Rattle.std.proofs.Common.{◌≡◌, length, refl, ap, ◌∙◌, subst, arith}
 use Rattle.std.proofs.lemmas.List.{get_or-map, length-map}
-use Rattle.sonic_text.specs.Trees.{index}
+use Rattle.sonic_text.specs.Paths.{index}
 use Rattle.sonic_pointer.specs.Nodes.{node_of, path_of}
 use Rattle.sonic_pointer.specs.Tries.{Entry, entry_at}
 use Rattle.sonic_pointer.specs.Shapes.{entries_of, IsLeaving}

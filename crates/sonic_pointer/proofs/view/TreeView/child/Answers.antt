@@ -1,6 +1,6 @@
 use Rattle.std.proofs.Common.{◌≡◌, ◌∷◌, ◌++◌, [], Some, length, slice_get, sym, ap, ◌∙◌, arith}
 use Rattle.std.proofs.lemmas.Option.{slice_get-get_or}
-use Rattle.sonic_text.specs.Trees.{index}
+use Rattle.sonic_text.specs.Paths.{index}
 use Rattle.sonic_pointer.specs.Nodes.{node_of}
 use Rattle.sonic_pointer.specs.Tries.{Entry, entry_at, front_at}
 use Rattle.sonic_pointer.specs.Shapes.{entries_of, shape_spots, shape_labels}

@@ -1,6 +1,6 @@
 use Rattle.std.proofs.Common.{Some, None, Option, IfNone, refl}
 use Rattle.std.proofs.lemmas.Option.{IfSome_then}
-use Rattle.sonic_text.specs.Trees.{key}
+use Rattle.sonic_text.specs.Paths.{key}
 use Rattle.sonic_pointer.proofs.view.TreeView.of_key.Goals as goal
 
 IfNone_then : {X P Q : Type 0} (r : Option X) → IfNone r P → (P → Q) → IfNone r Q

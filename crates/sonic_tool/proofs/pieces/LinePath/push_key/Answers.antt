@@ -1,7 +1,7 @@
 use Rattle.std.proofs.Common.{arith, ap, ◌∙◌, ◌++◌, ◌∷◌, []}
 use Rattle.std.proofs.lemmas.Grind.{common_steps}
-use Rattle.sonic_text.specs.Trees.{key}
-use Rattle.sonic_tool.proofs.LineStrings.{string_utf8}
+use Rattle.sonic_text.specs.Paths.{key}
+use Rattle.sonic_text.proofs.StringTexts.{string_utf8}
 use Rattle.sonic_tool.proofs.LinePieces.{key_pieces, key_nodes, succeeded}
 use Rattle.sonic_tool.proofs.pieces.LinePath.push_key.Goals as goal
 

@@ -1,0 +1,14 @@
+use Rattle.std.proofs.Common.{arith}
+use Rattle.std.proofs.lemmas.List.{length-map}
+use Rattle.std.specs.Prelude.{option_map}
+use Rattle.sonic_lazy.specs.Located.{span_at}
+use Rattle.sonic_lazy.proofs.Filling.{fill_mapped}
+use Rattle.sonic_lazy.proofs.state.Walk.keep.Goals as goal
+
+pub fill-requires : goal.fill-requires
+fill-requires c = λ k h.
+    let known = rw (← c.self.view_is) at (c.requires.known k h) in
+    omega (arith, known, length-map c.self.inside.spans.items (option_map span_at))
+
+pub returns-clause-filled : goal.returns-clause-filled
+returns-clause-filled c = rw (← c.self.view_is, ← c.offset-end.ensures.place) (fill_mapped span_at c.fill.ensures)

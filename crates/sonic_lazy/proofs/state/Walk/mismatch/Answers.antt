@@ -1,0 +1,22 @@
+use Rattle.std.proofs.Common.{◌∙◌, ap, refl, arith}
+use Rattle.sonic_text.proofs.Values.{value-longer}
+use Rattle.sonic_lazy.proofs.Entering.{no_entry_by_kind, no_entry_by_fault}
+use Rattle.sonic_lazy.proofs.Stopping.{stop_weaker}
+use Rattle.sonic_lazy.proofs.state.Walk.mismatch.Goals as goal
+
+pub returns-in-Err : goal.returns-in-Err
+returns-in-Err c = stop_weaker c.in-Err.fault (λ s f. no_entry_by_fault f c.requires) c.in-Err.ensures.err
+
+pub overflow_sub-place : goal.overflow_sub-place
+overflow_sub-place c =
+    let later = value-longer c.in_default.ensures.value in
+    let place = c.offset-place.ensures.place ∙ ap (λ walk. walk.place) c.self-2.view_is in
+    omega (arith, later, place)
+
+pub returns : goal.returns
+returns c =
+    let place = c.offset-place.ensures.place ∙ ap (λ walk. walk.place) c.self-2.view_is in
+    let found = rw (c.text.ensures, c.offset.ensures.place) at c.type_at-found.ensures in
+    let kind = rw (← c.self.view_is) at c.requires in
+    let value = rw (← place) at c.in_default.ensures.value in
+    no_entry_by_kind value c.requires (rw (c.wanted_of-wanted.ensures, ← c.self.view_is, found) refl)

@@ -1,0 +1,244 @@
+// What a walk through a text has come to, and its steps through the text.
+ghost use Rattle.std.specs.Prelude.{◌≡◌, ◌≢◌, ◌<◌, ◌≤◌, ◌+◌, ◌-◌, ◌^◌, ℕ, List, None, true, false, length, replicate, IfOk, IfErr, OnOk};
+ghost use Rattle.std.specs.List.{Contains};
+ghost use Rattle.sonic_error.specs.declared.code.ErrorCode.TheVariants.{Message};
+ghost use Rattle.sonic_text.specs.Places.{byte, after_space};
+ghost use Rattle.sonic_text.specs.Strings.{IsString, strict};
+ghost use Rattle.sonic_text.specs.Values.{opening, IsValue, IsKey, ItemsFit};
+ghost use Rattle.sonic_text.specs.Faults.{IsFault, IsKeyFault};
+ghost use Rattle.sonic_parser.specs.Containers.{IsEnd, IsSeparated, IsSeparatorFault};
+ghost use Rattle.sonic_parser.specs.Faults.{IsStopFor};
+ghost use Rattle.sonic_lazy.specs.Located.{IsStatus, AreMarked, spans_of};
+ghost use Rattle.sonic_lazy.specs.Paths.{type_at, empty_code, wanted_of};
+ghost use Rattle.sonic_lazy.specs.Walks.{IsNoEntry, IsFilled};
+
+use crate::located::Located;
+use sonic_error::{ErrorCode, JsonType, Note, Wanted};
+use sonic_parser::{Fault, ParseStatus, Parser};
+use sonic_text::{Kind, Stop, byte_at};
+use std::alloc::{AllocError, Global};
+use std::marker::Model;
+
+// A parser that stands where a walk has come to, and what the walk's paths have found so far.
+#[derive(Drop)]
+pub(crate) struct Walk<'de> {
+    alloc: Global,
+    parser: Parser<'de>,
+    // The value that each path found.
+    spans: Vec<Option<Located>>,
+    // Whether some path lacks its key.
+    lacking: bool,
+}
+
+impl<'de> Model for Walk<'de> {
+    ghost use Rattle.sonic_lazy.specs.Walks.{Walking};
+
+    ghost Value = { Walking };
+
+    ghost use Rattle.sonic_lazy.specs.Views.{walking_of, IsWalk};
+
+    ghost view = { walking_of };
+
+    ghost invariant = { IsWalk };
+}
+
+impl<'de> Walk<'de> {
+    // A walk that begins where the parser stands, for this many paths.
+    pub(crate) fn new(
+        alloc: Global,
+        parser: Parser<'de>,
+        size: usize,
+    ) -> Result<Walk<'de>, AllocError>
+        requires { parser.lossy ≡ strict }
+        ensures text { IfOk result (λ walk. walk.text ≡ parser.entry.text) }
+        ensures place { IfOk result (λ walk. walk.place ≡ parser.entry.place) }
+        ensures findings { IfOk result (λ walk.
+            walk.findings ≡ record { spans = replicate size None; lacking = false }) }
+    {
+        let spans = vec![in alloc; None; size]?;
+        let lacking = false;
+        Ok(Walk {
+            alloc,
+            parser,
+            spans,
+            lacking,
+        })
+    }
+
+    // The place that the walk has come to.
+    pub(crate) fn place(&self) -> usize
+        ensures place { result ≡ self.now.place }
+        ensures inside { result ≤ length self.now.text }
+    {
+        self.parser.offset()
+    }
+
+    // The whole text.
+    pub(crate) fn text(&self) -> &'de [u8]
+        ensures { result.now ≡ self.now.text }
+    {
+        self.parser.text()
+    }
+
+    // The allocator that its memory comes from.
+    pub(crate) fn alloc(&self) -> Global {
+        self.alloc
+    }
+
+    // Whether some path lacks its key.
+    pub(crate) fn lacks_key(&self) -> bool
+        ensures { result ≡ self.now.findings.lacking }
+    {
+        self.lacking
+    }
+
+    // Skips the value that stands here.
+    pub(crate) fn skip(&mut self) -> Result<ParseStatus, Fault>
+        ensures value { OnOk result (IsValue strict self.old.text self.old.place self.new.place) }
+        ensures status { IfOk result (λ status.
+            IsStatus self.old.text self.old.place self.new.place status) }
+        ensures moved { OnOk result (self.new ≡ record self.old { place = self.new.place }) }
+        ensures err { IfErr result (IsStopFor (λ s. IsFault strict self.old.text self.old.place s)) }
+    {
+        self.parser.skip_value(self.alloc)
+    }
+
+    // Enters the container of this kind that stands here, up to its first item.
+    pub(crate) fn enter(&mut self, kind: Kind) -> Result<(), Fault>
+        ensures ok { OnOk result (ItemsFit strict self.old.text kind self.old.place 0 self.new.place) }
+        ensures moved { OnOk result (self.new ≡ record self.old { place = self.new.place }) }
+        ensures err { IfErr result (IsStopFor (IsNoEntry self.old.text self.old.place kind)) }
+    {
+        let start = self.parser.offset();
+        if byte_at(self.parser.text(), start) != kind.opening() {
+            return Err(self.mismatch(kind));
+        }
+        if self.parser.enter(kind) {
+            return Ok(());
+        }
+        let bracket = self.parser.offset() - 1;
+        let code = empty_code(kind);
+        Err(Fault::At(Stop {
+            place: bracket,
+            code,
+        }))
+    }
+
+    // Why the value that stands here is no container of this kind.
+    fn mismatch(&mut self, kind: Kind) -> Fault
+        requires { byte self.old.text self.old.place ≢ opening kind }
+        ensures { IsStopFor (IsNoEntry self.old.text self.old.place kind) result }
+    {
+        let found = type_at(self.parser.text(), self.parser.offset());
+        if let Err(fault) = self.skip() {
+            return fault;
+        }
+        let place = self.parser.offset() - 1;
+        let wanted = wanted_of(kind);
+        let code = ErrorCode::Message(Note::Mismatch { found, wanted });
+        Fault::At(Stop { place, code })
+    }
+
+    // Goes on after an item of a container of this kind: whether another one comes.
+    pub(crate) fn next_item(&mut self, kind: Kind) -> Result<bool, Stop>
+        ensures item { IfOk result (λ more. more ≡ true
+            → IsSeparated self.old.text self.old.place self.new.place) }
+        ensures end { IfOk result (λ more. more ≡ false
+            → IsEnd self.old.text kind self.old.place self.new.place) }
+        ensures moved { self.new ≡ record self.old { place = self.new.place } }
+        ensures fits { OnOk result (self.new.place < 2 ^ 64) }
+        ensures err { IfErr result (λ s. IsSeparatorFault self.old.text kind self.old.place s) }
+    {
+        self.parser.next_item(kind)
+    }
+
+    // Passes the key that stands here, up to the member's value, and gives the key's end.
+    pub(crate) fn key(&mut self) -> Result<usize, Stop>
+        ensures ok { IfOk result (λ end. (b : List ℕ)
+            × IsString strict self.old.text self.old.place end b
+            × IsKey strict self.old.text self.old.place self.new.place b) }
+        ensures moved { self.new ≡ record self.old { place = self.new.place } }
+        ensures err { IfErr result (λ s. IsKeyFault strict self.old.text self.old.place s) }
+    {
+        Ok(self.parser.key()?.end)
+    }
+
+    // Keeps the value that was read from `start` up to here for the paths of these numbers.
+    pub(crate) fn keep(&mut self, orders: &[usize], start: usize, status: ParseStatus)
+        requires known { (k : ℕ) → Contains orders.now k → k < length self.old.findings.spans }
+        requires status { IsStatus self.old.text start self.old.place status }
+        ensures filled { IsFilled orders.now self.old.findings.spans self.new.findings.spans
+            (start, self.old.place) }
+        ensures kept { self.new ≡ record self.old {
+          findings =
+              record self.old.findings { spans = self.new.findings.spans };
+        } }
+    {
+        let end = self.parser.offset();
+        fill(&mut self.spans, orders, Located { start, end, status });
+    }
+
+    // Notes that some path lacks its key.
+    pub(crate) fn note_lack(&mut self)
+        ensures { self.new ≡ record self.old {
+          findings =
+              record self.old.findings { lacking = true };
+        } }
+    {
+        self.lacking = true;
+    }
+
+    // The value that each path found.
+    pub(crate) fn into_spans(self) -> Vec<Option<Located>>
+        ensures spans { spans_of result.items ≡ self.entry.findings.spans }
+        ensures marked { AreMarked self.entry.text result.items }
+    {
+        let Walk { spans, parser, .. } = self;
+        spans
+    }
+}
+
+// Keeps a value for the paths of these numbers.
+#[tactic(auto, using(crate::proofs::Filling::fillings))]
+fn fill(spans: &mut Vec<Option<Located>>, orders: &[usize], value: Located)
+    requires { (k : ℕ) → Contains orders.now k → k < length spans.old.items }
+    ensures { IsFilled orders.now spans.old.items spans.new.items value }
+{
+    for order in orders {
+        spans[*order] = Some(value);
+    }
+}
+
+// The code for an empty container.
+pub(crate) fn empty_code(kind: Kind) -> ErrorCode
+    ensures { result ≡ empty_code kind }
+{
+    match kind {
+        Kind::Array => ErrorCode::GetInEmptyArray,
+        Kind::Object => ErrorCode::GetInEmptyObject,
+    }
+}
+
+// What is wanted where a container is.
+pub(crate) fn wanted_of(kind: Kind) -> Wanted
+    ensures { result ≡ wanted_of kind }
+{
+    match kind {
+        Kind::Array => Wanted::Array,
+        Kind::Object => Wanted::Object,
+    }
+}
+
+// The type of the value that stands at a place, by its first byte.
+pub(crate) fn type_at(text: &[u8], place: usize) -> JsonType
+    ensures { result ≡ type_at text.now place }
+{
+    match byte_at(text, place) {
+        b'n' => JsonType::Null,
+        b't' | b'f' => JsonType::Boolean,
+        b'"' => JsonType::String,
+        b'[' => JsonType::Array,
+        b'{' => JsonType::Object,
+        _ => JsonType::Number,
+    }
+}

@@ -1,0 +1,84 @@
+// The syntax of containers: what comes before the first item, before a member's value, and after
+// an item.
+ghost use Rattle.std.specs.Prelude.{◌≡◌, ◌<◌, ◌≤◌, ◌↔◌, ℕ, List, length, IfOk, IfErr, IsTrue};
+ghost use Rattle.sonic_text.specs.Places.{byte};
+ghost use Rattle.sonic_text.specs.Strings.{IsString, IsEscapedString};
+ghost use Rattle.sonic_text.specs.Values.{opening, IsKey};
+ghost use Rattle.sonic_text.specs.Faults.{IsKeyFault};
+ghost use Rattle.sonic_parser.specs.Containers.{IsFirst, IsNext, IsSeparatorFault};
+
+use sonic_error::ErrorCode;
+use sonic_text::{Kind, Stop, StringEnd, byte_at, skip_space, stop_at, string_end};
+
+// How a container goes on.
+#[derive(Clone, Copy)]
+pub(crate) enum Next {
+    // With an item, which is due here.
+    Item(usize),
+    // With its closing bracket, which ends here.
+    End(usize),
+}
+
+// How the container goes on whose bracket stands at a place.
+#[inline]
+pub(crate) fn first_item(text: &[u8], place: usize, kind: Kind) -> Next
+    requires within { place ≤ length text.now }
+    requires bracket { byte text.now place ≡ opening kind }
+    ensures { IsFirst text.now kind place result }
+{
+    let first = skip_space(text, place + 1);
+    if byte_at(text, first) == kind.closing() {
+        Next::End(first + 1)
+    } else {
+        Next::Item(first)
+    }
+}
+
+// How a container goes on after the item whose value ended at a place.
+#[inline]
+pub(crate) fn next_item(text: &[u8], end: usize, kind: Kind) -> Result<Next, Stop>
+    requires { end ≤ length text.now }
+    ensures ok { IfOk result (λ next. IsNext text.now kind end next) }
+    ensures err { IfErr result (λ s. IsSeparatorFault text.now kind end s) }
+{
+    let place = skip_space(text, end);
+    let byte = byte_at(text, place);
+    if byte == b',' {
+        Ok(Next::Item(skip_space(text, place + 1)))
+    } else if byte == kind.closing() {
+        Ok(Next::End(place + 1))
+    } else {
+        Err(stop_at(text, place, kind.code_after_item()))
+    }
+}
+
+// The key of a member, and where the member's value is due.
+#[derive(Clone, Copy)]
+pub(crate) struct KeyEnd {
+    pub(crate) string: StringEnd,
+    pub(crate) value: usize,
+}
+
+// The key that is due at a place, with the colon after it.
+#[inline]
+#[tactic(auto, using(crate::proofs::Rules::keys))]
+pub(crate) fn key_end(text: &[u8], place: usize, lossy: bool) -> Result<KeyEnd, Stop>
+    requires { place ≤ length text.now }
+    ensures within { IfOk result (λ key. (place < key.value) × (key.value ≤ length text.now)) }
+    ensures ok { IfOk result (λ key. (b : List ℕ)
+        × IsString lossy text.now place key.string.end b × IsKey lossy text.now place key.value b) }
+    ensures escaped { IfOk result (λ key.
+        IsTrue key.string.escaped ↔ IsEscapedString text.now place key.string.end) }
+    ensures err { IfErr result (λ s. IsKeyFault lossy text.now place s) }
+{
+    if byte_at(text, place) != b'"' {
+        return Err(stop_at(text, place, ErrorCode::ExpectObjectKeyOrEnd));
+    }
+    let string = string_end(text, place, lossy)?;
+    let colon = skip_space(text, string.end);
+    if byte_at(text, colon) != b':' {
+        return Err(stop_at(text, colon, ErrorCode::ExpectedColon));
+    }
+    let value = skip_space(text, colon + 1);
+    Ok(KeyEnd { string, value })
+}
