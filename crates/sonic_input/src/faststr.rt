@@ -85,6 +85,7 @@ impl FastStr {
     pub fn as_str(&self) -> &str
         ensures { result.now ≡ self.now }
     {
+        // SAFETY: that the bytes are UTF-8 is an invariant of the type.
         unsafe { std::str::from_utf8_unchecked(self.bytes.as_slice()) }
     }
 

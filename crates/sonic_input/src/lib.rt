@@ -1,14 +1,22 @@
 //! The texts that JSON is read from: shared text, slices of an input, and a cursor over one.
 #![tactic(auto)]
 
+// Text that several owners share.
 mod faststr;
+// The kinds of input that JSON is read from.
 mod input;
+// Want of memory, as an error.
 mod memory;
+// The cursor that a parser reads an input with.
 mod read;
+// A part of shared bytes.
 mod shared;
+// A part of an input, borrowed from it.
 mod slice;
+// Worked examples of inputs and slices.
 #[cfg(test)]
 mod tests;
+// Worked examples of the cursor.
 #[cfg(test)]
 mod tests_read;
 

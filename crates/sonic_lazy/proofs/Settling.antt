@@ -1,6 +1,6 @@
 -- What is known of a level of a walk, and what its stops and its ends say of the paths.
 use Rattle.std.proofs.Common.{◌≡◌, ◌≢◌, ◌⊎◌, inl, inr, ℕ, ◌+◌, ◌<◌, List, [], ◌∷◌, ◌++◌, Bool, true, false, length, get_or, arith}
-use Rattle.std.specs.Prelude.{Some, slice_get}
+use Rattle.std.specs.Prelude.{Option, Some, None, IfSome, slice_get}
 use Rattle.std.proofs.lemmas.Bool.{cases_order}
 use Rattle.std.proofs.lemmas.Option.{slice_get_within, slice_get-get_or, get_or_from_slice_get}
 use Rattle.sonic_text.specs.declared.kind.Kind.TheVariants.{Object}
@@ -15,7 +15,7 @@ use Rattle.sonic_pointer.specs.Paths.{HasNext, IsChildren}
 use Rattle.sonic_parser.specs.Containers.{IsSeparatorFault}
 use Rattle.sonic_lazy.specs.Paths.{fails, cut, IsNamed, LeadsOn, Evaluates}
 use Rattle.sonic_lazy.specs.Paths.Evaluates.{cut_before}
-use Rattle.sonic_lazy.specs.Walks.{Findings, IsPath, IsSettled, IsNeeded, IsStop, faulty, Here, IsHere, IsLevel, IsNotOpen, IsPassed, IsBefore, IsBehind}
+use Rattle.sonic_lazy.specs.Walks.{Findings, IsPath, IsSettled, IsNeeded, IsStop, faulty, Here, IsHere, IsLevel, IsNotOpen, IsChildOf, IsPassed, IsBefore, IsBehind}
 use Rattle.sonic_lazy.proofs.Marked.{some_there, open_or_met}
 use Rattle.sonic_lazy.proofs.Nodes.{none_leads, one_more_unnamed}
 use Rattle.sonic_lazy.proofs.OnePath.{evaluates_one}
@@ -194,7 +194,7 @@ pass {v = v} {node = node} b head closed x = record {
 }
 
 -- a child that was met before is no child that was not
-pub met_closed : {a : Here} {node : Node} (marks : List Bool) (c : ℕ) → IsHere a → slice_get a.children c ≡ Some node → slice_get marks c ≡ Some true
+met_closed : {a : Here} {node : Node} (marks : List Bool) (c : ℕ) → IsHere a → slice_get a.children c ≡ Some node → slice_get marks c ≡ Some true
     → IsNotOpen a marks node
 met_closed {node = node} marks c here is met = λ d unmet other.
     let same : d ≡ c = child_one d c node here.children other is in
@@ -203,8 +203,20 @@ met_closed {node = node} marks c here is met = λ d unmet other.
     absurd cc
 
 -- nor is a node that is no child
-pub no_child_closed : {a : Here} {node : Node} (marks : List Bool) → IsHere a → ¬ HasNext a.paths a.front node → IsNotOpen a marks node
+no_child_closed : {a : Here} {node : Node} (marks : List Bool) → IsHere a → ¬ HasNext a.paths a.front node → IsNotOpen a marks node
 no_child_closed {a} {node = node} marks here none = λ d unmet other.
     let within = slice_get_within a.children d node other in
     let there = get_or_from_slice_get a.children d node node other in
     none ((here.children.exact node).0 (d, within, there))
+
+-- so an item whose child was met, if it has one, is none that was not
+pub closed : {a : Here} {node : Node} (marks : List Bool) (child : Option ℕ) → IsHere a → IsChildOf a child node → IfSome child (λ c. slice_get marks c ≡ Some true)
+    → IsNotOpen a marks node
+closed marks (Some c) here is met = met_closed marks c here is met
+closed marks None here none met = no_child_closed marks here none
+
+-- the child of an item has a mark
+pub child_within : (a : Here) (node : Node) (marks : List Bool) (child : Option ℕ) → length marks ≡ length a.children → IsChildOf a child node
+    → IfSome child (λ c. c < length marks)
+child_within a node marks (Some c) long is = (let within = slice_get_within a.children c node is in omega arith)
+child_within a node marks None long none = tt

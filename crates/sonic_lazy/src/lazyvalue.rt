@@ -66,6 +66,7 @@ impl<'a> LazyValue<'a> {
     fn text(&self) -> &'a str
         ensures { result.now ≡ raw_bytes self.now }
     {
+        // SAFETY: that the bytes are UTF-8 is a part of `whole`, an invariant of the type.
         unsafe { std::str::from_utf8_unchecked(self.raw.bytes()) }
     }
 }

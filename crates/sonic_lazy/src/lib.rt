@@ -1,20 +1,32 @@
 //! Lazy values, and what paths of keys and indexes find in a text.
 #![tactic(auto)]
 
+// The answer of a list of paths.
 mod answer;
+// The lazy value of a span that was found.
 mod entry;
+// The laws of outcomes and answers.
 mod law;
+// One value that was found in a text and isn't read yet.
 mod lazyvalue;
+// Where a value was found, and what it needs.
 mod located;
+// What many paths find in an input.
 mod many;
+// Which children of a tree's place were met.
 mod marks;
+// The plain program, which follows each path by itself.
 #[cfg(test)]
 mod plain;
+// Worked examples of look-ups, over each kind of input.
 #[cfg(test)]
 mod rows;
+// What a walk has come to, and its steps through the text.
 mod state;
+// Worked examples of lazy values.
 #[cfg(test)]
 mod tests;
+// One walk that finds what all paths of a tree lead to.
 mod walk;
 
 pub use law::{

@@ -19,7 +19,7 @@ use std::alloc::{AllocError, Global};
 
 // The values that the paths of a tree find, in their order, with `None` for one that lacks its key.
 //
-// The input is read once, and no further than the paths need it.
+// What stands behind the last byte that the paths need plays no part.
 pub(crate) fn find_many<'de, I: JsonInput<'de>>(
     alloc: Global,
     json: I,
@@ -76,10 +76,10 @@ fn value<'de, I: JsonInput<'de>>(json: I, located: Option<Located>) -> Option<La
 
 /// What the paths of a tree lead to, in the order in which they were added.
 ///
-/// It is `None` for a path whose key a non-empty object lacks, and then the text was read whole.
-/// Otherwise the text is read once, from the left, and no further than the paths need it, so what
-/// stands behind may be anything. Of equal keys the first counts. The nearest place at which a
-/// path leads nowhere is the error, or the fault of the text.
+/// It is `None` for a path whose key an object with members lacks, and then the root is a whole
+/// value. What stands behind the last byte that the paths need may be anything. Of equal keys the
+/// first counts. The nearest place at which a path leads nowhere is the error, or the fault of the
+/// text.
 ///
 /// With the paths `["a"]`, `["b"]` and `["c", 1]` over `{"a":1,"c":[2,3]}` it is the values `1`,
 /// none and `3`.

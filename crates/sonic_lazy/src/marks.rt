@@ -1,5 +1,5 @@
 // Which children of a tree's place were met.
-ghost use Rattle.std.specs.Prelude.{◌≡◌, ◌<◌, ◌+◌, ℕ, Some, true, false, length, set, slice_get, IfOk};
+ghost use Rattle.std.specs.Prelude.{◌≡◌, ◌<◌, ◌+◌, ℕ, Some, true, false, length, set, slice_get, IfOk, IfSome, IfNone};
 ghost use Rattle.sonic_lazy.specs.Walks.{SomeOpen};
 
 use std::alloc::{AllocError, Global};
@@ -32,12 +32,16 @@ impl Marks {
         Ok(Marks { met, left: count })
     }
 
-    // Whether the child is met.
-    pub(crate) fn is_met(&self, child: usize) -> bool
-        requires { child < length self.now }
-        ensures { slice_get self.now child ≡ Some result }
+    // The child, if there is one that is not met yet.
+    pub(crate) fn unmet(&self, child: Option<usize>) -> Option<usize>
+        requires { IfSome child (λ c. c < length self.now) }
+        ensures some { IfSome result (λ c. (child ≡ Some c) × (slice_get self.now c ≡ Some false)) }
+        ensures none { IfNone result (IfSome child (λ c. slice_get self.now c ≡ Some true)) }
     {
-        self.met[child]
+        match child {
+            Some(child) if !self.met[child] => Some(child),
+            _ => None,
+        }
     }
 
     // Meets a child.

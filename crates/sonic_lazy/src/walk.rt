@@ -172,19 +172,12 @@ fn item(
     ensures err { IfErr result (IsStopFor (IsStop walk.old.text level.now.view.now.paths
         level.now.view.now.front level.now.start level.now.needs)) }
 {
-    match head(walk, level, passed)? {
-        Some(child) => {
-            if marks.is_met(child) {
-                walk.skip()?;
-                return Ok(true);
-            }
-            meet(walk, level, marks, child)
-        }
-        None => {
-            walk.skip()?;
-            Ok(true)
-        }
-    }
+    let child = head(walk, level, passed)?;
+    let Some(unmet) = marks.unmet(child) else {
+        walk.skip()?;
+        return Ok(true);
+    };
+    meet(walk, level, marks, unmet)
 }
 
 // Whether more is needed of a level: its end, or a child.

@@ -6,7 +6,7 @@ use std::alloc::AllocError;
 pub enum PathError {
     /// An earlier path has an equal front, and then a node of the other kind.
     Mixed,
-    /// The path has more than 255 nodes.
+    /// The path has more than [`MAX_NODES`](crate::MAX_NODES) nodes.
     TooLong,
     /// Memory was wanting.
     NoMemory,

@@ -1,22 +1,34 @@
 //! Paths of keys and indexes, and trees that hold a list of them.
 #![tactic(auto)]
 
+// What follows a front.
 mod branch;
+// A path more in a tree: all memory is taken before anything changes.
 mod commit;
+// Why a tree refuses a path.
 mod fault;
+// `pointer!`.
 mod macros;
+// The steps of a path.
 mod node;
+// Copies of paths.
 mod owned;
+// The places of a tree.
 mod place;
+// A tree as its calls read it.
 mod shape;
+// Worked examples of trees, and trees with many siblings.
 #[cfg(test)]
 mod tests;
+// Trees of paths.
 mod tree;
+// Places of a tree, as callers see them.
 mod view;
+// A node that is looked for.
 mod wanted;
 
 pub use branch::Branch;
 pub use fault::PathError;
 pub use node::PointerNode;
-pub use tree::PointerTree;
+pub use tree::{MAX_NODES, PointerTree};
 pub use view::TreeView;

@@ -7,14 +7,14 @@ use crate::node::PointerNode;
 use std::alloc::{AllocError, Global};
 use std::marker::Model;
 
-#[derive(Drop)]
+#[derive(Debug, Drop)]
 enum OwnedNode {
     Key(String),
     Index(usize),
 }
 
 // A path that owns its keys, seen as the nodes that it stands for.
-#[derive(Drop)]
+#[derive(Debug, Drop)]
 pub(crate) struct OwnedPath {
     nodes: Vec<OwnedNode>,
 }

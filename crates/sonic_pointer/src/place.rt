@@ -6,7 +6,7 @@ use std::alloc::{AllocError, Global};
 use std::marker::Model;
 
 // A place of a tree: its front is the first `depth` nodes of the path with the number `path`.
-#[derive(Drop)]
+#[derive(Debug, Drop)]
 pub(crate) struct Place {
     path: usize,
     depth: usize,

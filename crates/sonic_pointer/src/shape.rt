@@ -104,12 +104,8 @@ impl<'t> Shape<'t> {
         for (depth, node) in path.iter().enumerate() {
             match self.find(at, &Wanted::Node(*node)) {
                 Ok(i) => at = self.place(at).children()[i],
-                Err(place) => {
-                    if self.mixes(at, *node) {
-                        return Err(PathError::Mixed);
-                    }
-                    return Ok(Leaving { at, depth, place });
-                }
+                Err(_) if self.mixes(at, *node) => return Err(PathError::Mixed),
+                Err(place) => return Ok(Leaving { at, depth, place }),
             }
         }
         Ok(Leaving {

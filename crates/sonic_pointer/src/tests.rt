@@ -175,7 +175,7 @@ fn keeps_repeated_and_empty_paths(rt: HostRuntime) {
         &pointer![3, 1],
         PathError::Mixed,
     );
-    assert_eq!(rt; tree.size(), 5);
+    assert_eq!(rt; tree.size(), 5, "{tree:?}");
     check(&rt, &tree, &pointer![], &[0, 3], Branch::Indexes, 2);
     check(&rt, &tree, &pointer![1], &[], Branch::Indexes, 1);
     check(&rt, &tree, &pointer![3], &[], Branch::Keys, 1);

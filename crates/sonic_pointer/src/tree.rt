@@ -16,7 +16,8 @@ use std::marker::Model;
 
 /// A list of paths, kept so that all of them can be followed at once.
 ///
-/// Paths may repeat. A clause sees the list; each path in it has its number from 0 on.
+/// Paths may repeat. A clause sees the list; each path in it has its number from 0 on. The text
+/// that `Debug` prints isn't promised.
 ///
 /// ```text
 /// let mut tree = PointerTree::new(alloc);
@@ -25,7 +26,7 @@ use std::marker::Model;
 /// assert_eq!(rt; tree.size(), 2);
 /// assert_eq!(rt; tree.add_path(alloc, &pointer!["a", "b"]), Err(PathError::Mixed));
 /// ```
-#[derive(Drop)]
+#[derive(Debug, Drop)]
 pub struct PointerTree {
     paths: Vec<OwnedPath>,
     root: Place,
@@ -45,8 +46,8 @@ impl Model for PointerTree {
     ghost invariant = { IsKept };
 }
 
-// The most nodes that a path of a tree has.
-const LIMIT: usize = 255;
+/// The most nodes that a path of a tree has.
+pub const MAX_NODES: usize = 255;
 
 impl PointerTree {
     /// The tree of no path. It takes no memory.
@@ -62,9 +63,9 @@ impl PointerTree {
 
     /// Appends the path, whose number is the size so far.
     ///
-    /// It is refused, first, with more than 255 nodes. Then the nodes that follow one front have
-    /// to be of one kind: after `["a", 1]` the path `["a", "b"]` is `Mixed`, and `["a"]` isn't.
-    /// A refused path changes nothing.
+    /// It is refused, first, with more than `MAX_NODES` nodes. Then the nodes that follow one front
+    /// have to be of one kind: after `["a", 1]` the path `["a", "b"]` is `Mixed`, and `["a"]`
+    /// isn't. A refused path changes nothing.
     pub fn add_path(&mut self, alloc: Global, path: &[PointerNode<'_>]) -> Result<(), PathError>
         ensures ok { OnOk result (self.new ≡ self.old ++ path_of path.now ∷ []) }
         ensures err { OnErr result (self.new ≡ self.old) }
@@ -72,7 +73,7 @@ impl PointerTree {
         ensures mixed { (result ≡ Err PathError.Mixed)
             ↔ ((length path.now ≤ 255) × IsMixed self.old (path_of path.now)) }
     {
-        if path.len() > LIMIT {
+        if path.len() > MAX_NODES {
             return Err(PathError::TooLong);
         }
         let shape = Shape {

@@ -74,13 +74,8 @@ impl<'t> TreeView<'t> {
     {
         match self.shape.place(self.at).children().first() {
             None => Branch::Leaf,
-            Some(child) => {
-                if self.shape.label(*child).is_key() {
-                    Branch::Keys
-                } else {
-                    Branch::Indexes
-                }
-            }
+            Some(child) if self.shape.label(*child).is_key() => Branch::Keys,
+            Some(_) => Branch::Indexes,
         }
     }
 

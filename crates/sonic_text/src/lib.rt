@@ -1,24 +1,40 @@
 //! The grammar of JSON (RFC 8259) as facts over a whole text, and the small readers that meet it.
 #![tactic(auto)]
 
+// Hexadecimal digits, four of which stand behind `\u`.
 mod hex;
+// Keys compared as they are read.
 mod key;
+// The two kinds of container.
 mod kind;
+// The laws of values, numbers and literals.
 mod law;
+// The three literals.
 mod literal;
+// Numbers: where they end, and what whole ones are.
 mod number;
+// Bytes, white space and digits at a place.
 mod scan;
+// Which bytes are white space.
 mod space;
+// A place and a code, why something isn't there.
 mod stop;
+// Where strings end.
 mod string;
+// The laws of strings.
 mod string_law;
+// Worked examples of literals, numbers and bytes.
 #[cfg(test)]
 mod tests;
+// Worked examples of strings, at every state of an escape.
 #[cfg(test)]
 mod tests_string;
+// Worked examples of unescaping and of keys.
 #[cfg(test)]
 mod tests_unescape;
+// What a string stands for, as bytes.
 mod unescape;
+// A code point as UTF-8.
 mod utf8;
 
 pub use hex::hex4;

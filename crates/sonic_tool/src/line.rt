@@ -4,8 +4,9 @@ ghost use Rattle.sonic_text.specs.Places.{byte};
 ghost use Rattle.sonic_text.specs.Paths.{Node, Path};
 ghost use Rattle.sonic_tool.specs.Lines.{IsNodeAt, NodesStand, IsNodeArray, IsNodeLine};
 
-use crate::path::{NODES, index_at};
+use crate::path::index_at;
 use crate::pieces::LinePath;
+use sonic_pointer::MAX_NODES;
 use sonic_text::{byte_at, skip_space, string_end};
 use std::alloc::{AllocError, Global};
 
@@ -36,15 +37,15 @@ pub(crate) fn path_of_line(alloc: Global, line: &[u8]) -> Result<Option<LinePath
     }
 }
 
-// The array of at most `NODES` nodes that stands at a place, if one does.
+// The array of at most `MAX_NODES` nodes that stands at a place, if one does.
 #[tactic(auto, using(crate::proofs::LineNodes::node_arrays))]
 fn node_array(alloc: Global, line: &[u8], start: usize) -> Result<Option<NodeArray>, AllocError>
     requires utf8 { IsUtf8 line.now }
     requires within { start ≤ length line.now }
     ensures some { IfOk result (λ found. IfSome found (λ a. (a.end ≤ length line.now)
-        × (length a.path ≤ NODES) × IsNodeArray line.now start a.end a.path)) }
+        × (length a.path ≤ MAX_NODES) × IsNodeArray line.now start a.end a.path)) }
     ensures none { IfOk result (λ found. found ≡ None → (j : ℕ) (path : Path)
-        → length path ≤ NODES → ¬ IsNodeArray line.now start j path) }
+        → length path ≤ MAX_NODES → ¬ IsNodeArray line.now start j path) }
 {
     if byte_at(line, start) != b'[' {
         return Ok(None);
@@ -57,19 +58,19 @@ fn node_array(alloc: Global, line: &[u8], start: usize) -> Result<Option<NodeArr
     nodes(alloc, line, first)
 }
 
-// The nodes, at most `NODES`, that stand from a place up to a closing bracket, if they do.
+// The nodes, at most `MAX_NODES`, that stand from a place up to a closing bracket, if they do.
 #[tactic(auto, using(crate::proofs::LineNodes::node_rows))]
 fn nodes(alloc: Global, line: &[u8], first: usize) -> Result<Option<NodeArray>, AllocError>
     requires utf8 { IsUtf8 line.now }
     requires within { first ≤ length line.now }
     ensures some { IfOk result (λ found. IfSome found (λ a. (a.end ≤ length line.now)
-        × (length a.path ≤ NODES) × NodesStand line.now first a.end a.path)) }
+        × (length a.path ≤ MAX_NODES) × NodesStand line.now first a.end a.path)) }
     ensures none { IfOk result (λ found. found ≡ None → (j : ℕ) (path : Path)
-        → length path ≤ NODES → ¬ NodesStand line.now first j path) }
+        → length path ≤ MAX_NODES → ¬ NodesStand line.now first j path) }
 {
     let mut path = LinePath::new(alloc);
     let mut due = first;
-    'nodes: while path.len() < NODES {
+    'nodes: while path.len() < MAX_NODES {
         let Some(end) = push_node(&mut path, line, due)? else {
             return Ok(None);
         };

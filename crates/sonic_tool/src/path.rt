@@ -6,9 +6,6 @@ ghost use Rattle.sonic_tool.specs.Paths.{BeginsMore, IsIndex};
 
 use sonic_text::{byte_at, skip_digits, whole_u64};
 
-// How many nodes a path line may have.
-pub(crate) const NODES: usize = 255;
-
 // An index, and the place behind it.
 #[derive(Clone, Copy)]
 pub(crate) struct Index {

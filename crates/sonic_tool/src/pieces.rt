@@ -44,6 +44,7 @@ fn lent(keys: &[u8], piece: Piece) -> PointerNode<'_>
 {
     match piece {
         Piece::Key(start, end) => {
+            // SAFETY: each piece of a path is UTF-8, as an invariant of the path.
             PointerNode::Key(unsafe { std::str::from_utf8_unchecked(&keys[start..end]) })
         }
         Piece::Index(number) => PointerNode::Index(number),

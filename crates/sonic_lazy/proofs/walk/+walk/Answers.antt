@@ -1,6 +1,4 @@
 use Rattle.std.proofs.Common.{◌≡◌, ◌∙◌, inl, inr, ap, sym, ◌+◌, true, false, length, set, arith, refl}
-use Rattle.std.specs.Prelude.{Some, slice_get}
-use Rattle.std.proofs.lemmas.Option.{slice_get_within}
 use Rattle.std.proofs.lemmas.Result.{err_from_is_err_and}
 use Rattle.sonic_text.specs.Places.{after_space}
 use Rattle.sonic_text.proofs.Places.{after_space_later, byte_within}
@@ -11,7 +9,7 @@ use Rattle.sonic_lazy.specs.Views.{here_at}
 use Rattle.sonic_lazy.proofs.Closing.{entry_stops, close_stops, close_settles, whole_there, container_status}
 use Rattle.sonic_lazy.proofs.Firsts.{first_before, passed_later, below_grown, not_false, still_wanted}
 use Rattle.sonic_lazy.proofs.Meeting.{child_comes, child_front, meet_more, meet_done, meet_stops}
-use Rattle.sonic_lazy.proofs.Settling.{key_stops, value_stops, behind_stops, next_before, pass, met_closed, no_child_closed}
+use Rattle.sonic_lazy.proofs.Settling.{key_stops, value_stops, behind_stops, next_before, pass, closed, child_within}
 use Rattle.sonic_lazy.proofs.Stopping.{stop_weaker}
 use Rattle.sonic_lazy.proofs.Visiting.{grown_twice, visit_filled, visit_early, visit_stops, order_within, leaf_below, leaf_stops, none_counted}
 use Rattle.sonic_lazy.proofs.Walking.{count_below}
@@ -133,53 +131,35 @@ item-returns-in_err-child-clause-err t c =
     let e = c.in_err-child.ensures.err in
     rw (p.1, p.2) (key_stops (here_at c.args.walk.now.text c.args.level.now) e.0 c.requires e.1)
 
-pub item-is_met-requires : goal.item-is_met-requires
-item-is_met-requires t c =
-    let x = rw c.in-Some.is at c.in_ok-child.ensures.item in
-    let l = slice_get_within c.args.level.now.view.now.children c.in-Some.child x.node x.is in
-    omega (arith, l, c.requires.level.long)
+pub item-unmet-requires : goal.item-unmet-requires
+item-unmet-requires t c =
+    let x = c.in_ok-child.ensures.item in
+    child_within (here_at c.args.walk.now.text c.args.level.now) x.node c.args.marks.now c.in_ok-child.child c.requires.level.long x.is
 
-pub item-returns-in_err-skip-in-Some-clause-err : goal.item-returns-in_err-skip-in-Some-clause-err
-item-returns-in_err-skip-in-Some-clause-err t c =
-    let p = err_from_is_err_and c.from_residual-in_err-skip-in-Some.result c.from_residual-in_err-skip-in-Some.ensures.1 in
-    let x = rw c.in-Some.is at c.in_ok-child.ensures.item in
-    let met : slice_get c.args.marks.now c.in-Some.child ≡ Some true = c.if-is_met.ensures in
-    let e = rw c.in_ok-child.ensures.moved at c.in_err-skip-in-Some.ensures.err in
-    rw (p.1, p.2) (stop_weaker c.in_err-skip-in-Some.field-0.0
-    (λ s f. value_stops c.requires x.head (met_closed c.args.marks.now c.in-Some.child c.requires.here x.is met) f) e)
+pub item-returns-in_err-skip-clause-err : goal.item-returns-in_err-skip-clause-err
+item-returns-in_err-skip-clause-err t c =
+    let p = err_from_is_err_and c.from_residual-in_err-skip.result c.from_residual-in_err-skip.ensures.1 in
+    let x = c.in_ok-child.ensures.item in
+    let e = rw c.in_ok-child.ensures.moved at c.in_err-skip.ensures.err in
+    rw (p.1, p.2) (stop_weaker c.in_err-skip.field-0.0
+    (λ s f. value_stops c.requires x.head (closed c.args.marks.now c.in_ok-child.child c.requires.here x.is c.in_default.ensures.none) f) e)
 
-pub item-returns-then-is_met-clause-more : goal.item-returns-then-is_met-clause-more
-item-returns-then-is_met-clause-more t c = λ e.
-    let x = rw c.in-Some.is at c.in_ok-child.ensures.item in
-    let met : slice_get c.args.marks.now c.in-Some.child ≡ Some true = c.if-is_met.ensures in
-    let value = rw c.in_ok-child.ensures.moved at c.in_ok-skip-in-Some.ensures.value in
-    rw (c.in_ok-skip-in-Some.ensures.moved, c.in_ok-child.ensures.moved)
-    (pass c.requires x.head (met_closed c.args.marks.now c.in-Some.child c.requires.here x.is met) value)
+pub item-returns-in_default-clause-more : goal.item-returns-in_default-clause-more
+item-returns-in_default-clause-more t c = λ e.
+    let x = c.in_ok-child.ensures.item in
+    let value = rw c.in_ok-child.ensures.moved at c.in_ok-skip.ensures.value in
+    rw (c.in_ok-skip.ensures.moved, c.in_ok-child.ensures.moved)
+    (pass c.requires x.head (closed c.args.marks.now c.in_ok-child.child c.requires.here x.is c.in_default.ensures.none) value)
 
 pub item-meet-requires : goal.item-meet-requires
 item-meet-requires t c =
-    let x = rw c.in-Some.is at c.in_ok-child.ensures.item in
+    let unmet = c.in-Some.ensures.some in
+    let x = rw unmet.0 at c.in_ok-child.ensures.item in
     let later = c.in_ok-child.ensures.later in
-    let long = ap (λ walk. length walk.text) c.in_ok-child.ensures.moved in
-    let unmet : slice_get c.args.marks.now c.in-Some.child ≡ Some false = c.if-is_met.ensures in (
+    let long = ap (λ walk. length walk.text) c.in_ok-child.ensures.moved in (
       omega (arith, c.decreases, later, long),
-      (c.args.passed, c.args.walk.now.place, rw c.in_ok-child.ensures.moved record { before = c.requires; node = x.node; head = x.head; is = x.is; unmet = unmet }),
+      (c.args.passed, c.args.walk.now.place, rw c.in_ok-child.ensures.moved record { before = c.requires; node = x.node; head = x.head; is = x.is; unmet = unmet.1 }),
     )
-
-pub item-returns-in_err-skip-in-None-clause-err : goal.item-returns-in_err-skip-in-None-clause-err
-item-returns-in_err-skip-in-None-clause-err t c =
-    let p = err_from_is_err_and c.from_residual-in_err-skip-in-None.result c.from_residual-in_err-skip-in-None.ensures.1 in
-    let x = rw c.in-None.is at c.in_ok-child.ensures.item in
-    let e = rw c.in_ok-child.ensures.moved at c.in_err-skip-in-None.ensures.err in
-    rw (p.1, p.2) (stop_weaker c.in_err-skip-in-None.field-0.0
-    (λ s f. value_stops c.requires x.head (no_child_closed c.args.marks.now c.requires.here x.is) f) e)
-
-pub item-returns-in_ok-skip-in-None-clause-more : goal.item-returns-in_ok-skip-in-None-clause-more
-item-returns-in_ok-skip-in-None-clause-more t c = λ e.
-    let x = rw c.in-None.is at c.in_ok-child.ensures.item in
-    let value = rw c.in_ok-child.ensures.moved at c.in_ok-skip-in-None.ensures.value in
-    rw (c.in_ok-skip-in-None.ensures.moved, c.in_ok-child.ensures.moved)
-    (pass c.requires x.head (no_child_closed c.args.marks.now c.requires.here x.is) value)
 
 pub meet-visit-requires : goal.meet-visit-requires
 meet-visit-requires t c =

@@ -7,8 +7,8 @@ use Rattle.sonic_pointer.specs.Shapes.{entries_of, IsLeaving}
 use Rattle.sonic_pointer.proofs.Walks.{step_down, mixed_here, leaving_here, ending_here}
 use Rattle.sonic_pointer.proofs.shape.Shape.walk.Goals as goal
 
-pub returns-then-mixes-clause-err : goal.returns-then-mixes-clause-err
-returns-then-mixes-clause-err c =
+pub returns-in-Err-clause-err : goal.returns-in-Err-clause-err
+returns-in-Err-clause-err c =
     let long = length-map c.args.path.now node_of in
     let i = c.loop-depth.invariant in (
       refl,
@@ -16,11 +16,11 @@ returns-then-mixes-clause-err c =
           (get_or-map node_of c.args.path.now c.loop-depth.depth _ (index 0) (omega arith)) (c.mixes.ensures.0 c.if-mixes.true),
     )
 
-pub returns-in-Err-clause-ok : goal.returns-in-Err-clause-ok
-returns-in-Err-clause-ok c =
+pub returns-in-Err-2-clause-ok : goal.returns-in-Err-2-clause-ok
+returns-in-Err-2-clause-ok c =
     let long = length-map c.args.path.now node_of in
     let i = c.loop-depth.invariant in
-    leaving_here c.args.self.now c.loop-depth.at c.loop-depth.depth c.in-Err.place (path_of c.args.path.now) _ c.requires i.inside i.front (omega arith)
+    leaving_here c.args.self.now c.loop-depth.at c.loop-depth.depth c.in-Err.field-0 (path_of c.args.path.now) _ c.requires i.inside i.front (omega arith)
     (get_or-map node_of c.args.path.now c.loop-depth.depth _ (index 0) (omega arith)) (c.in-Err.ensures.absent _ refl)
     (λ h. let t = c.mixes.ensures.1 h in let f = c.if-mixes.false in absurd (cc))
 

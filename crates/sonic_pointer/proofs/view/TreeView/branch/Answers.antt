@@ -13,16 +13,16 @@ label-requires-clause-step c =
     let kids : c.children.result.now ≡ (entry_at (entries_of view.shape) view.at).children = c.children.ensures ∙ ap (λ (e : Entry). e.children) c.place.ensures in
     (front_at (shape_spots view.shape) view.at, first_step view.shape view.at c.self.invariant.shape c.self.invariant.inside c.children.result.now kids c.in-Some.child.now c.in-Some.ensures.value)
 
-pub returns-then-is_key : goal.returns-then-is_key
-returns-then-is_key c =
+pub returns-in-Some : goal.returns-in-Some
+returns-in-Some c =
     let view = c.self.inside in
     let kids : c.children.result.now ≡ (entry_at (entries_of view.shape) view.at).children = c.children.ensures ∙ ap (λ (e : Entry). e.children) c.place.ensures in
     subst (λ (v : View). IsBranch v.paths v.front Keys) c.self.view_is
     (kind_of view.shape view.at c.self.invariant.shape c.self.invariant.inside c.children.result.now kids c.in-Some.child.now c.in-Some.ensures.value true
     (ap is_key (sym c.label.ensures) ∙ (sym c.is_key.ensures ∙ c.if-is_key.true)))
 
-pub returns-else-is_key : goal.returns-else-is_key
-returns-else-is_key c =
+pub returns-in-Some-2 : goal.returns-in-Some-2
+returns-in-Some-2 c =
     let view = c.self.inside in
     let kids : c.children.result.now ≡ (entry_at (entries_of view.shape) view.at).children = c.children.ensures ∙ ap (λ (e : Entry). e.children) c.place.ensures in
     subst (λ (v : View). IsBranch v.paths v.front Indexes) c.self.view_is
