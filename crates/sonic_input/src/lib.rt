@@ -13,12 +13,9 @@ mod read;
 mod shared;
 // A part of an input, borrowed from it.
 mod slice;
-// Worked examples of inputs and slices.
+// Worked examples.
 #[cfg(test)]
 mod tests;
-// Worked examples of the cursor.
-#[cfg(test)]
-mod tests_read;
 
 pub use faststr::FastStr;
 pub use input::JsonInput;

@@ -23,7 +23,7 @@ use Rattle.sonic_lazy.specs.Paths.{Outcome, found, lacks, fails, cut, kind_of, E
 use Rattle.sonic_lazy.specs.Paths.Evaluates.{stands, goes_on, leads_nowhere}
 use Rattle.sonic_lazy.specs.declared.located.Located.{Located}
 use Rattle.sonic_lazy.specs.Located.{span_at, spans_of}
-use Rattle.sonic_lazy.specs.Walks.{Findings, IsSettled, was_found, was_lacked, IsTold, SomeLack, IsNeeded, IsStop, nearest, faulty, IsVisited, IsUnneeded, IsFurthest, IsError}
+use Rattle.sonic_lazy.specs.Walks.{Findings, IsSettled, was_found, was_lacked, IsTold, SomeLack, IsNeeded, IsStop, nearest, faulty, IsVisited, IsUnneeded, IsFurthest, IsReached, IsError}
 use Rattle.sonic_lazy.proofs.BeforeFaults.{nowhere_finds_none, tells_before_end, tells_before_fault}
 use Rattle.sonic_lazy.proofs.Gathered.{none_in_empty, first_in, later_in, first_or_later, nearer_than, cut_or_none}
 use Rattle.sonic_lazy.proofs.OneAnswer.{all_some, cut_by_root}
@@ -103,7 +103,7 @@ settled_ends {paths = paths} {notes} k path told is (was_lacked {q = q} l e) =
     record { outcome = lacks q; leads = l; end = e; is = rw none at x.1 }
 
 -- where the walk ends, all paths are gathered
-pub gathered : {t : List ℕ} {paths : List Path} {before notes : Findings} → IsVisited t paths [] before notes → IsGathered t notes.lacking notes.spans paths
+gathered : {t : List ℕ} {paths : List Path} {before notes : Findings} → IsVisited t paths [] before notes → IsGathered t notes.lacking notes.spans paths
 gathered {t} {paths} {notes = notes} v =
     gather t notes.lacking notes.spans paths v.told.long (λ k path is. settled_ends k path v.told is (v.settled k path is))
 
@@ -214,7 +214,7 @@ reach_furthest {noted = noted} {spans} {r = r} g some e f =
     ]
 
 -- how far the text is needed
-pub reached : {t : List ℕ} {noted : Bool} {spans : List (Option Span)} {paths : List Path} {r e : ℕ} (g : IsGathered t noted spans paths) → paths ≢ []
+reached : {t : List ℕ} {noted : Bool} {spans : List (Option Span)} {paths : List Path} {r e : ℕ} (g : IsGathered t noted spans paths) → paths ≢ []
     → (noted ≡ true → SomeLack t paths) → (noted ≡ true → IsWhole t e) → (noted ≡ true → r ≡ e) → (noted ≡ false → IsFurthest spans r) → IsReach t g.outcomes r
 reached {noted = false} g some lack whole at_end furthest = reach_furthest g some refl (furthest refl)
 reached {t} {noted = true} {r = r} g some lack whole at_end furthest =
@@ -222,22 +222,38 @@ reached {t} {noted = true} {r = r} g some lack whole at_end furthest =
     to_the_root (ends_lack g (lack refl)) x
 
 -- which lies within it
-pub reach_within : {t : List ℕ} {noted : Bool} {spans : List (Option Span)} {paths : List Path} {r : ℕ} (g : IsGathered t noted spans paths)
+reach_within : {t : List ℕ} {noted : Bool} {spans : List (Option Span)} {paths : List Path} {r : ℕ} (g : IsGathered t noted spans paths)
     → IsReach t g.outcomes r → r ≤ length t
 reach_within g (to_the_root l x) = value_within x
 reach_within {r = r} g (to_the_furthest {i} none c all) = (let x = lead_from (found i r) g.lead c in value_within (found_value x.path x.leads))
 
+-- so it is reached
+pub is_reached : {t : List ℕ} {paths : List Path} {before f : Findings} {r e : ℕ} → IsVisited t paths [] before f → paths ≢ [] → (f.lacking ≡ true → IsWhole t e)
+    → (f.lacking ≡ true → r ≡ e) → (f.lacking ≡ false → IsFurthest f.spans r) → IsReached t paths f.spans r
+is_reached v some whole at_end furthest =
+    let g = gathered v in
+    let reach = reached g some v.told.lack whole at_end furthest in
+    record {
+      outcomes = g.outcomes;
+      lead = g.lead;
+      none_fails = ends_fail g;
+      none_cut = ends_cut g;
+      entries = g.entries;
+      reach = reach;
+      within = reach_within g reach;
+    }
+
 -- the spans are the answer
-pub answers_spans : {t : List ℕ} {noted is_bytes : Bool} {spans : List (Option Span)} {paths : List Path} {r : ℕ} (g : IsGathered t noted spans paths)
-    → IsReach t g.outcomes r → (is_bytes ≡ true → IsUtf8 (take r t)) → IsAnswer t is_bytes paths (Answer.spans spans)
-answers_spans g reach text = record { outcomes = g.outcomes; lead = g.lead; come_to = finding (ends_fail g) (ends_cut g) reach text g.entries }
+pub answers_spans : {t : List ℕ} {is_bytes : Bool} {spans : List (Option Span)} {paths : List Path} {r : ℕ} → IsReached t paths spans r
+    → (is_bytes ≡ true → IsUtf8 (take r t)) → IsAnswer t is_bytes paths (Answer.spans spans)
+answers_spans x text = record { outcomes = x.outcomes; lead = x.lead; come_to = finding x.none_fails x.none_cut x.reach text x.entries }
 
 -- or the first broken place
-pub answers_broken : {t : List ℕ} {noted is_bytes : Bool} {spans : List (Option Span)} {paths : List Path} {r : ℕ} {s : Stop} (g : IsGathered t noted spans paths)
-    → IsReach t g.outcomes r → is_bytes ≡ true → ¬ IsUtf8 (take r t) → s ≡ record { place = valid_up_to (take r t); code = InvalidUTF8 }
+pub answers_broken : {t : List ℕ} {is_bytes : Bool} {spans : List (Option Span)} {paths : List Path} {r : ℕ} {s : Stop} → IsReached t paths spans r
+    → is_bytes ≡ true → ¬ IsUtf8 (take r t) → s ≡ record { place = valid_up_to (take r t); code = InvalidUTF8 }
     → s.place ≤ length t → IsError t is_bytes paths s
-answers_broken g reach e broken is within = record {
-  answer = record { outcomes = g.outcomes; lead = g.lead; come_to = breaking (ends_fail g) (ends_cut g) reach e broken is };
+answers_broken x e broken is within = record {
+  answer = record { outcomes = x.outcomes; lead = x.lead; come_to = breaking x.none_fails x.none_cut x.reach e broken is };
   within = within;
 }
 

@@ -1,5 +1,5 @@
 -- What a walk knows that goes through a text once, and follows all paths of a tree in it.
-use Rattle.std.specs.Prelude.{◌≡◌, ◌≢◌, ◌⊎◌, ℕ, ◌<◌, ◌≤◌, Bool, true, false, List, [], ◌∷◌, ◌++◌, Option, Some, None, length, slice_get}
+use Rattle.std.specs.Prelude.{◌≡◌, ◌≢◌, ◌⊎◌, ℕ, ◌<◌, ◌≤◌, Bool, true, false, List, [], ◌∷◌, ◌++◌, Option, Some, None, length, map, slice_get}
 use Rattle.std.specs.List.{Contains}
 use Rattle.sonic_text.specs.declared.kind.Kind.{Kind}
 use Rattle.sonic_text.specs.declared.stop.Stop.{Stop}
@@ -9,7 +9,7 @@ use Rattle.sonic_text.specs.Values.{IsValue, ItemsFit}
 use Rattle.sonic_text.specs.Documents.{IsRootFault}
 use Rattle.sonic_text.specs.Faults.{IsFault}
 use Rattle.sonic_pointer.specs.Paths.{HasNext, IsChildren}
-use Rattle.sonic_lazy.specs.Answers.{Span, Answer, IsAnswer}
+use Rattle.sonic_lazy.specs.Answers.{Span, span_of, AllLead, NoneFails, NoneCut, IsReach, Answer, IsAnswer}
 use Rattle.sonic_lazy.specs.Paths.{Outcome, found, lacks, fails, cut, kind_of, IsNamed, NoneNamed, LeadsOn, Evaluates, Leads}
 
 -- what a walk has found: the span of each path that found one, and whether some path lacks its key
@@ -211,3 +211,13 @@ pub record IsFurthest (spans : List (Option Span)) (r : ℕ) : Type 0 where
 pub record IsError (t : List ℕ) (is_bytes : Bool) (paths : List Path) (s : Stop) : Type 0 where
   pub answer : IsAnswer t is_bytes paths (Answer.error s)
   pub within : s.place ≤ length t
+
+-- each path found a value or lacks its key, these are the spans, and the text is needed up to r
+pub record IsReached (t : List ℕ) (paths : List Path) (spans : List (Option Span)) (r : ℕ) : Type 0 where
+  pub outcomes : List Outcome
+  pub lead : AllLead t paths outcomes
+  pub none_fails : NoneFails outcomes
+  pub none_cut : NoneCut outcomes
+  pub entries : spans ≡ map span_of outcomes
+  pub reach : IsReach t outcomes r
+  pub within : r ≤ length t

@@ -1,13 +1,14 @@
 // The answer of a list of paths.
-ghost use Rattle.std.specs.Prelude.{◌≡◌, ◌⊎◌, ◌<◌, ◌≤◌, ℕ, List, true, false, length, take, IfOk, IfErr, IfSome, OnOk};
+ghost use Rattle.std.specs.Prelude.{◌≡◌, ◌≢◌, ◌⊎◌, ◌<◌, ◌≤◌, ℕ, List, [], true, false, length, take, IfOk, IfErr, IfSome, OnOk};
 ghost use Rattle.std.specs.Option.{IsSomeAnd};
 ghost use Rattle.std.specs.Str.{IsUtf8};
 ghost use Rattle.sonic_error.specs.declared.code.ErrorCode.TheVariants.{InvalidUTF8};
 ghost use Rattle.sonic_error.specs.Texts.{valid_up_to};
+ghost use Rattle.sonic_text.specs.Places.{after_space};
 ghost use Rattle.sonic_parser.specs.Faults.{IsStopFor};
 ghost use Rattle.sonic_lazy.specs.Answers.{IsAnswer, Answer};
 ghost use Rattle.sonic_lazy.specs.Located.{AreMarked, spans_of};
-ghost use Rattle.sonic_lazy.specs.Walks.{IsError, IsFurthest};
+ghost use Rattle.sonic_lazy.specs.Walks.{IsStop, IsError, IsFurthest, IsReached};
 
 use crate::located::Located;
 use crate::state::Walk;
@@ -18,6 +19,14 @@ use sonic_parser::{Fault, Parser};
 use sonic_pointer::PointerTree;
 use sonic_text::Stop;
 use std::alloc::Global;
+
+// What the paths of a tree found in a text, and how far the text is needed for it.
+#[derive(Drop)]
+struct Reached<'de> {
+    text: &'de [u8],
+    found: Vec<Option<Located>>,
+    reach: usize,
+}
 
 // The values that the paths of a tree are answered with, in their order, or the one error.
 //
@@ -38,6 +47,30 @@ pub(crate) fn answer(
     if size == 0 {
         return Ok(Vec::new(alloc));
     }
+    let Reached { text, found, reach } = follow(alloc, read, tree, size)?;
+    if is_bytes {
+        check(text, reach)?;
+    }
+    Ok(found)
+}
+
+// Follows the paths of a tree that has some.
+fn follow<'de>(
+    alloc: Global,
+    read: Read<'de>,
+    tree: &PointerTree,
+    size: usize,
+) -> Result<Reached<'de>, Fault>
+    requires start { read.place ≡ 0 }
+    requires size { size ≡ length tree.now }
+    requires some { tree.now ≢ [] }
+    ensures text { IfOk result (λ x. x.text.now ≡ read.entry.text) }
+    ensures reached { IfOk result (λ x.
+        IsReached read.entry.text tree.now (spans_of x.found.items) x.reach) }
+    ensures marked { IfOk result (λ x. AreMarked read.entry.text x.found.items) }
+    ensures err { IfErr result (IsStopFor (IsStop read.entry.text tree.now []
+        (after_space read.entry.text 0) false)) }
+{
     let mut parser = Parser::new(read);
     parser.skip_space_peek();
     let mut walk = Walk::new(alloc, parser, size)?;
@@ -45,10 +78,7 @@ pub(crate) fn answer(
     let (text, end, lacking) = (walk.text(), walk.place(), walk.lacks_key());
     let found = walk.into_spans();
     let reach = reach_of(&found, lacking, end);
-    if is_bytes {
-        check(text, reach)?;
-    }
-    Ok(found)
+    Ok(Reached { text, found, reach })
 }
 
 // How far the text is needed: to the end of the root where some path lacks its key.

@@ -15,15 +15,9 @@ mod located;
 mod many;
 // Which children of a tree's place were met.
 mod marks;
-// The plain program, which follows each path by itself.
-#[cfg(test)]
-mod plain;
-// Worked examples of look-ups, over each kind of input.
-#[cfg(test)]
-mod rows;
 // What a walk has come to, and its steps through the text.
 mod state;
-// Worked examples of lazy values.
+// Worked examples, and the plain program.
 #[cfg(test)]
 mod tests;
 // One walk that finds what all paths of a tree lead to.

@@ -2,4 +2,4 @@
 mod calls;
 mod depth;
 mod faults;
-mod plain;
+mod reference;

@@ -23,15 +23,9 @@ mod stop;
 mod string;
 // The laws of strings.
 mod string_law;
-// Worked examples of literals, numbers and bytes.
+// Worked examples.
 #[cfg(test)]
 mod tests;
-// Worked examples of strings, at every state of an escape.
-#[cfg(test)]
-mod tests_string;
-// Worked examples of unescaping and of keys.
-#[cfg(test)]
-mod tests_unescape;
 // What a string stands for, as bytes.
 mod unescape;
 // A code point as UTF-8.

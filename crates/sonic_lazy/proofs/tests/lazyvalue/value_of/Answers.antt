@@ -1,7 +1,7 @@
 use Rattle.std.proofs.Common.{◌≡◌, refl, sym, ◌∙◌}
 use Rattle.sonic_input.specs.Slices.{slice_bytes}
 use Rattle.sonic_lazy.proofs.Wholes.{false_not_true, skipped_is_whole}
-use Rattle.sonic_lazy.proofs.tests.value_of.Goals as goal
+use Rattle.sonic_lazy.proofs.tests.lazyvalue.value_of.Goals as goal
 
 -- what was skipped is as long as the text, and a string with a backslash
 pub whole-requires : goal.whole-requires

@@ -11,7 +11,7 @@ use Rattle.sonic_lazy.proofs.Firsts.{first_unnamed}
 use Rattle.sonic_lazy.proofs.Nodes.{named_leads, none_leads, one_more_unnamed}
 use Rattle.sonic_lazy.proofs.Stopping.{stop_weaker}
 use Rattle.sonic_lazy.proofs.Walking.{count_below, not_named, past_value, past_byte, past_key}
-use Rattle.sonic_lazy.proofs.plain.seek.Goals as goal
+use Rattle.sonic_lazy.proofs.tests.reference.seek.Goals as goal
 
 pub returns-then-byte_at-opening-clause-no : goal.returns-then-byte_at-opening-clause-no
 returns-then-byte_at-opening-clause-no c = λ e.

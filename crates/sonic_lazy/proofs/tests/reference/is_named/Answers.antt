@@ -1,7 +1,7 @@
 use Rattle.std.proofs.Common.{refl}
 use Rattle.std.proofs.lemmas.Result.{err_from_is_err_and}
 use Rattle.sonic_lazy.proofs.Seeking.{member_tested, element_tested}
-use Rattle.sonic_lazy.proofs.plain.is_named.Goals as goal
+use Rattle.sonic_lazy.proofs.tests.reference.is_named.Goals as goal
 
 pub returns-in_err-string-in-Key-clause-err : goal.returns-in_err-string-in-Key-clause-err
 returns-in_err-string-in-Key-clause-err c =

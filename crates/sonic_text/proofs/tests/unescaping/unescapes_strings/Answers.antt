@@ -1,7 +1,7 @@
 use Rattle.std.proofs.Common.{refl, arith, ℕ, List, [], ◌∷◌, false}
 use Rattle.sonic_text.specs.Strings.{hex_digit, escaped}
 use Rattle.sonic_text.proofs.LiteralStrings.{four, and_bytes, is_plain_run, and_byte, and_letter, and_scalar, and_pair, and_single, whole_string, no_chars}
-use Rattle.sonic_text.proofs.tests_unescape.unescapes_strings.Goals as goal
+use Rattle.sonic_text.proofs.tests.unescaping.unescapes_strings.Goals as goal
 
 pub check_bytes-requires : goal.check_bytes-requires
 unfolding hex_digit escaped

@@ -1,5 +1,5 @@
 use Rattle.sonic_lazy.specs.Paths.Evaluates.{goes_on}
-use Rattle.sonic_lazy.proofs.plain.+follow.Goals as goal
+use Rattle.sonic_lazy.proofs.tests.reference.+follow.Goals as goal
 
 pub returns-in-Some-2-clause-found : goal.returns-in-Some-2-clause-found
 returns-in-Some-2-clause-found t c = λ i j e.

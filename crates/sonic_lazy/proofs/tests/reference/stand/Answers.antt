@@ -1,6 +1,6 @@
 use Rattle.std.proofs.Common.{◌≡◌}
 use Rattle.sonic_lazy.specs.Paths.Evaluates.{stands, cut_here}
-use Rattle.sonic_lazy.proofs.plain.stand.Goals as goal
+use Rattle.sonic_lazy.proofs.tests.reference.stand.Goals as goal
 
 pub returns-in-Ok-clause-found : goal.returns-in-Ok-clause-found
 returns-in-Ok-clause-found c = λ i j e.

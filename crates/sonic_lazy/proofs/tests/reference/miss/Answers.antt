@@ -1,7 +1,7 @@
 use Rattle.std.proofs.Common.{◌≡◌, ◌-◌, sym, arith}
 use Rattle.sonic_text.proofs.Values.{value-longer}
 use Rattle.sonic_lazy.specs.Paths.Evaluates.{leads_nowhere, cut_before}
-use Rattle.sonic_lazy.proofs.plain.miss.Goals as goal
+use Rattle.sonic_lazy.proofs.tests.reference.miss.Goals as goal
 
 pub overflow_sub-last : goal.overflow_sub-last
 overflow_sub-last c = omega (arith, value-longer c.in-Ok.ensures.ok)

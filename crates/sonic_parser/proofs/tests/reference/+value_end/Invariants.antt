@@ -1,6 +1,6 @@
 use Rattle.std.proofs.Common.{length, ◌-◌}
 use Rattle.sonic_parser.proofs.Descending.{IsDue}
-use Rattle.sonic_parser.proofs.tests.plain.+value_end.Given as goal
+use Rattle.sonic_parser.proofs.tests.reference.+value_end.Given as goal
 
 abbrev pub decreases-value_end : goal.decreases-value_end
 decreases-value_end l = length l.text.now - l.start

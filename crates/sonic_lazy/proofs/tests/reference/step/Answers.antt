@@ -1,4 +1,4 @@
-use Rattle.sonic_lazy.proofs.plain.step.Goals as goal
+use Rattle.sonic_lazy.proofs.tests.reference.step.Goals as goal
 
 pub returns-in-Err-At-clause-nowhere : goal.returns-in-Err-At-clause-nowhere
 returns-in-Err-At-clause-nowhere c =
