@@ -1,25 +1,10 @@
-mod Agreeing
-pub mod Answering
-mod BeforeFaults
-mod Closing
-mod Entering
-mod Entries
-mod Filling
-mod Firsts
-mod Following
-mod Gathered
-mod Looking
-mod Marked
-mod Meeting
-pub mod Nodes
-pub mod OneAnswer
-mod OnePath
-mod Parting
-mod Parts
-mod Seeking
-mod Settling
-mod Showing
-mod Stopping
-mod Visiting
-mod Walking
-mod Wholes
+-- What the answers of a list of paths rest on: one answer, the answer of a walk, and the causes of a refusal.
+pub mod AnswerLemmas
+-- Where a node leads on to, and the one outcome of a path.
+pub mod PathLemmas
+-- Which lazy values show an answer.
+pub mod ShownLemmas
+-- The steps of a walk, a file for each.
+pub mod WalkLemmas
+-- Which spans are whole values, and what a lazy value holds.
+pub mod WholeLemmas

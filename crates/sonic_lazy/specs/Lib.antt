@@ -1,10 +1,8 @@
 pub mod Answers
 pub mod Causes
+pub mod Internal
 pub mod Laws
 pub mod LazyValues
-pub mod Located
 pub mod Paths
 pub mod Shown
-pub mod Views
-pub mod Walks
 pub mod Wholes

@@ -1,18 +1,17 @@
 // The answer of a list of paths.
-ghost use Rattle.std.specs.Prelude.{◌≡◌, ◌≢◌, ◌⊎◌, ◌<◌, ◌≤◌, ℕ, List, [], true, false, length, take, IfOk, IfErr, IfSome, OnOk};
+ghost use Rattle.std.specs.Prelude.{◌≡◌, ◌≢◌, ◌⊎◌, ◌<◌, ◌≤◌, ℕ, List, [], true, false, length, option_map, take, IfOk, IfErr, IfSome, OnOk};
 ghost use Rattle.std.specs.Option.{IsSomeAnd};
 ghost use Rattle.std.specs.Str.{IsUtf8};
 ghost use Rattle.sonic_error.specs.declared.code.ErrorCode.TheVariants.{InvalidUTF8};
 ghost use Rattle.sonic_error.specs.Texts.{valid_up_to};
-ghost use Rattle.sonic_text.specs.Places.{after_space};
 ghost use Rattle.sonic_parser.specs.Faults.{IsStopFor};
 ghost use Rattle.sonic_lazy.specs.Answers.{IsAnswer, Answer};
-ghost use Rattle.sonic_lazy.specs.Located.{AreMarked, spans_of};
-ghost use Rattle.sonic_lazy.specs.Walks.{IsStop, IsError, IsFurthest, IsReached};
+ghost use Rattle.sonic_lazy.specs.Internal.Located.{AreMarked, span_at, spans_of};
+ghost use Rattle.sonic_lazy.specs.Internal.Walk.{root_point, IsStop, IsError, IsFurthest, IsReached};
 
 use crate::located::Located;
 use crate::state::Walk;
-use crate::walk::visit;
+use crate::walk::follow;
 use sonic_error::ErrorCode;
 use sonic_input::Read;
 use sonic_parser::{Fault, Parser};
@@ -47,7 +46,7 @@ pub(crate) fn answer(
     if size == 0 {
         return Ok(Vec::new(alloc));
     }
-    let Reached { text, found, reach } = follow(alloc, read, tree, size)?;
+    let Reached { text, found, reach } = reach(alloc, read, tree, size)?;
     if is_bytes {
         check(text, reach)?;
     }
@@ -55,7 +54,7 @@ pub(crate) fn answer(
 }
 
 // Follows the paths of a tree that has some.
-fn follow<'de>(
+fn reach<'de>(
     alloc: Global,
     read: Read<'de>,
     tree: &PointerTree,
@@ -68,13 +67,12 @@ fn follow<'de>(
     ensures reached { IfOk result (λ x.
         IsReached read.entry.text tree.now (spans_of x.found.items) x.reach) }
     ensures marked { IfOk result (λ x. AreMarked read.entry.text x.found.items) }
-    ensures err { IfErr result (IsStopFor (IsStop read.entry.text tree.now []
-        (after_space read.entry.text 0) false)) }
+    ensures err { IfErr result (IsStopFor (IsStop (root_point read.entry.text tree.now) false)) }
 {
     let mut parser = Parser::new(read);
     parser.skip_space_peek();
     let mut walk = Walk::new(alloc, parser, size)?;
-    visit(&mut walk, &tree.view(), false)?;
+    follow(&mut walk, &tree.view(), false)?;
     let (text, end, lacking) = (walk.text(), walk.place(), walk.lacks_key());
     let found = walk.into_spans();
     let reach = reach_of(&found, lacking, end);
@@ -103,8 +101,8 @@ fn furthest(found: &[Option<Located>]) -> usize
 // The end of a value, where it is further.
 fn further(reach: usize, value: Option<Located>) -> usize
     ensures after { reach ≤ result }
-    ensures end { IfSome value (λ x. x.end ≤ result) }
-    ensures one { (result ≡ reach) ⊎ IsSomeAnd value (λ x. x.end ≡ result) }
+    ensures end { IfSome (option_map span_at value) (λ span. span.1 ≤ result) }
+    ensures one { (result ≡ reach) ⊎ IsSomeAnd (option_map span_at value) (λ span. span.1 ≡ result) }
 {
     match value {
         Some(Located { end, .. }) if reach < end => end,

@@ -1,7 +1,7 @@
 // The lazy value of a span that was found.
 ghost use Rattle.std.specs.Prelude.{◌≡◌, slice_range};
 ghost use Rattle.sonic_lazy.specs.LazyValues.{raw_bytes};
-ghost use Rattle.sonic_lazy.specs.Located.{IsStatus};
+ghost use Rattle.sonic_lazy.specs.Internal.Located.{IsStatus};
 ghost use Rattle.sonic_lazy.specs.Wholes.{IsPart};
 
 use crate::lazyvalue::LazyValue;
@@ -9,7 +9,7 @@ use crate::located::Located;
 use sonic_input::JsonInput;
 
 // The value that stands in the input where it was found.
-#[tactic(auto, using(crate::proofs::Entries::entries))]
+#[tactic(auto, using(crate::proofs::WholeLemmas::entries))]
 pub(crate) fn entry<'de, I: JsonInput<'de>>(input: I, found: Located) -> LazyValue<'de>
     requires value { IsPart (I.JsonInput.content input) found.start found.end }
     requires status { IsStatus (I.JsonInput.content input) found.start found.end found.status }

@@ -17,6 +17,7 @@ pub fn path_has_one_outcome()
 /// A law of paths: where one is cut, it is by the fault of the whole text, the same for all.
 ///
 /// So in `[1,{"a":2,]` both `[1, "b"]` and `[2]` are cut at the closing bracket, where a key is due.
+#[tactic(auto, using(crate::proofs::PathLemmas::Outcome::cut_is_fault))]
 pub fn a_cut_is_the_root_fault()
     ensures { (t : List ℕ) (path : List Node) (s : Stop) → Leads t path (cut s) → IsRootFault t s }
 {}
@@ -38,6 +39,7 @@ pub fn outcomes_come_before_the_fault()
 ///
 /// Of `["a"]` and `[0]`, which do mix, the first fails in `7` as no object stands there, and the
 /// second as no array does, both at the `7`.
+#[tactic(auto, using(crate::proofs::PathLemmas::Outcome::fails_agree))]
 pub fn fails_at_one_place_agree()
     ensures { (t : List ℕ) (p q : List Node) (s r : Stop) → MixNowhere p q
         → Leads t p (fails s) → Leads t q (fails r) → s.place ≡ r.place → s ≡ r }

@@ -13,8 +13,8 @@ mod lazyvalue;
 mod located;
 // What many paths find in an input.
 mod many;
-// Which children of a tree's place were met.
-mod marks;
+// Which children of a prefix of the tree were visited.
+mod visited;
 // What a walk has come to, and its steps through the text.
 mod state;
 // Worked examples, and the plain program.

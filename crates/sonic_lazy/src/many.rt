@@ -4,7 +4,7 @@ ghost use Rattle.sonic_error.specs.Errors.{IsPlainError};
 ghost use Rattle.sonic_lazy.specs.Answers.{IsAnswer, Answer};
 ghost use Rattle.sonic_lazy.specs.Causes.{IsAnswerable, IsRefusal};
 ghost use Rattle.sonic_lazy.specs.LazyValues.{raw_bytes};
-ghost use Rattle.sonic_lazy.specs.Located.{IsStatus, AreMarked, AreParts, span_at, spans_of};
+ghost use Rattle.sonic_lazy.specs.Internal.Located.{IsStatus, AreMarked, AreParts, span_at, spans_of};
 ghost use Rattle.sonic_lazy.specs.Shown.{AreValues, HaveTexts, span_text};
 ghost use Rattle.sonic_lazy.specs.Wholes.{IsPart};
 
@@ -83,7 +83,7 @@ fn value<'de, I: JsonInput<'de>>(json: I, located: Option<Located>) -> Option<La
 ///
 /// With the paths `["a"]`, `["b"]` and `["c", 1]` over `{"a":1,"c":[2,3]}` it is the values `1`,
 /// none and `3`.
-#[tactic(auto, using(crate::proofs::Showing::answers))]
+#[tactic(auto, using(crate::proofs::ShownLemmas::answers))]
 pub fn get_many<'de, I: JsonInput<'de>>(
     alloc: Global,
     json: I,

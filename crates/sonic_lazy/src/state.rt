@@ -8,9 +8,9 @@ ghost use Rattle.sonic_text.specs.Values.{opening, IsValue, IsKey, ItemsFit};
 ghost use Rattle.sonic_text.specs.Faults.{IsFault, IsKeyFault};
 ghost use Rattle.sonic_parser.specs.Containers.{IsEnd, IsSeparated, IsSeparatorFault};
 ghost use Rattle.sonic_parser.specs.Faults.{IsStopFor};
-ghost use Rattle.sonic_lazy.specs.Located.{IsStatus, AreMarked, spans_of};
+ghost use Rattle.sonic_lazy.specs.Internal.Located.{IsStatus, AreMarked, spans_of};
 ghost use Rattle.sonic_lazy.specs.Paths.{type_at, empty_code, wanted_of};
-ghost use Rattle.sonic_lazy.specs.Walks.{IsNoEntry, IsFilled};
+ghost use Rattle.sonic_lazy.specs.Internal.Walk.{IsNoEntry, IsFilled};
 
 use crate::located::Located;
 use sonic_error::{ErrorCode, JsonType, Note, Wanted};
@@ -31,11 +31,11 @@ pub(crate) struct Walk<'de> {
 }
 
 impl<'de> Model for Walk<'de> {
-    ghost use Rattle.sonic_lazy.specs.Walks.{Walking};
+    ghost use Rattle.sonic_lazy.specs.Internal.Walk.{Walking};
 
     ghost Value = { Walking };
 
-    ghost use Rattle.sonic_lazy.specs.Views.{walking_of, IsWalk};
+    ghost use Rattle.sonic_lazy.specs.Internal.View.{walking_of, IsWalk};
 
     ghost view = { walking_of };
 
@@ -199,7 +199,7 @@ impl<'de> Walk<'de> {
 }
 
 // Keeps a value for the paths of these numbers.
-#[tactic(auto, using(crate::proofs::Filling::fillings))]
+#[tactic(auto, using(crate::proofs::WalkLemmas::List::fillings))]
 fn fill(spans: &mut Vec<Option<Located>>, orders: &[usize], value: Located)
     requires { (k : ℕ) → Contains orders.now k → k < length spans.old.items }
     ensures { IsFilled orders.now spans.old.items spans.new.items value }

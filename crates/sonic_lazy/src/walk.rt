@@ -1,5 +1,5 @@
 // One walk through a text, which finds what all paths of a tree lead to.
-ghost use Rattle.std.specs.Prelude.{◌≡◌, ◌≢◌, ◌⊎◌, ◌<◌, ◌≤◌, ◌-◌, ℕ, List, Some, true, false, length, slice_get, IfOk, IfErr, IfSome, IfNone, OnOk};
+ghost use Rattle.std.specs.Prelude.{◌≡◌, ◌≢◌, ◌⊎◌, ◌<◌, ◌≤◌, ◌-◌, ℕ, List, Some, true, false, slice_get, IfOk, IfErr, OnOk};
 ghost use Rattle.sonic_error.specs.declared.code.ErrorCode.TheVariants.{GetIndexOutOfArray};
 ghost use Rattle.sonic_text.specs.Strings.{strict};
 ghost use Rattle.sonic_text.specs.Paths.{Node};
@@ -7,13 +7,13 @@ ghost use Rattle.sonic_text.specs.Values.{IsValue};
 ghost use Rattle.sonic_text.specs.Faults.{IsKeyFault};
 ghost use Rattle.sonic_pointer.specs.Paths.{HasFront, IsChildren};
 ghost use Rattle.sonic_parser.specs.Faults.{IsStopFor};
-ghost use Rattle.sonic_lazy.specs.Located.{IsStatus};
+ghost use Rattle.sonic_lazy.specs.Internal.Located.{IsStatus};
 ghost use Rattle.sonic_lazy.specs.Paths.{kind_of};
-ghost use Rattle.sonic_lazy.specs.Walks.{IsStop, ComesTo, IsTold, IsVisited, IsUnneeded, IsBelow, IsDone, IsBefore, IsBehind, IsItem, IsHere, IsMeeting, SomeOpen};
-ghost use Rattle.sonic_lazy.specs.Views.{here_at};
+ghost use Rattle.sonic_lazy.specs.Internal.Walk.{IsStop, ComesTo, AreFindings, IsLater, AllSettled, BelowSettled, IsContainer, IsFollowed, IsPassed, IsWanted, IsItem, SomeOpen};
+ghost use Rattle.sonic_lazy.specs.Internal.View.{point_at, container_at, progress_at};
 
-use crate::marks::Marks;
 use crate::state::Walk;
+use crate::visited::Visited;
 use sonic_error::ErrorCode;
 use sonic_parser::{Fault, ParseStatus};
 use sonic_pointer::{Branch, TreeView};
@@ -30,34 +30,41 @@ struct Level<'l, 't> {
     needs: bool,
 }
 
-// Follows the paths that begin with the front of the view in the value that stands here.
+// Follows the paths that begin with the prefix of the view in the value at the cursor.
 //
 // It is read to its end where `finish` asks for it, where some path lacks its key, or where a path
-// ends here: then the answer is `true`.
+// ends here.
 #[cycle(walk)]
-pub(crate) fn visit(walk: &mut Walk<'_>, view: &TreeView<'_>, finish: bool) -> Result<bool, Fault>
-    requires comes { ComesTo walk.old.text view.now.front walk.old.place }
+pub(crate) fn follow(walk: &mut Walk<'_>, view: &TreeView<'_>, finish: bool) -> Result<(), Fault>
+    requires comes { ComesTo (point_at walk.old view.now) }
     requires some { HasFront view.now.paths view.now.front }
-    requires told { IsTold walk.old.text view.now.paths walk.old.findings }
-    ensures visited { OnOk result (IsVisited walk.old.text view.now.paths view.now.front
-        walk.old.findings walk.new.findings) }
-    ensures whole { IfOk result (λ whole. whole ≡ true
+    requires are { AreFindings walk.old.text view.now.paths walk.old.findings }
+    ensures later { OnOk result (IsLater walk.old.text view.now.paths walk.old.findings
+        walk.new.findings) }
+    ensures settled { OnOk result (AllSettled (point_at walk.old view.now) walk.new.findings) }
+    ensures whole { OnOk result ((finish ≡ true) ⊎ (walk.new.findings.lacking ≡ true)
         → IsValue strict walk.old.text walk.old.place walk.new.place) }
-    ensures unneeded { IfOk result (λ whole. IsUnneeded whole finish walk.new.findings) }
     ensures text { OnOk result (walk.new.text ≡ walk.old.text) }
-    ensures err { IfErr result (IsStopFor (IsStop walk.old.text view.now.paths view.now.front
-        walk.old.place finish)) }
+    ensures err { IfErr result (IsStopFor (IsStop (point_at walk.old view.now) finish)) }
 {
     let start = walk.place();
     let orders = view.orders();
-    let needs = is_asked(finish, orders);
-    match below(walk, view, needs)? {
-        Some(status) => {
-            walk.keep(orders, start, status);
-            Ok(true)
-        }
-        None => Ok(false),
+    if view.count() == 0 {
+        let status = walk.skip()?;
+        walk.keep(orders, start, status);
+        return Ok(());
     }
+    let level = Level {
+        view,
+        start,
+        kind: kind_of_children(view),
+        needs: is_asked(finish, orders),
+    };
+    if !items(walk, &level)? {
+        return Ok(());
+    }
+    walk.keep(orders, start, ParseStatus::None);
+    Ok(())
 }
 
 // Whether a value has to be read to its end, as it is asked for or as a path ends at it.
@@ -68,46 +75,7 @@ fn is_asked(finish: bool, orders: &[usize]) -> bool
     finish || !orders.is_empty()
 }
 
-// Follows the paths that go on behind the front of the view in the value that stands here, and
-// gives the value's status where it was read to its end.
-#[cycle(walk)]
-fn below(
-    walk: &mut Walk<'_>,
-    view: &TreeView<'_>,
-    needs: bool,
-) -> Result<Option<ParseStatus>, Fault>
-    requires comes { ComesTo walk.old.text view.now.front walk.old.place }
-    requires some { HasFront view.now.paths view.now.front }
-    requires told { IsTold walk.old.text view.now.paths walk.old.findings }
-    ensures below { OnOk result (IsBelow walk.old.text view.now.paths view.now.front
-        walk.old.findings walk.new.findings) }
-    ensures whole { IfOk result (λ read. IfSome read (λ status.
-        IsValue strict walk.old.text walk.old.place walk.new.place)) }
-    ensures status { IfOk result (λ read. IfSome read (λ status.
-        IsStatus walk.old.text walk.old.place walk.new.place status)) }
-    ensures unneeded { IfOk result (λ read. IfNone read
-        ((needs ≡ false) × (walk.new.findings.lacking ≡ false))) }
-    ensures text { OnOk result (walk.new.text ≡ walk.old.text) }
-    ensures err { IfErr result (IsStopFor (IsStop walk.old.text view.now.paths view.now.front
-        walk.old.place needs)) }
-{
-    if view.count() == 0 {
-        return Ok(Some(walk.skip()?));
-    }
-    let level = Level {
-        view,
-        start: walk.place(),
-        kind: kind_of_children(view),
-        needs,
-    };
-    if inside(walk, &level)? {
-        Ok(Some(ParseStatus::None))
-    } else {
-        Ok(None)
-    }
-}
-
-// The kind of container that the nodes behind the front of the view ask for.
+// The kind of container that the children of the view ask for.
 fn kind_of_children(view: &TreeView<'_>) -> Kind
     requires { IsChildren view.now.paths view.now.front view.now.children }
     ensures { (c : ℕ) (node : Node) → slice_get view.now.children c ≡ Some node → kind_of node ≡ result }
@@ -119,29 +87,34 @@ fn kind_of_children(view: &TreeView<'_>) -> Kind
     }
 }
 
-// Follows the children of a level in the value that stands here: whether it was read to its end.
+// Follows the children of a level in the items of the container at the cursor: whether it was read
+// to its end.
 #[cycle(walk)]
-fn inside(walk: &mut Walk<'_>, level: &Level<'_, '_>) -> Result<bool, Fault>
+fn items(walk: &mut Walk<'_>, level: &Level<'_, '_>) -> Result<bool, Fault>
     requires start { level.now.start ≡ walk.old.place }
-    requires here { IsHere (here_at walk.old.text level.now) }
+    requires container { IsContainer (container_at walk.old.text level.now) }
     requires some { level.now.view.now.children ≢ List.[] }
-    requires told { IsTold walk.old.text level.now.view.now.paths walk.old.findings }
-    ensures below { OnOk result (IsBelow walk.old.text level.now.view.now.paths
-        level.now.view.now.front walk.old.findings walk.new.findings) }
+    requires are { AreFindings walk.old.text level.now.view.now.paths walk.old.findings }
+    ensures later { OnOk result (IsLater walk.old.text level.now.view.now.paths walk.old.findings
+        walk.new.findings) }
+    ensures settled { OnOk result (BelowSettled (container_at walk.old.text level.now).point
+        walk.new.findings) }
     ensures whole { IfOk result (λ whole. whole ≡ true
         → IsValue strict walk.old.text walk.old.place walk.new.place) }
     ensures status { IfOk result (λ whole. whole ≡ true
         → IsStatus walk.old.text walk.old.place walk.new.place ParseStatus.None) }
-    ensures unneeded { IfOk result (λ whole. IsUnneeded whole level.now.needs walk.new.findings) }
+    ensures unneeded { IfOk result (λ whole. whole ≡ false
+        → (level.now.needs ≡ false) × (walk.new.findings.lacking ≡ false)) }
     ensures text { OnOk result (walk.new.text ≡ walk.old.text) }
-    ensures err { IfErr result (IsStopFor (IsStop walk.old.text level.now.view.now.paths
-        level.now.view.now.front level.now.start level.now.needs)) }
+    ensures err { IfErr result (IsStopFor (IsStop (container_at walk.old.text level.now).point
+        level.now.needs)) }
 {
     walk.enter(level.kind)?;
-    let mut marks = Marks::new(walk.alloc(), level.view.count())?;
+    let mut visited = Visited::new(walk.alloc(), level.view.count())?;
     let mut passed = 0;
     'items: loop {
-        if !item(walk, level, &mut marks, passed)? {
+        item(walk, level, &mut visited, passed)?;
+        if !is_wanted(walk, level, &visited) {
             return Ok(false);
         }
         if !walk.next_item(level.kind)? {
@@ -149,78 +122,55 @@ fn inside(walk: &mut Walk<'_>, level: &Level<'_, '_>) -> Result<bool, Fault>
         }
         passed += 1;
     }
-    close(walk, &marks, level.kind)?;
+    close(walk, &visited, level.kind)?;
     Ok(true)
 }
 
-// Passes the item of a level that stands here, and follows the child that it is, unless no more is
-// needed behind it.
+// Passes the item at the cursor, and follows the child that it is.
 #[cycle(walk)]
 fn item(
     walk: &mut Walk<'_>,
     level: &Level<'_, '_>,
-    marks: &mut Marks,
+    visited: &mut Visited,
     passed: usize,
-) -> Result<bool, Fault>
-    requires { IsBefore (here_at walk.old.text level.now) passed walk.old.place marks.old
-        walk.old.findings }
-    ensures more { IfOk result (λ more. more ≡ true → IsBehind (here_at walk.old.text level.now)
-        passed walk.old.place walk.new.place marks.new walk.old.findings walk.new.findings) }
-    ensures done { IfOk result (λ more. more ≡ false
-        → IsDone (here_at walk.old.text level.now) walk.old.findings walk.new.findings) }
+) -> Result<(), Fault>
+    requires before { IsFollowed (container_at walk.old.text level.now)
+        (progress_at passed walk.old.place visited.old walk.old.findings) }
+    requires wanted { IsWanted (container_at walk.old.text level.now)
+        (progress_at passed walk.old.place visited.old walk.old.findings) }
+    ensures passed { OnOk result (IsPassed (container_at walk.old.text level.now)
+        (progress_at passed walk.old.place visited.new walk.new.findings) walk.new.place) }
+    ensures later { OnOk result (IsLater walk.old.text level.now.view.now.paths walk.old.findings
+        walk.new.findings) }
     ensures text { OnOk result (walk.new.text ≡ walk.old.text) }
-    ensures err { IfErr result (IsStopFor (IsStop walk.old.text level.now.view.now.paths
-        level.now.view.now.front level.now.start level.now.needs)) }
+    ensures err { IfErr result (IsStopFor (IsStop (container_at walk.old.text level.now).point
+        level.now.needs)) }
 {
     let child = head(walk, level, passed)?;
-    let Some(unmet) = marks.unmet(child) else {
+    let Some(unvisited) = visited.unvisited(child) else {
         walk.skip()?;
-        return Ok(true);
+        return Ok(());
     };
-    meet(walk, level, marks, unmet)
+    visited.visit(unvisited);
+    let more = is_wanted(walk, level, visited);
+    let (_, below) = level.view.child(unvisited);
+    follow(walk, &below, more)?;
+    Ok(())
 }
 
 // Whether more is needed of a level: its end, or a child.
-fn is_wanted(level: &Level<'_, '_>, lacking: bool, marks: &Marks) -> bool
-    ensures more { result ≡ true → (level.now.needs ≡ true) ⊎ (lacking ≡ true) ⊎ SomeOpen marks.now }
-    ensures done { result ≡ false
-        → (level.now.needs ≡ false) × (lacking ≡ false) × (SomeOpen marks.now → ⊥) }
+fn is_wanted(walk: &Walk<'_>, level: &Level<'_, '_>, visited: &Visited) -> bool
+    ensures more { result ≡ true
+        → (level.now.needs ≡ true) ⊎ (walk.now.findings.lacking ≡ true) ⊎ SomeOpen visited.now }
+    ensures done { result ≡ false → (level.now.needs ≡ false)
+        × (walk.now.findings.lacking ≡ false) × (SomeOpen visited.now → ⊥) }
 {
-    level.needs || lacking || !marks.is_done()
+    level.needs || walk.lacks_key() || !visited.is_done()
 }
 
-// Follows a child that was not met before in the value that stands here.
-#[cycle(walk)]
-fn meet(
-    walk: &mut Walk<'_>,
-    level: &Level<'_, '_>,
-    marks: &mut Marks,
-    child: usize,
-) -> Result<bool, Fault>
-    requires { (n : ℕ) × (h : ℕ) × IsMeeting (here_at walk.old.text level.now) n h
-        walk.old.place child marks.old walk.old.findings }
-    ensures more { IfOk result (λ more. more ≡ true → (n h : ℕ)
-        → IsMeeting (here_at walk.old.text level.now) n h walk.old.place child marks.old
-        walk.old.findings
-        → IsBehind (here_at walk.old.text level.now) n h walk.new.place marks.new
-        walk.old.findings walk.new.findings) }
-    ensures done { IfOk result (λ more. more ≡ false
-        → IsDone (here_at walk.old.text level.now) walk.old.findings walk.new.findings) }
-    ensures text { OnOk result (walk.new.text ≡ walk.old.text) }
-    ensures err { IfErr result (IsStopFor (IsStop walk.old.text level.now.view.now.paths
-        level.now.view.now.front level.now.start level.now.needs)) }
-{
-    marks.meet(child);
-    let more = is_wanted(level, walk.lacks_key(), marks);
-    let (_, below) = level.view.child(child);
-    visit(walk, &below, more)?;
-    Ok(more || walk.lacks_key())
-}
-
-// Passes what comes before the value of the item that stands here: the number of the child that it
-// is.
+// Passes what comes before the value of the item at the cursor: the number of the child that it is.
 fn head(walk: &mut Walk<'_>, level: &Level<'_, '_>, passed: usize) -> Result<Option<usize>, Stop>
-    ensures item { IfOk result (λ child. IsItem (here_at walk.old.text level.now) passed
+    ensures item { IfOk result (λ child. IsItem (container_at walk.old.text level.now) passed
         walk.old.place walk.new.place child) }
     ensures moved { OnOk result (walk.new ≡ record walk.old { place = walk.new.place }) }
     ensures later { OnOk result (walk.old.place ≤ walk.new.place) }
@@ -237,21 +187,22 @@ fn head(walk: &mut Walk<'_>, level: &Level<'_, '_>, passed: usize) -> Result<Opt
     }
 }
 
-// Tells what the children that were not met lead to, behind the closing bracket.
-fn close(walk: &mut Walk<'_>, marks: &Marks, kind: Kind) -> Result<(), Stop>
+// Notes what the children that were not visited lead to, after the closing bracket.
+fn close(walk: &mut Walk<'_>, visited: &Visited, kind: Kind) -> Result<(), Stop>
     requires { 0 < walk.old.place }
     ensures kept { walk.new ≡ record walk.old {
       findings =
           record walk.old.findings { lacking = walk.new.findings.lacking };
     } }
-    ensures all { OnOk result ((SomeOpen marks.now → ⊥)
-        → walk.new.findings.lacking ≡ walk.old.findings.lacking) }
-    ensures some { OnOk result (SomeOpen marks.now
+    ensures unvisited { OnOk result (SomeOpen visited.now
         → (kind ≡ Kind.Object) × (walk.new.findings.lacking ≡ true)) }
-    ensures err { IfErr result (λ s. SomeOpen marks.now × (kind ≡ Kind.Array)
+    ensures still { walk.old.findings.lacking ≡ true → walk.new.findings.lacking ≡ true }
+    ensures lack { OnOk result (walk.new.findings.lacking ≡ true
+        → (walk.old.findings.lacking ≡ true) ⊎ SomeOpen visited.now) }
+    ensures err { IfErr result (λ s. SomeOpen visited.now × (kind ≡ Kind.Array)
         × (s ≡ record { place = walk.old.place - 1; code = GetIndexOutOfArray })) }
 {
-    if marks.is_done() {
+    if visited.is_done() {
         return Ok(());
     }
     match kind {

@@ -1,4 +1,5 @@
-mod Descending
-mod Parsing
-mod Rules
+mod BeginningLemmas
+mod DescentLemmas
+pub mod FaultLemmas
+mod RefusalLemmas
 mod SkippingLemmas

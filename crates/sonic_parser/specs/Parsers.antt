@@ -44,9 +44,13 @@ pub record IsStopped (Fails : Stop → Type 0) (before now : Parsing) (e : Error
   pub error : IsErrorAt e stop.code before.text stop.place
   pub cursor : now ≡ moved before stop.place
 
--- there is no memory to skip the array or the object that is due, and the parser stands where it stood
+-- at i a container begins that has an item, or says so of what follows
+abbrev pub IsFilledContainer : List ℕ → ℕ → Type 0
+IsFilledContainer t i = (kind : Kind) × (byte t i ≡ opening kind) × (byte t (after_space t (i + 1)) ≢ closing kind)
+
+-- there is no memory to skip the container with items that is due, and the parser is where it was
 pub record IsOutOfMemory (before now : Parsing) (e : Error) : Type 0 where
-  pub container : (kind : Kind) × (byte before.text (due before) ≡ opening kind)
+  pub container : IsFilledContainer before.text (due before)
   pub error : IsPlainError e NoMemory
   pub cursor : now ≡ before
 

@@ -9,8 +9,8 @@ use Rattle.sonic_text.specs.Faults.{IsKeyFault}
 use Rattle.sonic_parser.specs.declared.begin.Begun.{Begun}
 use Rattle.sonic_parser.specs.declared.begin.Begun.TheVariants.{Complete, Inside}
 use Rattle.sonic_parser.specs.declared.begin.Skipped.{Skipped}
-use Rattle.sonic_parser.specs.declared.skip.State.{State}
-use Rattle.sonic_parser.specs.declared.skip.State.TheVariants.{Item, Ended}
+use Rattle.sonic_parser.specs.declared.container.Next.{Next}
+use Rattle.sonic_parser.specs.declared.container.Next.TheVariants.{Item, End}
 use Rattle.sonic_parser.specs.declared.status.ParseStatus.TheVariants.{HasEscaped}
 
 -- the value at i was read, and this is its end and its status
@@ -42,8 +42,8 @@ pub data IsOpen (m : Bool) (t : List ℕ) (i : ℕ) : ℕ → List Kind → Type
   inside : {kind : Kind} {p n h v : ℕ} {label : Option (List ℕ)} {outer kinds : List Kind} → IsOpen m t i p outer → ItemsFit m t kind p n h
       → ItemHead m t kind h v label → kinds ≡ outer ++ kind ∷ [] → IsOpen m t i v kinds
 
--- an item of the innermost of these open containers is due at h, and all before h fits
-pub record IsItemDue (m : Bool) (t : List ℕ) (i : ℕ) (kinds : List Kind) (h : ℕ) : Type 0 where
+-- an item of the innermost of these open containers is expected at h, and all before h fits
+pub record IsItemExpected (m : Bool) (t : List ℕ) (i : ℕ) (kinds : List Kind) (h : ℕ) : Type 0 where
   pub kind : Kind
   pub p : ℕ
   pub n : ℕ
@@ -57,16 +57,16 @@ pub record IsItemEnded (m : Bool) (t : List ℕ) (i : ℕ) (kinds : List Kind) (
   pub h : ℕ
   pub v : ℕ
   pub label : Option (List ℕ)
-  pub item : IsItemDue m t i kinds h
+  pub item : IsItemExpected m t i kinds h
   pub head : ItemHead m t item.kind h v label
   pub value : IsValue m t v e
 
--- where the loop is, inside open containers of these kinds of the value at i
-abbrev pub IsReading : Bool → List ℕ → ℕ → List Kind → State → Type 0
-IsReading m t i kinds (Item h) = (h ≤ length t) × IsItemDue m t i kinds h
-IsReading m t i kinds (Ended e) = (e ≤ length t) × IsItemEnded m t i kinds e
+-- after the end of a value inside the value at i, with these containers still open, an item is expected, or the value at i ended
+abbrev pub IsLeft : Bool → List ℕ → ℕ → List Kind → Next → Type 0
+IsLeft m t i kinds (Item h) = (h ≤ length t) × IsItemExpected m t i kinds h
+IsLeft m t i kinds (End j) = (j ≤ length t) × IsValue m t i j
 
--- the place that a state has come to
-abbrev pub place_of : State → ℕ
+-- the place from which it goes on
+abbrev pub place_of : Next → ℕ
 place_of (Item h) = h
-place_of (Ended e) = e
+place_of (End j) = j

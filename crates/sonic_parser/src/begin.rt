@@ -37,7 +37,7 @@ fn plain(end: usize) -> Begun
 
 // Begins the string whose quote stands at a place.
 #[inline]
-#[tactic(auto, using(crate::proofs::Rules::beginnings))]
+#[tactic(auto, using(crate::proofs::BeginningLemmas::beginnings))]
 fn begin_string(text: &[u8], place: usize, lossy: bool) -> Result<Begun, Stop>
     requires { byte text.now place ≡ 34 }
     ensures ok { IfOk result (λ begun. IsBegun lossy text.now place begun) }
@@ -51,7 +51,7 @@ fn begin_string(text: &[u8], place: usize, lossy: bool) -> Result<Begun, Stop>
 
 // Begins the number that stands at a place.
 #[inline]
-#[tactic(auto, using(crate::proofs::Rules::beginnings))]
+#[tactic(auto, using(crate::proofs::BeginningLemmas::beginnings))]
 fn begin_number(text: &[u8], place: usize, lossy: bool) -> Result<Begun, Stop>
     requires within { place ≤ length text.now }
     requires begins { (byte text.now place ≡ 45) ⊎ IsDigit (byte text.now place) }
@@ -66,7 +66,7 @@ fn begin_number(text: &[u8], place: usize, lossy: bool) -> Result<Begun, Stop>
 
 // Begins the container whose bracket stands at a place.
 #[inline]
-#[tactic(auto, using(crate::proofs::Rules::beginnings))]
+#[tactic(auto, using(crate::proofs::BeginningLemmas::beginnings))]
 fn begin_container(text: &[u8], place: usize, kind: Kind) -> Begun
     requires within { place ≤ length text.now }
     requires bracket { byte text.now place ≡ opening kind }
@@ -80,7 +80,7 @@ fn begin_container(text: &[u8], place: usize, kind: Kind) -> Begun
 
 // Begins the value that is due at a place.
 #[inline(always)]
-#[tactic(auto, using(crate::proofs::Rules::beginnings))]
+#[tactic(auto, using(crate::proofs::BeginningLemmas::beginnings))]
 pub(crate) fn begin(text: &[u8], place: usize, lossy: bool) -> Result<Begun, Stop>
     requires { place ≤ length text.now }
     ensures ok { IfOk result (λ begun. IsBegun lossy text.now place begun) }

@@ -61,7 +61,7 @@ pub(crate) struct KeyEnd {
 
 // The key that is due at a place, with the colon after it.
 #[inline]
-#[tactic(auto, using(crate::proofs::Rules::keys))]
+#[tactic(auto, using(crate::proofs::BeginningLemmas::keys))]
 pub(crate) fn key_end(text: &[u8], place: usize, lossy: bool) -> Result<KeyEnd, Stop>
     requires { place ≤ length text.now }
     ensures within { IfOk result (λ key. (place < key.value) × (key.value ≤ length text.now)) }

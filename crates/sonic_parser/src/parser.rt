@@ -50,7 +50,7 @@ impl<'de> Model for Parser<'de> {
 }
 
 impl<'de> Parser<'de> {
-    ghost use Rattle.sonic_parser.specs.Parsers.{moved, due, IsSkipped, IsUnskipped, IsStopped, IsOutOfMemory, IsEntered, IsKeyPassed, IsPassed};
+    ghost use Rattle.sonic_parser.specs.Parsers.{moved, due, IsSkipped, IsUnskipped, IsStopped, IsFilledContainer, IsOutOfMemory, IsEntered, IsKeyPassed, IsPassed};
 
     /// A strict parser, which starts where the reader stands.
     pub fn new(read: Read<'de>) -> Parser<'de>
@@ -162,7 +162,7 @@ impl<'de> Parser<'de> {
     ///
     /// At the start of `null,` the word `null` moves the cursor to the comma. At the start of `nx`
     /// it is `ErrorCode::InvalidLiteral` at 1, and of `nul` it is `ErrorCode::EofWhileParsing`.
-    #[tactic(auto, using(crate::proofs::Parsing::refusals))]
+    #[tactic(auto, using(crate::proofs::RefusalLemmas::refusals))]
     pub fn parse_literal(&mut self, literal: &str) -> Result<(), Error>
         ensures ok { OnOk result (IsLiteral literal.now self.old.text self.old.place self.new.place) }
         ensures cursor { OnOk result (self.new ≡ moved self.old self.new.place) }
@@ -182,7 +182,7 @@ impl<'de> Parser<'de> {
     ///
     /// It is the longest number: behind the `1` of `1.2.3` it is `1.2`, with the cursor at the
     /// second dot.
-    #[tactic(auto, using(crate::proofs::Parsing::refusals))]
+    #[tactic(auto, using(crate::proofs::RefusalLemmas::refusals))]
     pub fn skip_number(&mut self, first: u8) -> Result<&'de str, Error>
         requires behind { 0 < self.old.place }
         requires first { byte self.old.text (self.old.place - 1) ≡ first }
@@ -241,6 +241,7 @@ impl<'de> Parser<'de> {
         ensures cursor { self.new ≡ moved self.old self.new.place }
         ensures fits { OnOk result (self.new.place < 2 ^ 64) }
         ensures err { IfErr result (λ s. IsSeparatorFault self.old.text kind self.old.place s) }
+        ensures within { IfErr result (λ s. s.place ≤ length self.old.text) }
         ensures kept { OnErr result (self.new ≡ self.old) }
     {
         match next_item(self.read.as_u8_slice(), self.read.index(), kind)? {
@@ -266,6 +267,7 @@ impl<'de> Parser<'de> {
         ensures cursor { self.new ≡ moved self.old self.new.place }
         ensures err { IfErr result (λ s.
             IsKeyFault self.old.lossy self.old.text self.old.place s) }
+        ensures within { IfErr result (λ s. s.place ≤ length self.old.text) }
         ensures kept { OnErr result (self.new ≡ self.old) }
     {
         let key = key_end(self.read.as_u8_slice(), self.read.index(), self.lossy)?;
@@ -284,7 +286,8 @@ impl<'de> Parser<'de> {
         ensures err { IfErr result (IsStopFor (λ s.
             IsFault self.old.lossy self.old.text self.old.place s)) }
         ensures memory { IsErrOf result Fault.OutOfMemory
-            → (kind : Kind) × (byte self.old.text self.old.place ≡ opening kind) }
+            → IsFilledContainer self.old.text self.old.place }
+        ensures within { IfErr result (IsStopFor (λ s. s.place ≤ length self.old.text)) }
         ensures kept { OnErr result (self.new ≡ self.old) }
     {
         let text = self.read.as_u8_slice();
@@ -329,10 +332,10 @@ impl<'de> Parser<'de> {
     /// Passes the value that is due, however deep it is, and gives its text.
     ///
     /// The text begins with the value's first byte and ends with its last: of ` [1, 2] x` it is
-    /// `[1, 2]`. Only an array or an object takes memory, one byte for each that is open at once.
+    /// `[1, 2]`. Only a container with items takes memory, one byte for each that is open at once.
     /// What stands behind the value isn't read, and nothing is said of its UTF-8. After an error
     /// the cursor stands where the text's fault is, or, for want of memory, where it stood.
-    #[tactic(auto, using(crate::proofs::Parsing::refusals))]
+    #[tactic(auto, using(crate::proofs::RefusalLemmas::refusals))]
     pub fn skip_one(&mut self, alloc: Global) -> Result<(&'de [u8], ParseStatus), Error>
         ensures ok { IfOk result (λ found. IsSkipped self.old self.new found.0.now found.1) }
         ensures err { IfErr result (λ error. IsUnskipped self.old self.new error) }

@@ -1,27 +1,18 @@
 // The loop that skips a container, however deep it is.
-ghost use Rattle.std.specs.Prelude.{◌≡◌, ◌≤◌, [], ◌∷◌, length, IfOk, IfErr, OnOk};
-ghost use Rattle.sonic_text.specs.Values.{IsValue, ItemsFit};
+ghost use Rattle.std.specs.Prelude.{◌<◌, ◌≤◌, ℕ, Bool, length, vec_len, IfOk, IfErr};
+ghost use Rattle.sonic_text.specs.Values.{IsValue};
 ghost use Rattle.sonic_text.specs.Faults.{IsFault};
 ghost use Rattle.sonic_parser.specs.Faults.{IsStopFor};
-ghost use Rattle.sonic_parser.specs.Skipping.{IsItem, IsItemFault, IsReading};
+ghost use Rattle.sonic_parser.specs.Skipping.{IsItem, IsItemFault, IsItemEnded, IsLeft, place_of};
 
 use crate::begin::{Begun, begin};
 use crate::container::{Next, key_end, next_item};
 use crate::fault::Fault;
 use sonic_text::{Kind, Stop};
 
-// Where the loop is.
-#[derive(Clone, Copy)]
-pub(crate) enum State {
-    // An item of the innermost container is due here.
-    Item(usize),
-    // The value of an item of the innermost container ended here.
-    Ended(usize),
-}
-
-// The place where the value of the item is due that is due at a place.
+// The place where the value is expected of the item that is expected at a place.
 #[inline]
-#[tactic(auto, using(crate::proofs::Rules::items))]
+#[tactic(auto, using(crate::proofs::BeginningLemmas::items))]
 pub(crate) fn item_value(text: &[u8], place: usize, kind: Kind, lossy: bool) -> Result<usize, Stop>
     requires { place ≤ length text.now }
     ensures ok { IfOk result (λ value. IsItem lossy text.now kind place value) }
@@ -33,7 +24,36 @@ pub(crate) fn item_value(text: &[u8], place: usize, kind: Kind, lossy: bool) -> 
     }
 }
 
-// The end of the container that begins at `root`, whose first item is due at `first`.
+// How the innermost container that is still open goes on, after the value of an item ended at a
+// place: with an item, or, where no container is left, with the end of the outermost.
+//
+// `opened` has the kinds of the containers that are open, the outermost first. Those that end here
+// are taken off.
+#[inline]
+fn leave(text: &[u8], opened: &mut Vec<Kind>, ended: usize) -> Result<Next, Stop>
+    requires within { ended ≤ length text.now }
+    requires some { 0 < vec_len opened.old }
+    ensures later { IfOk result (λ next. ended < place_of next) }
+    ensures ok { (m : Bool) (root : ℕ) → IsItemEnded m text.now root opened.old.items ended
+        → IfOk result (IsLeft m text.now root opened.new.items) }
+    ensures err { (m : Bool) (root : ℕ) → IsItemEnded m text.now root opened.old.items ended
+        → IfErr result (λ s. IsFault m text.now root s) }
+{
+    let mut end = ended;
+    'containers: loop {
+        let kind = opened[opened.len() - 1];
+        match next_item(text, end, kind)? {
+            Next::Item(next) => return Ok(Next::Item(next)),
+            Next::End(close) => end = close,
+        }
+        opened.truncate(opened.len() - 1);
+        if opened.is_empty() {
+            return Ok(Next::End(end));
+        }
+    }
+}
+
+// The end of the container that begins at `root`, whose first item is expected at `first`.
 //
 // `opened` has the kind of that container. While the loop runs, it has the kinds of all containers
 // that are open, the outermost first. It is all that grows.
@@ -45,35 +65,25 @@ pub(crate) fn close(
     first: usize,
     lossy: bool,
 ) -> Result<usize, Fault>
-    requires { IsReading lossy text.now root opened.old.items (State.Item first) }
+    requires { IsLeft lossy text.now root opened.old.items (Next.Item first) }
     ensures within { IfOk result (λ end. end ≤ length text.now) }
     ensures ok { IfOk result (λ end. IsValue lossy text.now root end) }
     ensures err { IfErr result (IsStopFor (λ s. IsFault lossy text.now root s)) }
 {
-    let mut state = State::Item(first);
-    'states: loop {
-        let kind = opened[opened.len() - 1];
-        match state {
-            State::Item(place) => {
-                let value = item_value(text, place, kind, lossy)?;
-                match begin(text, value, lossy)? {
-                    Begun::Complete(skipped) => state = State::Ended(skipped.end),
-                    Begun::Inside(inner, first) => {
-                        opened.push(inner)?;
-                        state = State::Item(first);
-                    }
-                }
+    let mut place = first;
+    'items: loop {
+        let value = item_value(text, place, opened[opened.len() - 1], lossy)?;
+        let ended = match begin(text, value, lossy)? {
+            Begun::Complete(skipped) => skipped.end,
+            Begun::Inside(inner, first) => {
+                opened.push(inner)?;
+                place = first;
+                continue 'items;
             }
-            State::Ended(end) => match next_item(text, end, kind)? {
-                Next::Item(next) => state = State::Item(next),
-                Next::End(close) => {
-                    opened.truncate(opened.len() - 1);
-                    if opened.is_empty() {
-                        return Ok(close);
-                    }
-                    state = State::Ended(close);
-                }
-            },
+        };
+        match leave(text, opened, ended)? {
+            Next::Item(next) => place = next,
+            Next::End(end) => return Ok(end),
         }
     }
 }

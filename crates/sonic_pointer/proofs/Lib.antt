@@ -1,9 +1,9 @@
-mod Branches
-mod Fronts
-mod Growth
-mod Inserts
-mod Kids
-mod Labels
-mod NodeOrder
-pub mod Trees
-mod Walks
+mod BranchLemmas
+mod InsertLemmas
+mod LeavingLemmas
+mod NodeLemmas
+mod PathLemmas
+mod PlaceLemmas
+mod ShapeLemmas
+pub mod TreeLemmas
+mod TrieLemmas

@@ -3,13 +3,18 @@ use Rattle.std.specs.Prelude.{◌≡◌, ◌≢◌, ℕ, ◌-◌, ◌<◌, ◌�
 use Rattle.sonic_text.specs.Paths.{Node, index, Path}
 use Rattle.sonic_pointer.specs.Nodes.{is_key}
 use Rattle.sonic_pointer.specs.Paths.{HasNext, IsMixed}
-use Rattle.sonic_pointer.specs.Tries.{Entry, Spot, spots_of, spot_at, front_at, labels, entry_at, with_child, IsGap, IsLine, IsTree}
+use Rattle.sonic_pointer.specs.Tries.{Entry, Spot, spots_of, spot_at, front_at, label_at, labels, entry_at, with_child, IsStep, IsGap, IsLine, IsTree}
+use Rattle.sonic_pointer.specs.declared.commit.Parts.{Parts}
 use Rattle.sonic_pointer.specs.declared.shape.Shape.{Shape}
 use Rattle.sonic_pointer.specs.declared.shape.Leaving.{Leaving}
 
 -- its places, the root first
 abbrev pub entries_of : Shape → List Entry
 entries_of shape = shape.root.now ∷ shape.places.now
+
+-- the places that a tree keeps, the root first
+abbrev pub kept_entries : Parts → List Entry
+kept_entries parts = parts.root ∷ parts.places.items
 
 -- they hold a tree
 abbrev pub IsShape : Shape → Type 0
@@ -22,6 +27,13 @@ shape_spots shape = spots_of shape.paths.now (entries_of shape)
 -- the nodes that follow a place
 abbrev pub shape_labels : Shape → ℕ → List Node
 shape_labels shape at = labels (shape_spots shape) (spot_at (shape_spots shape) at)
+
+-- these are the numbers of the children of a place: each follows it by one node
+pub record AreKids (shape : Shape) (at : ℕ) (kids : List ℕ) : Type 0 where
+  pub count : length (shape_labels shape at) ≡ length kids
+  pub steps : (k : ℕ) → k < length kids → IsStep (shape_spots shape) (front_at (shape_spots shape) at) (slice_index_or kids k 0)
+  pub below : (k : ℕ) → k < length kids → slice_index_or kids k 0 < length (entries_of shape)
+  pub nodes : (k : ℕ) (d : Node) → k < length kids → slice_index_or (shape_labels shape at) k d ≡ label_at (shape_spots shape) (slice_index_or kids k 0)
 
 -- some node of the other kind follows the place
 pub record HasOtherKind (shape : Shape) (at : ℕ) (node : Node) : Type 0 where

@@ -1,8 +1,8 @@
 -- What the fields of a `PointerTree` keep.
-use Rattle.std.specs.Prelude.{◌∷◌}
 use Rattle.sonic_pointer.specs.Tries.{IsTree}
+use Rattle.sonic_pointer.specs.Shapes.{kept_entries}
 use Rattle.sonic_pointer.specs.declared.tree.PointerTree.TheInside.{Inside}
 
 -- the paths, and a place for each of their fronts
 abbrev pub IsKept : Inside → Type 0
-IsKept tree = IsTree tree.paths.items (tree.root ∷ tree.places.items)
+IsKept tree = IsTree tree.parts.paths.items (kept_entries tree.parts)

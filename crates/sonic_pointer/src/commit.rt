@@ -2,12 +2,34 @@
 ghost use Rattle.std.specs.Prelude.{◌≡◌, ◌+◌, ◌-◌, ◌^◌, ◌<◌, ◌≤◌, ◌∷◌, ◌++◌, [], IfOk, OnOk, OnErr, length, set, vec_len, vec_capacity};
 ghost use Rattle.sonic_pointer.specs.Paths.{IsShort};
 ghost use Rattle.sonic_pointer.specs.Tries.{entry_at, with_order, with_child, IsLine, IsTree};
-ghost use Rattle.sonic_pointer.specs.Shapes.{IsLeaving, Branches};
+ghost use Rattle.sonic_pointer.specs.Shapes.{kept_entries, entries_of, IsLeaving, Branches};
 
 use crate::owned::OwnedPath;
 use crate::place::Place;
-use crate::shape::Leaving;
+use crate::shape::{Leaving, Shape};
 use std::alloc::{AllocError, Global};
+
+// What a tree keeps: its paths, and a place for each prefix of them, the empty one's apart.
+#[derive(Debug, Drop)]
+pub(crate) struct Parts {
+    pub(crate) paths: Vec<OwnedPath>,
+    pub(crate) root: Place,
+    pub(crate) places: Vec<Place>,
+}
+
+impl Parts {
+    // The same parts, borrowed.
+    pub(crate) fn shape(&self) -> Shape<'_>
+        ensures paths { result.paths.now ≡ self.now.paths.items }
+        ensures entries { entries_of result ≡ kept_entries self.now }
+    {
+        Shape {
+            paths: self.paths.as_slice(),
+            root: &self.root,
+            places: self.places.as_slice(),
+        }
+    }
+}
 
 // The new places of a path with this length, below the depth where it leaves the tree.
 fn line(
@@ -72,79 +94,68 @@ fn add_child(
 }
 
 // The path ends at a place that is there.
-fn end_path(
-    paths: &mut Vec<OwnedPath>,
-    root: &mut Place,
-    places: &mut Vec<Place>,
-    at: usize,
-    path: OwnedPath,
-) -> Result<(), AllocError>
-    requires { at ≤ vec_len places.old }
-    ensures paths { OnOk result (paths.new.items ≡ paths.old.items ++ path ∷ []) }
-    ensures places { OnOk result (root.new ∷ places.new.items
-        ≡ set (root.old ∷ places.old.items) at
-        (with_order (entry_at (root.old ∷ places.old.items) at) (length paths.old.items))) }
-    ensures same_paths { OnErr result (paths.new.items ≡ paths.old.items) }
-    ensures same_places { OnErr result (root.new ∷ places.new.items ≡ root.old ∷ places.old.items) }
+fn end_path(parts: &mut Parts, at: usize, path: OwnedPath) -> Result<(), AllocError>
+    requires { at ≤ vec_len parts.old.places }
+    ensures paths { OnOk result (parts.new.paths.items ≡ parts.old.paths.items ++ path ∷ []) }
+    ensures places { OnOk result (kept_entries parts.new ≡ set (kept_entries parts.old) at
+        (with_order (entry_at (kept_entries parts.old) at) (length parts.old.paths.items))) }
+    ensures same_paths { OnErr result (parts.new.paths.items ≡ parts.old.paths.items) }
+    ensures same_places { OnErr result (kept_entries parts.new ≡ kept_entries parts.old) }
 {
-    let number = paths.len();
-    paths.reserve(1)?;
-    add_order(root, places, at, number)?;
-    paths.push_reserved(path);
+    let number = parts.paths.len();
+    parts.paths.reserve(1)?;
+    add_order(&mut parts.root, &mut parts.places, at, number)?;
+    parts.paths.push_reserved(path);
     Ok(())
 }
 
-// The path leaves the tree behind a place, and new places follow.
+// The path leaves the tree after a place, and new places follow.
 fn branch_path(
     alloc: Global,
-    paths: &mut Vec<OwnedPath>,
-    root: &mut Place,
-    places: &mut Vec<Place>,
+    parts: &mut Parts,
     leaving: Leaving,
     len: usize,
     path: OwnedPath,
 ) -> Result<(), AllocError>
-    requires inside { leaving.at ≤ vec_len places.old }
+    requires inside { leaving.at ≤ vec_len parts.old.places }
     requires fits { leaving.place
-        ≤ length (entry_at (root.old ∷ places.old.items) leaving.at).children }
+        ≤ length (entry_at (kept_entries parts.old) leaving.at).children }
     requires short { leaving.depth < len }
-    ensures paths { OnOk result (paths.new.items ≡ paths.old.items ++ path ∷ []) }
-    ensures places { OnOk result (Branches paths.old.items (root.old ∷ places.old.items)
-        (root.new ∷ places.new.items) leaving len) }
-    ensures same_paths { OnErr result (paths.new.items ≡ paths.old.items) }
-    ensures same_places { OnErr result (root.new ∷ places.new.items ≡ root.old ∷ places.old.items) }
+    ensures paths { OnOk result (parts.new.paths.items ≡ parts.old.paths.items ++ path ∷ []) }
+    ensures places { OnOk result (Branches parts.old.paths.items (kept_entries parts.old)
+        (kept_entries parts.new) leaving len) }
+    ensures same_paths { OnErr result (parts.new.paths.items ≡ parts.old.paths.items) }
+    ensures same_places { OnErr result (kept_entries parts.new ≡ kept_entries parts.old) }
 {
-    let number = paths.len();
-    let first = places.len() + 1;
-    paths.reserve(1)?;
-    places.reserve(len - leaving.depth)?;
-    let mut added = line(alloc, number, first, leaving.depth, len)?;
-    add_child(root, places, leaving.at, leaving.place, first)?;
-    paths.push_reserved(path);
-    let _ = places.append(&mut added);
-    Ok(())
+    let number = parts.paths.len();
+    let first = parts.places.len() + 1;
+    parts.paths.reserve(1)?;
+    let Leaving { at, depth, place } = leaving;
+    parts.places.reserve(len - depth)?;
+    let mut added = line(alloc, number, first, depth, len)?;
+    add_child(&mut parts.root, &mut parts.places, at, place, first)?;
+    parts.paths.push_reserved(path);
+    parts.places.append(&mut added)
 }
 
-// Appends the path, which leaves the tree here; for want of memory nothing changes.
+// Appends the path, which leaves the tree here; out of memory, nothing changes.
 pub(crate) fn keep(
     alloc: Global,
-    paths: &mut Vec<OwnedPath>,
-    root: &mut Place,
-    places: &mut Vec<Place>,
+    parts: &mut Parts,
     leaving: Leaving,
     len: usize,
     path: OwnedPath,
 ) -> Result<(), AllocError>
-    requires tree { IsTree paths.old.items (root.old ∷ places.old.items) }
-    requires leaving { IsLeaving paths.old.items (root.old ∷ places.old.items) path leaving }
+    requires tree { IsTree parts.old.paths.items (kept_entries parts.old) }
+    requires leaving { IsLeaving parts.old.paths.items (kept_entries parts.old) path leaving }
     requires len { len ≡ length path }
     requires short { IsShort path }
-    ensures tree { IsTree paths.new.items (root.new ∷ places.new.items) }
-    ensures ok { OnOk result (paths.new.items ≡ paths.old.items ++ path ∷ []) }
-    ensures err { OnErr result (paths.new.items ≡ paths.old.items) }
+    ensures tree { IsTree parts.new.paths.items (kept_entries parts.new) }
+    ensures ok { OnOk result (parts.new.paths.items ≡ parts.old.paths.items ++ path ∷ []) }
+    ensures err { OnErr result (parts.new.paths.items ≡ parts.old.paths.items) }
 {
     if leaving.depth == len {
-        return end_path(paths, root, places, leaving.at, path);
+        return end_path(parts, leaving.at, path);
     }
-    branch_path(alloc, paths, root, places, leaving, len, path)
+    branch_path(alloc, parts, leaving, len, path)
 }

@@ -1,9 +1,9 @@
 // A tree as its calls read it.
-ghost use Rattle.std.specs.Prelude.{◌≡◌, ◌<◌, ◌↔◌, IsTrue, IfOk, IfErr, Some, length, slice_get};
+ghost use Rattle.std.specs.Prelude.{◌≡◌, ◌<◌, ◌↔◌, IsTrue, IfOk, IfErr, IfSome, IfNone, Some, length, slice_get};
 ghost use Rattle.sonic_text.specs.Paths.{Node, Path};
 ghost use Rattle.sonic_pointer.specs.Nodes.{node_of, path_of};
-ghost use Rattle.sonic_pointer.specs.Paths.{IsMixed};
-ghost use Rattle.sonic_pointer.specs.Tries.{entry_at, label_at, IsStep, IsGap};
+ghost use Rattle.sonic_pointer.specs.Paths.{HasNext, IsMixed};
+ghost use Rattle.sonic_pointer.specs.Tries.{entry_at, front_at, label_at, IsStep, IsGap};
 
 use crate::fault::PathError;
 use crate::node::PointerNode;
@@ -31,7 +31,7 @@ pub(crate) struct Leaving {
 
 impl<'t> Shape<'t> {
     ghost use Rattle.sonic_pointer.specs.Wanted.{Stands};
-    ghost use Rattle.sonic_pointer.specs.Shapes.{entries_of, IsShape, shape_spots, shape_labels, HasOtherKind, IsLeaving};
+    ghost use Rattle.sonic_pointer.specs.Shapes.{entries_of, IsShape, shape_spots, shape_labels, AreKids, HasOtherKind, IsLeaving};
 
     // The place with this number, 0 for the root.
     pub(crate) fn place(&self, at: usize) -> &'t Place
@@ -56,7 +56,32 @@ impl<'t> Shape<'t> {
         paths[place.path()].node(place.depth() - 1)
     }
 
-    // The number of the child with this node, or where it would stand.
+    // The numbers of the children of the place with this number.
+    pub(crate) fn children(&self, at: usize) -> &'t [usize]
+        requires shape { IsShape self.now }
+        requires inside { at < length (entries_of self.now) }
+        ensures { AreKids self.now at result.now }
+    {
+        let place: &'t Place = self.place(at);
+        place.children()
+    }
+
+    // The node of the first child of the place with this number.
+    pub(crate) fn first(&self, at: usize) -> Option<PointerNode<'t>>
+        requires shape { IsShape self.now }
+        requires inside { at < length (entries_of self.now) }
+        ensures some { IfSome result (λ node.
+            HasNext self.now.paths.now (front_at (shape_spots self.now) at) (node_of node)) }
+        ensures none { IfNone result ((node : Node)
+            → ¬ HasNext self.now.paths.now (front_at (shape_spots self.now) at) node) }
+    {
+        match self.children(at).first() {
+            None => None,
+            Some(child) => Some(self.label(*child)),
+        }
+    }
+
+    // The number of the child with this node, or where it would go.
     pub(crate) fn find(&self, at: usize, wanted: &Wanted<'_>) -> Result<usize, usize>
         requires shape { IsShape self.now }
         requires inside { at < length (entries_of self.now) }
@@ -66,7 +91,7 @@ impl<'t> Shape<'t> {
         ensures absent { IfErr result (λ i. (node : Node) → Stands wanted.now node
             → IsGap (shape_labels self.now at) node i) }
     {
-        let children = self.place(at).children();
+        let children = self.children(at);
         let mut low = 0;
         let mut high = children.len();
         while low < high {
@@ -86,9 +111,9 @@ impl<'t> Shape<'t> {
         requires inside { at < length (entries_of self.now) }
         ensures { IsTrue result ↔ HasOtherKind self.now at (node_of node.entry) }
     {
-        match self.place(at).children().first() {
+        match self.first(at) {
             None => false,
-            Some(child) => self.label(*child).is_key() != node.is_key(),
+            Some(first) => first.is_key() != node.is_key(),
         }
     }
 
@@ -103,7 +128,7 @@ impl<'t> Shape<'t> {
         let mut at = 0;
         for (depth, node) in path.iter().enumerate() {
             match self.find(at, &Wanted::Node(*node)) {
-                Ok(i) => at = self.place(at).children()[i],
+                Ok(i) => at = self.children(at)[i],
                 Err(_) if self.mixes(at, *node) => return Err(PathError::Mixed),
                 Err(place) => return Ok(Leaving { at, depth, place }),
             }

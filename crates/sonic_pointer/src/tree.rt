@@ -4,12 +4,11 @@ ghost use Rattle.std.specs.List.{All};
 ghost use Rattle.sonic_pointer.specs.Nodes.{path_of};
 ghost use Rattle.sonic_pointer.specs.Paths.{IsMixed, IsShort, IsUnmixed};
 
-use crate::commit::keep;
+use crate::commit::{Parts, keep};
 use crate::fault::PathError;
 use crate::node::PointerNode;
 use crate::owned::OwnedPath;
 use crate::place::Place;
-use crate::shape::Shape;
 use crate::view::TreeView;
 use std::alloc::Global;
 use std::marker::Model;
@@ -28,9 +27,7 @@ use std::marker::Model;
 /// ```
 #[derive(Debug, Drop)]
 pub struct PointerTree {
-    paths: Vec<OwnedPath>,
-    root: Place,
-    places: Vec<Place>,
+    parts: Parts,
 }
 
 impl Model for PointerTree {
@@ -41,7 +38,7 @@ impl Model for PointerTree {
 
     ghost use Rattle.sonic_pointer.specs.Trees.{IsKept};
 
-    ghost view = { λ tree. tree.paths.items };
+    ghost view = { λ tree. tree.parts.paths.items };
 
     ghost invariant = { IsKept };
 }
@@ -54,11 +51,12 @@ impl PointerTree {
     pub fn new(alloc: Global) -> PointerTree
         ensures { result ≡ [] }
     {
-        PointerTree {
+        let parts = Parts {
             paths: Vec::new(alloc),
             root: Place::new(alloc, 0, 0),
             places: Vec::new(alloc),
-        }
+        };
+        PointerTree { parts }
     }
 
     /// Appends the path, whose number is the size so far.
@@ -76,22 +74,9 @@ impl PointerTree {
         if path.len() > MAX_NODES {
             return Err(PathError::TooLong);
         }
-        let shape = Shape {
-            paths: self.paths.as_slice(),
-            root: &self.root,
-            places: self.places.as_slice(),
-        };
-        let leaving = shape.walk(path)?;
+        let leaving = self.parts.shape().walk(path)?;
         let copy = OwnedPath::new(alloc, path)?;
-        keep(
-            alloc,
-            &mut self.paths,
-            &mut self.root,
-            &mut self.places,
-            leaving,
-            path.len(),
-            copy,
-        )?;
+        keep(alloc, &mut self.parts, leaving, path.len(), copy)?;
         Ok(())
     }
 
@@ -99,7 +84,7 @@ impl PointerTree {
     pub fn size(&self) -> usize
         ensures { result ≡ length self.now }
     {
-        self.paths.len()
+        self.parts.paths.len()
     }
 
     /// The place of the empty front.
@@ -109,10 +94,6 @@ impl PointerTree {
         ensures unmixed { IsUnmixed self.now }
         ensures short { All IsShort self.now }
     {
-        TreeView::of_root(Shape {
-            paths: self.paths.as_slice(),
-            root: &self.root,
-            places: self.places.as_slice(),
-        })
+        TreeView::of_root(self.parts.shape())
     }
 }

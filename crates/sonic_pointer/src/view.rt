@@ -72,9 +72,9 @@ impl<'t> TreeView<'t> {
     pub fn branch(&self) -> Branch
         ensures { IsBranch self.now.paths self.now.front result }
     {
-        match self.shape.place(self.at).children().first() {
+        match self.shape.first(self.at) {
             None => Branch::Leaf,
-            Some(child) if self.shape.label(*child).is_key() => Branch::Keys,
+            Some(node) if node.is_key() => Branch::Keys,
             Some(_) => Branch::Indexes,
         }
     }
@@ -84,7 +84,7 @@ impl<'t> TreeView<'t> {
         ensures count { result ≡ length self.now.children }
         ensures children { IsChildren self.now.paths self.now.front self.now.children }
     {
-        self.shape.place(self.at).children().len()
+        self.shape.children(self.at).len()
     }
 
     /// One of the nodes that follow, with its place.
@@ -94,7 +94,7 @@ impl<'t> TreeView<'t> {
         ensures paths { result.1.paths ≡ self.now.paths }
         ensures front { result.1.front ≡ self.now.front ++ node_of result.0 ∷ [] }
     {
-        let at = self.shape.place(self.at).children()[i];
+        let at = self.shape.children(self.at)[i];
         let node = self.shape.label(at);
         let below = TreeView {
             shape: self.shape,

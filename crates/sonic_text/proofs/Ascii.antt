@@ -1,11 +1,11 @@
 -- A number is ASCII, and so UTF-8.
-use Rattle.std.proofs.Common.{◌≡◌, ◌∙◌, ℕ, ◌+◌, ◌-◌, ◌<◌, ◌≤◌, ◌==◌, ◌||◌, true, false, inl, inr, length, drop, get_or, arith, refl, if◌then◌else◌}
+use Rattle.std.proofs.Common.{◌≡◌, ◌∙◌, ℕ, ◌+◌, ◌-◌, ◌<◌, ◌≤◌, true, inl, inr, length, drop, get_or, arith, refl}
 use Rattle.std.proofs.lemmas.Bool.{cases_lt}
 use Rattle.std.proofs.lemmas.Bool.Decides.{nat_tests}
 use Rattle.std.proofs.lemmas.List.{get_or-drop, get_or-take, get_or_past, length-take}
 use Rattle.std.proofs.lemmas.List.Sums.{prefix_len_passes}
 use Rattle.std.proofs.lemmas.Str.{IsUtf8-from_ascii}
-use Rattle.std.specs.Prelude.{Bool, List, slice_range, slice_index}
+use Rattle.std.specs.Prelude.{List, slice_range, slice_index}
 use Rattle.std.specs.Char.{is_ascii_digit}
 use Rattle.std.specs.List.{prefix_len}
 use Rattle.std.specs.Str.{IsUtf8}
@@ -41,14 +41,12 @@ digits t i j e p l h =
     digit_small (byte t p) (rw f at g)
 
 -- so is a minus sign
-minus : (t : List ℕ) (i : ℕ) (b : Bool) → (byte t i == 45) ≡ b → AreAscii t i (if b then i + 1 else i)
-minus t i true e = one t i (grind (arith, nat_tests))
-minus t i false e = none t i i refl
+minus : (t : List ℕ) (i : ℕ) → AreAscii t i (after_minus t i)
+minus t i p l h = grind (arith, nat_tests)
 
 -- so is a sign
-sign : (t : List ℕ) (i : ℕ) (b : Bool) → (byte t i == 43 || byte t i == 45) ≡ b → AreAscii t i (if b then i + 1 else i)
-sign t i true e = one t i (grind (arith, nat_tests))
-sign t i false e = none t i i refl
+sign : (t : List ℕ) (i : ℕ) → AreAscii t i (after_sign t i)
+sign t i p l h = grind (arith, nat_tests)
 
 int : (t : List ℕ) (i j : ℕ) → IsInt t i j → AreAscii t i j
 int t i j (inl h) = rw h.2 (one t i (omega (arith, h.0)))
@@ -65,7 +63,7 @@ letter b (inr e) = omega arith
 exponent : (t : List ℕ) (i j : ℕ) → IsExponent t i j → AreAscii t i j
 exponent t i j (inl h) =
     let d = after_sign t (i + 1) in
-    joined t i (i + 1) j (one t i (letter _ h.0)) (joined t (i + 1) d j (sign t (i + 1) _ refl) (digits t d j h.2))
+    joined t i (i + 1) j (one t i (letter _ h.0)) (joined t (i + 1) d j (sign t (i + 1)) (digits t d j h.2))
 exponent t i j (inr h) = none t i j h.1
 
 -- each byte of a number is ASCII
@@ -73,7 +71,7 @@ pub number_ascii : (t : List ℕ) (i j : ℕ) → IsNumber t i j → AreAscii t 
 number_ascii t i j n =
     let d = after_minus t i in
     let rest = joined t n.int_end n.fraction_end j (fraction t n.int_end n.fraction_end n.fraction) (exponent t n.fraction_end j n.exponent) in
-    joined t i d j (minus t i _ refl) (joined t d n.int_end j (int t d n.int_end n.int) rest)
+    joined t i d j (minus t i) (joined t d n.int_end j (int t d n.int_end n.int) rest)
 
 -- a part of ASCII bytes alone is UTF-8
 part_utf8 : (t : List ℕ) (i j : ℕ) → AreAscii t i j → IsUtf8 (slice_range t i j)

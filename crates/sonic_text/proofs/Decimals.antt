@@ -1,5 +1,5 @@
 -- A number of the grammar that is an integer is what std reads as decimal digits.
-use Rattle.std.proofs.Common.{◌≡◌, ◌≢◌, ℕ, suc, ◌+◌, ◌-◌, ◌<◌, ◌≤◌, ◌^◌, ◌==◌, ◌⊎◌, Bool, true, false, cond, List, [], ◌∷◌, length, drop, arith, refl, add-zero, lit≤, inl, inr, Result, Ok, Err, length-drop}
+use Rattle.std.proofs.Common.{◌≡◌, ◌≢◌, ℕ, ◌+◌, ◌-◌, ◌<◌, ◌≤◌, ◌^◌, ◌==◌, ◌⊎◌, Bool, true, false, cond, List, [], ◌∷◌, length, drop, arith, refl, add-zero, lit≤, inl, inr, Result, Ok, Err, length-drop}
 use Rattle.std.proofs.lemmas.Bool.{cases_lt}
 use Rattle.std.proofs.lemmas.Bool.Decides.{nat_tests}
 use Rattle.std.proofs.lemmas.List.{get_or-drop}
@@ -21,17 +21,13 @@ use Rattle.sonic_text.proofs.Numbers.{int_longer}
 digit_below_ten : (c : ℕ) → is_ascii_digit c ≡ true → digit_value c < 10
 digit_below_ten c h = grind (arith, nat_tests)
 
--- one more that passes
-step : (b : Bool) (m n : ℕ) → cond b (1 + m) 0 ≡ suc n → (b ≡ true) × (m ≡ n)
-step true m n e = (refl, omega arith)
-step false m n e = absurd (omega arith)
-
 -- where the digits reach to the end, all bytes are digits
 all_digits : (t : List ℕ) → prefix_len is_ascii_digit t ≡ length t → AllDigits 10 t
 all_digits [] e = tt
 all_digits (c ∷ cs) e =
-    let s = step (is_ascii_digit c) (prefix_len is_ascii_digit cs) (length cs) e in
-    (digit_below_ten c s.0, all_digits cs s.1)
+    let here : is_ascii_digit c ≡ true = grind (arith, nat_tests) in
+    let rest : prefix_len is_ascii_digit cs ≡ length cs = grind (arith, nat_tests) in
+    (digit_below_ten c here, all_digits cs rest)
 
 -- a zero alone is one digit
 one_digit : (t : List ℕ) → byte t 0 ≡ 48 → length t ≡ 1 → AllDigits 10 t

@@ -1,27 +1,26 @@
 pub mod Ascii
-mod Codepoints
+mod CodepointLemmas
 pub mod Decimals
-mod EscapeFaults
-mod Escapes
-mod FirstBytes
-mod HexDigits
+mod EscapeFaultLemmas
+mod EscapeLemmas
+mod FirstByteLemmas
+mod HexDigitLemmas
 pub mod Insides
 pub mod Items
-mod Keys
-mod LiteralStrings
-mod Literals
-mod Meanings
+mod KeyLemmas
+mod LiteralLemmas
 pub mod NumberParts
 pub mod Numbers
 pub mod Outcomes
 pub mod Parts
 pub mod Places
 pub mod Stops
-mod StringParts
+mod StringPartLemmas
+mod StringReadingLemmas
 pub mod StringTexts
 pub mod Strings
-mod Tables
-mod Unescaping
+mod TableLemmas
+pub mod TreeLemmas
 pub mod ValueParts
 pub mod Values
 pub mod Within

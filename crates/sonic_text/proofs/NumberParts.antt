@@ -1,24 +1,20 @@
 -- A number that stands in a text stands in each part of it that holds it.
-use Rattle.std.proofs.Common.{◌≡◌, ◌∙◌, ℕ, ◌+◌, ◌-◌, ◌<◌, ◌≤◌, ◌==◌, ◌||◌, Bool, true, false, inl, inr, List, length, arith, refl, if◌then◌else◌}
+use Rattle.std.proofs.Common.{◌≡◌, ◌∙◌, ℕ, ◌+◌, ◌-◌, ◌<◌, ◌≤◌, inl, inr, List, length, arith}
+use Rattle.std.proofs.lemmas.Bool.Decides.{nat_tests}
 use Rattle.sonic_text.specs.Places.{byte}
 use Rattle.sonic_text.specs.Numbers.{after_minus, after_sign, IsInt, IsFraction, IsE, IsExponent, IsNumber}
 use Rattle.sonic_text.proofs.Places.{digits_end_later}
 use Rattle.sonic_text.proofs.Numbers.{int_longer, after_minus_later, after_sign_later, fraction_later, exponent_later}
 use Rattle.sonic_text.proofs.Parts.{IsPart, byte_part, other_part, no_digit_part, digits_part}
 
--- a place or the one behind it
-either : (b : Bool) (d q : ℕ) → ◌≡◌ {A = ℕ} (if b then d + q + 1 else d + q) (d + (if b then q + 1 else q))
-either true d q = omega arith
-either false d q = refl
-
 module _ {t u : List ℕ} {d : ℕ} (part : IsPart t u d) where
   -- a minus sign
   minus_part : (p q : ℕ) → p ≡ d + q → q < length u → after_minus t p ≡ d + after_minus u q
-  minus_part p q e l = rw (byte_part part p q e l, e) (either (byte t (d + q) == 45) d q)
+  minus_part p q e l = let b = byte_part part p q e l in grind (arith, nat_tests)
 
   -- a sign
   sign_part : (p q : ℕ) → p ≡ d + q → q < length u → after_sign t p ≡ d + after_sign u q
-  sign_part p q e l = rw (byte_part part p q e l, e) (either (byte t (d + q) == 43 || byte t (d + q) == 45) d q)
+  sign_part p q e l = let b = byte_part part p q e l in grind (arith, nat_tests)
 
   -- an integer
   pub int_part : (p q j k : ℕ) → p ≡ d + q → j ≡ d + k → k ≤ length u → IsInt t p j → IsInt u q k

@@ -1,10 +1,12 @@
 -- A number stands at a place, or it doesn't for one reason.
 use Rattle.std.proofs.Common.{◌≡◌, ◌⊎◌, ℕ, ◌+◌, ◌<◌, ◌≤◌, inl, inr, arith, refl}
+use Rattle.std.proofs.Common.{Result, Ok, Err, MatchResult}
 use Rattle.std.proofs.lemmas.Bool.{cases_lt, cases_eq}
 use Rattle.std.proofs.lemmas.Bool.Decides.{nat_tests}
 use Rattle.std.specs.Prelude.{List}
 use Rattle.sonic_text.specs.declared.stop.Stop.{Stop}
-use Rattle.sonic_text.specs.Places.{byte, IsDigit}
+use Rattle.sonic_error.specs.declared.code.ErrorCode.TheVariants.{InvalidNumber}
+use Rattle.sonic_text.specs.Places.{byte, bad, digits_end, IsDigit}
 use Rattle.sonic_text.specs.Numbers.{after_minus, after_sign, IsInt, IsFraction, IsE, IsExponent, IsNumber, IsIntFault, IsFractionFault, IsExponentFault, IsNumberFault}
 use Rattle.sonic_text.specs.Numbers.IsNumberFault.{in_int, in_fraction, in_exponent}
 use Rattle.sonic_text.proofs.Places.{digits_end_later}
@@ -23,33 +25,62 @@ e_or_not b = elim (cases_eq b 101) [
   | inr e ↦ elim (cases_eq b 69) [ inl f ↦ inl (inr f) | inr f ↦ inr (λ h. grind arith) ]
 ]
 
--- an integer has one end
-int_ends : (t : List ℕ) (i : ℕ) {j k : ℕ} → IsInt t i j → IsInt t i k → j ≡ k
-int_ends t i h g = grind arith
+-- a fraction or an exponent: all digits from d on, at least one, after a mark, or nothing where no mark is
+abbrev pub Tail : List ℕ → Type 0 → ℕ → ℕ → ℕ → Type 0
+Tail t Marks d i j = Marks × IsDigit (byte t d) × (j ≡ digits_end t d) ⊎ ¬ Marks × (j ≡ i)
 
--- a fraction has one end
-fraction_ends : (t : List ℕ) (i : ℕ) {j k : ℕ} → IsFraction t i j → IsFraction t i k → j ≡ k
-fraction_ends t i h g = grind arith
+abbrev TailFault : List ℕ → Type 0 → ℕ → Stop → Type 0
+TailFault t Marks d s = Marks × ¬ IsDigit (byte t d) × (s ≡ bad t d InvalidNumber)
 
--- an exponent has one end
-exponent_ends : (t : List ℕ) (i : ℕ) {j k : ℕ} → IsExponent t i j → IsExponent t i k → j ≡ k
-exponent_ends t i h g = grind arith
+-- an integer has one outcome
+int_one : (t : List ℕ) (i : ℕ) (r q : Result ℕ Stop) → MatchResult r (IsInt t i) (IsIntFault t i) → MatchResult q (IsInt t i) (IsIntFault t i) → r ≡ q
+int_one t i (Ok j) (Ok k) h g = let e : j ≡ k = grind arith in cc
+int_one t i (Ok j) (Err s) h g = absurd (grind arith)
+int_one t i (Err s) (Ok j) h g = absurd (grind arith)
+int_one t i (Err s) (Err z) h g = let e : s ≡ z = grind arith in cc
 
--- an integer that stands somewhere has no fault there
-int_never : (t : List ℕ) (i : ℕ) {j : ℕ} {s : Stop} → IsInt t i j → IsIntFault t i s → ⊥
-int_never t i h f = grind arith
+-- so has what comes after it
+tail_one : (t : List ℕ) (Marks : Type 0) (d i : ℕ) (r q : Result ℕ Stop) → MatchResult r (Tail t Marks d i) (TailFault t Marks d)
+    → MatchResult q (Tail t Marks d i) (TailFault t Marks d) → r ≡ q
+tail_one t Marks d i (Ok j) (Ok k) h g = let e : j ≡ k = grind arith in cc
+tail_one t Marks d i (Ok j) (Err s) h g = absurd (grind arith)
+tail_one t Marks d i (Err s) (Ok j) h g = absurd (grind arith)
+tail_one t Marks d i (Err s) (Err z) h g = let e : s ≡ z = grind arith in cc
 
--- a fraction that stands somewhere has no fault there
-fraction_never : (t : List ℕ) (i : ℕ) {j : ℕ} {s : Stop} → IsFraction t i j → IsFractionFault t i s → ⊥
-fraction_never t i h f = grind arith
+-- the outcome of two parts, of which the second begins where the first ends
+abbrev Then : (Result ℕ Stop → Type 0) → (ℕ → Result ℕ Stop → Type 0) → Result ℕ Stop → Type 0
+Then First Next r = (x : Result ℕ Stop) × First x × MatchResult x (λ w. Next w r) (λ s. r ≡ Err s)
 
--- an exponent that stands somewhere has no fault there
-exponent_never : (t : List ℕ) (i : ℕ) {j : ℕ} {s : Stop} → IsExponent t i j → IsExponentFault t i s → ⊥
-exponent_never t i h f = grind arith
+-- is one, if each part has one
+then_one : {First : Result ℕ Stop → Type 0} {Next : ℕ → Result ℕ Stop → Type 0} {r q : Result ℕ Stop} → ((x y : Result ℕ Stop) → First x → First y → x ≡ y)
+    → ((w : ℕ) (x y : Result ℕ Stop) → Next w x → Next w y → x ≡ y) → Then First Next r → Then First Next q → r ≡ q
+then_one {r = r} {q} one next (Ok w, f, h) (y, g, k) = let e : y ≡ Ok w = one y (Ok w) g f in next w r q h (rw e at k)
+then_one {q = q} one next (Err s, f, h) (y, g, k) =
+    let e : y ≡ Err s = one y (Err s) g f in
+    let z : q ≡ Err s = rw e at k in
+    cc
 
--- an integer has one fault at a place
-int_fault_one : (t : List ℕ) (i : ℕ) {s r : Stop} → IsIntFault t i s → IsIntFault t i r → s ≡ r
-int_fault_one t i f g = grind arith
+-- a number's parts, one after the other
+abbrev Parts : List ℕ → ℕ → Result ℕ Stop → Type 0
+Parts t i = Then (λ x. MatchResult x (IsInt t (after_minus t i)) (IsIntFault t (after_minus t i)))
+    (λ w. Then (λ y. MatchResult y (IsFraction t w) (IsFractionFault t w)) (λ f r. MatchResult r (IsExponent t f) (IsExponentFault t f)))
+
+parts_of : (t : List ℕ) (i : ℕ) (r : Result ℕ Stop) → MatchResult r (IsNumber t i) (IsNumberFault t i) → Parts t i r
+parts_of t i (Ok j) h = (Ok h.int_end, h.int, (Ok h.fraction_end, h.fraction, h.exponent))
+parts_of t i (Err s) (in_int f) = (Err s, f, refl)
+parts_of t i (Err s) (in_fraction {w} a f) = (Ok w, a, (Err s, f, refl))
+parts_of t i (Err s) (in_exponent {w} {f = v} a b f) = (Ok w, a, (Ok v, b, f))
+
+-- a number has one outcome
+pub number_outcome_one : (t : List ℕ) (i : ℕ) (r q : Result ℕ Stop) → MatchResult r (IsNumber t i) (IsNumberFault t i)
+    → MatchResult q (IsNumber t i) (IsNumberFault t i) → r ≡ q
+number_outcome_one t i r q h g =
+    then_one (int_one t (after_minus t i))
+    (λ w x y. then_one (tail_one t (byte t w ≡ 46) (w + 1) w) (λ f. tail_one t (IsE (byte t f)) (after_sign t (f + 1)) f))
+    (parts_of t i r h) (parts_of t i q g)
+
+pub number_one : {t : List ℕ} {i j k : ℕ} → IsNumber t i j → IsNumber t i k → j ≡ k
+number_one {t} {i} {j} {k} h g = let e = number_outcome_one t i (Ok j) (Ok k) h g in cc
 
 -- an integer stands at a place or has a fault there
 int_some : (t : List ℕ) (i : ℕ) → ((j : ℕ) × IsInt t i j) ⊎ ((s : Stop) × IsIntFault t i s)
@@ -64,25 +95,10 @@ int_some t i = elim (digit_or_not (byte t i)) [
   ]
 ]
 
--- a fraction stands at a place, or none does, or one has a fault there
-fraction_some : (t : List ℕ) (i : ℕ) → ((j : ℕ) × IsFraction t i j) ⊎ ((s : Stop) × IsFractionFault t i s)
-fraction_some t i = elim (cases_eq (byte t i) 46) [
-  | inr e ↦ inl (i, inr (e, refl))
-  | inl e ↦ elim (digit_or_not (byte t (i + 1))) [
-    | inl d ↦ inl (_, inl (e, d, refl))
-    | inr d ↦ inr (_, (e, d, refl))
-  ]
-]
-
--- an exponent stands at a place, or none does, or one has a fault there
-exponent_some : (t : List ℕ) (i : ℕ) → ((j : ℕ) × IsExponent t i j) ⊎ ((s : Stop) × IsExponentFault t i s)
-exponent_some t i = elim (e_or_not (byte t i)) [
-  | inr e ↦ inl (i, inr (e, refl))
-  | inl e ↦ elim (digit_or_not (byte t (after_sign t (i + 1)))) [
-    | inl d ↦ inl (_, inl (e, d, refl))
-    | inr d ↦ inr (_, (e, d, refl))
-  ]
-]
+-- what comes after it has an outcome, by its mark
+tail_some : (t : List ℕ) (Marks : Type 0) (d i : ℕ) → Marks ⊎ ¬ Marks → ((j : ℕ) × Tail t Marks d i j) ⊎ ((s : Stop) × TailFault t Marks d s)
+tail_some t Marks d i (inr e) = inl (i, inr (e, refl))
+tail_some t Marks d i (inl e) = elim (digit_or_not (byte t d)) [ inl h ↦ inl (_, inl (e, h, refl)) | inr h ↦ inr (_, (e, h, refl)) ]
 
 -- a minus sign leads on
 pub after_minus_later : (t : List ℕ) (i : ℕ) → i ≤ after_minus t i
@@ -123,64 +139,13 @@ number_begins {t} {i} {j} h = elim (cases_eq (byte t i) 45) [
       inr (grind arith)
 ]
 
--- an integer and a fraction behind it have one end
-parts_end : (t : List ℕ) (i : ℕ) {w v f g : ℕ} → IsInt t i w → IsFraction t w f → IsInt t i v → IsFraction t v g → f ≡ g
-parts_end t i {w} {v} a b c d =
-    let e : w ≡ v = int_ends t i a c in
-    fraction_ends t v (rw e at b) d
-
--- a number has one end
-pub number_one : {t : List ℕ} {i j k : ℕ} → IsNumber t i j → IsNumber t i k → j ≡ k
-number_one {t} {i} h g =
-    let e : h.fraction_end ≡ g.fraction_end = parts_end t (after_minus t i) h.int h.fraction g.int g.fraction in
-    exponent_ends t g.fraction_end (rw e at h.exponent) g.exponent
-
--- no fraction has a fault behind an integer that one stands behind
-fraction_clash : (t : List ℕ) (i : ℕ) {w v f : ℕ} {s : Stop} → IsInt t i w → IsFraction t w f → IsInt t i v → IsFractionFault t v s → ⊥
-fraction_clash t i {w} {v} a b c d =
-    let e : w ≡ v = int_ends t i a c in
-    fraction_never t v (rw e at b) d
-
--- a number that stands somewhere has no fault there
-pub number_never_both : {t : List ℕ} {i j : ℕ} {s : Stop} → IsNumber t i j → IsNumberFault t i s → ⊥
-number_never_both {t} {i} h (in_int f) = int_never t (after_minus t i) h.int f
-number_never_both {t} {i} h (in_fraction a d) = fraction_clash t (after_minus t i) h.int h.fraction a d
-number_never_both {t} {i} h (in_exponent {f = f} a b d) =
-    let e : h.fraction_end ≡ f = parts_end t (after_minus t i) h.int h.fraction a b in
-    exponent_never t f (rw e at h.exponent) d
-
--- the faults behind one integer are one
-fraction_fault_one : (t : List ℕ) (i : ℕ) {w v : ℕ} {s r : Stop} → IsInt t i w → IsFractionFault t w s → IsInt t i v → IsFractionFault t v r → s ≡ r
-fraction_fault_one t i {w} {v} a f b g =
-    let e : w ≡ v = int_ends t i a b in
-    let d = rw e at f in
-    cc (g.2)
-
--- the faults behind one fraction are one
-exponent_fault_one : (t : List ℕ) {w v : ℕ} {s r : Stop} → w ≡ v → IsExponentFault t w s → IsExponentFault t v r → s ≡ r
-exponent_fault_one t e f g =
-    let d = rw e at f in
-    cc (g.2)
-
--- a number has one fault at a place
-pub number_fault_one : {t : List ℕ} {i : ℕ} {s r : Stop} → IsNumberFault t i s → IsNumberFault t i r → s ≡ r
-number_fault_one {t} {i} (in_int f) (in_int g) = int_fault_one t (after_minus t i) f g
-number_fault_one {t} {i} (in_int f) (in_fraction a g) = absurd (int_never t (after_minus t i) a f)
-number_fault_one {t} {i} (in_int f) (in_exponent a b g) = absurd (int_never t (after_minus t i) a f)
-number_fault_one {t} {i} (in_fraction a f) (in_int g) = absurd (int_never t (after_minus t i) a g)
-number_fault_one {t} {i} (in_fraction a f) (in_fraction b g) = fraction_fault_one t (after_minus t i) a f b g
-number_fault_one {t} {i} (in_fraction a f) (in_exponent b c g) = absurd (fraction_clash t (after_minus t i) b c a f)
-number_fault_one {t} {i} (in_exponent a b f) (in_int g) = absurd (int_never t (after_minus t i) a g)
-number_fault_one {t} {i} (in_exponent a b f) (in_fraction c g) = absurd (fraction_clash t (after_minus t i) a b c g)
-number_fault_one {t} {i} (in_exponent a b f) (in_exponent c d g) = exponent_fault_one t (parts_end t (after_minus t i) a b c d) f g
-
 -- a number stands at a place or has a fault there
 pub number_some : (t : List ℕ) (i : ℕ) → ((j : ℕ) × IsNumber t i j) ⊎ ((s : Stop) × IsNumberFault t i s)
 number_some t i = elim (int_some t (after_minus t i)) [
   | inr (s, f) ↦ inr (s, in_int f)
-  | inl (w, a) ↦ elim (fraction_some t w) [
+  | inl (w, a) ↦ elim (tail_some t (byte t w ≡ 46) (w + 1) w (cases_eq (byte t w) 46)) [
     | inr (s, f) ↦ inr (s, in_fraction a f)
-    | inl (v, b) ↦ elim (exponent_some t v) [
+    | inl (v, b) ↦ elim (tail_some t (IsE (byte t v)) (after_sign t (v + 1)) v (e_or_not (byte t v))) [
       | inr (s, f) ↦ inr (s, in_exponent a b f)
       | inl (j, c) ↦ inl (j, record { int_end = w; fraction_end = v; int = a; fraction = b; exponent = c })
     ]

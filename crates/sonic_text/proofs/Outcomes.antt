@@ -12,9 +12,9 @@ use Rattle.sonic_text.specs.Values.IsValue.{null_literal, true_literal, false_li
 use Rattle.sonic_text.specs.Values.ItemsFit.{first_item, next_item}
 use Rattle.sonic_text.specs.Faults.{IsFault, NothingFits}
 use Rattle.sonic_text.specs.Faults.IsFault.{no_value, null_fault, true_fault, false_fault, number_fault, string_fault, in_key, in_value, after_item}
-use Rattle.sonic_text.proofs.FirstBytes.{Sort, none, a_null, a_true, a_false, a_number, a_string, a_container, Begins, sort_of, begins_of}
+use Rattle.sonic_text.proofs.FirstByteLemmas.{Sort, none, a_null, a_true, a_false, a_number, a_string, a_container, Begins, sort_of, begins_of}
 use Rattle.sonic_text.proofs.Places.{after_space_later, byte_within}
-use Rattle.sonic_text.proofs.Literals.{literal_some}
+use Rattle.sonic_text.proofs.LiteralLemmas.{literal_some}
 use Rattle.sonic_text.proofs.Numbers.{number_some}
 use Rattle.sonic_text.proofs.Items.{head_some, opening_not_end}
 use Rattle.sonic_text.proofs.Strings.{string_some}

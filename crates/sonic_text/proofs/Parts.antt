@@ -1,6 +1,7 @@
 -- A part of a text: its bytes and its runs are those of the text.
-use Rattle.std.proofs.Common.{◌≡◌, ◌≢◌, ◌∙◌, ℕ, zero, suc, ◌+◌, ◌-◌, ◌<◌, ◌≤◌, Bool, true, false, inl, inr, List, [], ◌∷◌, length, take, drop, arith, refl, sym, if◌then◌else◌}
+use Rattle.std.proofs.Common.{◌≡◌, ◌≢◌, ◌∙◌, ℕ, zero, suc, ◌+◌, ◌-◌, ◌<◌, ◌≤◌, Bool, inl, inr, List, [], ◌∷◌, length, take, drop, arith, refl, sym}
 use Rattle.std.proofs.lemmas.Bool.{cases_lt}
+use Rattle.std.proofs.lemmas.Bool.Decides.{nat_tests}
 use Rattle.std.proofs.lemmas.List.{get_or-drop, get_or-take, length-take, length-drop, drop-take, drop-drop}
 use Rattle.std.specs.Prelude.{slice_range}
 use Rattle.std.specs.List.{prefix_len}
@@ -13,16 +14,11 @@ pub record IsPart (t u : List ℕ) (d : ℕ) : Type 0 where
   pub bytes : (q : ℕ) → q < length u → byte u q ≡ byte t (d + q)
   pub runs : (f : ℕ → Bool) (q : ℕ) → q + prefix_len f (drop (d + q) t) ≤ length u → prefix_len f (drop q u) ≡ prefix_len f (drop (d + q) t)
 
--- one more byte of such a run
-run_step : (b : Bool) (n p q : ℕ) → (if b then 1 + p else 0) ≤ suc n → (p ≤ n → q ≡ p) → ◌≡◌ {A = ℕ} (if b then 1 + q else 0) (if b then 1 + p else 0)
-run_step true n p q l h = let e : q ≡ p = h (omega arith) in omega arith
-run_step false n p q l h = refl
-
 -- a run of at most n bytes is a run of the first n
 run_taken : (f : ℕ → Bool) (n : ℕ) (xs : List ℕ) → prefix_len f xs ≤ n → prefix_len f (take n xs) ≡ prefix_len f xs
 run_taken f zero xs l = omega arith
 run_taken f (suc n) [] l = refl
-run_taken f (suc n) (x ∷ xs) l = run_step (f x) n (prefix_len f xs) (prefix_len f (take n xs)) l (run_taken f n xs)
+run_taken f (suc n) (x ∷ xs) l = let h = run_taken f n xs in grind (arith, nat_tests)
 
 -- what a part holds from its place q on is a part of the text
 rest_taken : (t : List ℕ) (d e q r : ℕ) → e - d ≡ q + r → drop q (slice_range t d e) ≡ take r (drop (d + q) t)

@@ -1,7 +1,5 @@
 -- A string of a text that is UTF-8 stands for bytes that are UTF-8.
-use Rattle.std.proofs.Common.{◌≡◌, ◌≢◌, inl, inr, ℕ, zero, suc, ◌+◌, ◌*◌, ◌-◌, ◌<◌, ◌≤◌, List, [], ◌∷◌, ◌++◌, Some, length, append_assoc, append-nil, arith, refl}
-use Rattle.std.proofs.Math.Utf8.{low_scalar}
-use Rattle.std.proofs.lemmas.Bool.{cases_lt}
+use Rattle.std.proofs.Common.{◌≡◌, ◌≢◌, ℕ, zero, suc, ◌+◌, ◌*◌, ◌-◌, ◌<◌, ◌≤◌, List, [], ◌∷◌, ◌++◌, Some, length, append_assoc, append-nil, arith, refl}
 use Rattle.std.proofs.lemmas.Bool.Decides.{nat_tests}
 use Rattle.std.proofs.lemmas.List.Edits.{between_none, between_more}
 use Rattle.std.proofs.lemmas.Str.{IsUtf8-nil, IsUtf8-append, IsUtf8-between, IsUtf8-encode, IsUtf8-from_ascii, IsCharBoundary-before_ascii, IsCharBoundary-after_ascii}
@@ -9,33 +7,23 @@ use Rattle.std.specs.Prelude.{slice_range}
 use Rattle.std.specs.Char.{IsScalar}
 use Rattle.std.specs.Str.{IsUtf8, IsAscii, IsCharBoundary}
 use Rattle.sonic_text.specs.Places.{byte}
-use Rattle.sonic_text.specs.Strings.{hex_digit, escaped, strict, IsHigh, IsLow, IsEscape, IsUnicodeChar, AreChars, IsString}
+use Rattle.sonic_text.specs.Strings.{hex_digit, strict, IsHigh, IsLow, IsEscape, IsUnicodeChar, AreChars, IsString}
 use Rattle.sonic_text.specs.Strings.IsChar.{unescaped, short_escape, unicode_escape}
 use Rattle.sonic_text.specs.Strings.IsUnicodeChar.{scalar, pair, lone_high, lone_low}
 use Rattle.sonic_text.specs.Strings.AreChars.{no_char, one_more}
 use Rattle.sonic_text.proofs.Places.{byte_within}
-use Rattle.sonic_text.proofs.HexDigits.{hex_small}
-use Rattle.sonic_text.proofs.Unescaping.{escape_within}
+use Rattle.sonic_text.proofs.EscapeFaultLemmas.{escaped_letter}
+use Rattle.sonic_text.proofs.HexDigitLemmas.{hex_small}
+use Rattle.sonic_text.proofs.StringReadingLemmas.{escape_within}
 
 -- a hexadecimal digit is an ASCII byte
 digit_ascii : (b a : ℕ) → hex_digit b ≡ Some a → b < 128
 unfolding hex_digit
 digit_ascii b a h = grind (arith, nat_tests)
 
--- so is a letter behind a backslash, and what it stands for
-letter_ascii : (b c : ℕ) → escaped b ≡ Some c → (b < 128) × (b ≢ 0) × (c < 128)
-unfolding escaped
-letter_ascii b c h = grind (arith, nat_tests)
-
 -- a number up to 0x10FFFF that is no half of a pair is the code of a char
 scalar_code : (c : ℕ) → c < 0x110000 → ¬ IsHigh c → ¬ IsLow c → IsScalar c
-scalar_code c small high low = elim (cases_lt c 0xD800) [
-  | inl below ↦ low_scalar c below
-  | inr first ↦ elim (cases_lt c 0xE000) [
-    | inr above ↦ grind (arith, nat_tests)
-    | inl last ↦ absurd (elim (cases_lt c 0xDC00) [ inl l ↦ high (omega arith, omega arith) | inr l ↦ low (omega arith, omega arith) ])
-  ]
-]
+scalar_code c small high low = grind (arith, nat_tests)
 
 -- an escape ends with an ASCII byte, and its number has at most four digits
 escape_end : (t : List ℕ) (p : ℕ) {n : ℕ} → IsEscape t p n → (byte t (p + 5) < 128) × (p + 5 < length t) × (n < 0x10000)
@@ -122,11 +110,11 @@ chars_cut {t} utf8 start (one_more {p = p} {b = b} h (unescaped u e f) is) =
 chars_cut {t} utf8 start (one_more {p = p} {b = b} h (short_escape {c = c} o l e f) is) =
     let here = before_byte t p 92 o (λ z. omega arith) (omega arith) in
     let front = cut_here utf8 (chars_cut utf8 start h) here.1 in
-    let letter = letter_ascii _ c l in
-    let within : p + 1 < length t = byte_within t (p + 1) letter.1 in
+    let letter = escaped_letter _ c l in
+    let within : p + 1 < length t = byte_within t (p + 1) letter.0 in
     let place : p + 2 ≡ p + 1 + 1 = omega arith in
-    let behind : IsCharBoundary t (p + 2) = rw place (IsCharBoundary-after_ascii t (p + 1) utf8 within letter.0) in
-    let one : IsUtf8 (c ∷ []) = IsUtf8-from_ascii (c ∷ []) (one_ascii c letter.2) in
+    let behind : IsCharBoundary t (p + 2) = rw place (IsCharBoundary-after_ascii t (p + 1) utf8 within letter.2) in
+    let one : IsUtf8 (c ∷ []) = IsUtf8-from_ascii (c ∷ []) (one_ascii c letter.3) in
     rw (e, is, f) (cut_at (IsUtf8-append b (c ∷ []) front one) behind)
 chars_cut {t} utf8 start (one_more {p = p} {b = b} {c = c} h (unicode_escape x u) is) =
     let here = before_byte t p 92 x.0 (λ z. omega arith) (omega arith) in

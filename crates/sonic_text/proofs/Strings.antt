@@ -9,7 +9,7 @@ use Rattle.sonic_text.specs.Strings.IsChar.{unescaped, short_escape, unicode_esc
 use Rattle.sonic_text.specs.Strings.AreChars.{no_char, one_more}
 use Rattle.sonic_text.specs.Strings.IsStringFault.{control_char, in_escape}
 use Rattle.sonic_text.proofs.Places.{byte_behind}
-use Rattle.sonic_text.proofs.Escapes.{char_one, char_longer, char_never, escape_fault_one, escape_some}
+use Rattle.sonic_text.proofs.EscapeLemmas.{char_one, char_longer, char_never, escape_fault_one, escape_some}
 
 -- chars, read from the left
 data Chain (m : Bool) (t : List ℕ) : ℕ → ℕ → List ℕ → Type 0 where

@@ -15,7 +15,7 @@ use Rattle.sonic_text.proofs.Strings.{string_longer}
 use Rattle.sonic_text.proofs.Values.{head-later, value-longer, items-later}
 use Rattle.sonic_text.proofs.Parts.{IsPart, byte_part, other_part, space_part, part_is, part_length}
 use Rattle.sonic_text.proofs.NumberParts.{number_part}
-use Rattle.sonic_text.proofs.StringParts.{string_part}
+use Rattle.sonic_text.proofs.StringPartLemmas.{string_part}
 
 module _ {t u : List ℕ} {d : ℕ} (part : IsPart t u d) where
   -- a word

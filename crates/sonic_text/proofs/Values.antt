@@ -15,11 +15,11 @@ use Rattle.sonic_text.specs.Values.IsValue.{null_literal, true_literal, false_li
 use Rattle.sonic_text.specs.Values.ItemsFit.{first_item, next_item}
 use Rattle.sonic_text.specs.Faults.{IsFault}
 use Rattle.sonic_text.specs.Faults.IsFault.{no_value, null_fault, true_fault, false_fault, number_fault, string_fault, in_key, in_value, after_item}
-use Rattle.sonic_text.proofs.FirstBytes.{Sort, none, a_null, a_true, a_false, a_number, a_string, a_container, Begins, begins_one}
+use Rattle.sonic_text.proofs.FirstByteLemmas.{Sort, none, a_null, a_true, a_false, a_number, a_string, a_container, Begins, begins_one}
 use Rattle.sonic_text.proofs.Items.{Outcome, OneAt, OneBehind, LastItem, at_key, at_value, last_one, last_no_comma, opening_not_end, opening_one}
 use Rattle.sonic_text.proofs.Places.{after_space_later, byte_within}
-use Rattle.sonic_text.proofs.Literals.{literal_never_both, literal_fault_one}
-use Rattle.sonic_text.proofs.Numbers.{number_longer, number_begins, number_one, number_never_both, number_fault_one}
+use Rattle.sonic_text.proofs.LiteralLemmas.{literal_never_both, literal_fault_one}
+use Rattle.sonic_text.proofs.Numbers.{number_longer, number_begins, number_outcome_one}
 use Rattle.sonic_text.proofs.Strings.{string_longer, string_one, string_never_both, string_fault_one}
 pub use Rattle.sonic_text.proofs.Items.{key-longer, key_one, head-later, head_one}
 
@@ -186,8 +186,7 @@ view_one none m t i r q b one h g = cc
 view_one a_null m t i r q b one h g = word_one (codes "null") t i r q h g
 view_one a_true m t i r q b one h g = word_one (codes "true") t i r q h g
 view_one a_false m t i r q b one h g = word_one (codes "false") t i r q h g
-view_one a_number m t i r q b one h g =
-    match_one (IsNumber t i) (IsNumberFault t i) r q (λ j k. number_one) (λ s z. number_fault_one) (λ j s. number_never_both) h g
+view_one a_number m t i r q b one h g = number_outcome_one t i r q h g
 view_one a_string m t i r q b one h g =
     match_one (StringEnds m t i) (IsStringFault m t i) r q (λ j k x y. (string_one x.1 y.1).0) (λ s z. string_fault_one) (λ j s x. string_never_both x.1) h g
 view_one (a_container kind) m t i r q b one h g = container_one (one (byte_within t i (λ e. opening_not_end kind (omega arith)))) h g

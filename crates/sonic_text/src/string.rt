@@ -21,7 +21,7 @@ pub struct StringEnd {
 
 // The hexadecimal digit that is due at a place.
 #[inline]
-#[tactic(auto, using(crate::proofs::HexDigits::hex_some))]
+#[tactic(auto, using(crate::proofs::HexDigitLemmas::hex_some))]
 fn digit_at(text: &[u8], place: usize) -> Result<u32, Stop>
     requires { place ≤ length text.now }
     ensures ok { IfOk result (λ a. (hex_digit (byte text.now place) ≡ Some a) × (a < 16)
@@ -53,7 +53,7 @@ fn low_byte(n: usize, byte: u8) -> bool
 }
 
 // How many bytes of an escape of a second half stand at a place, up to six.
-#[tactic(auto, using(crate::proofs::HexDigits::low_some))]
+#[tactic(auto, using(crate::proofs::HexDigitLemmas::low_some))]
 fn low_bytes(text: &[u8], place: usize) -> usize
     requires { place ≤ length text.now }
     ensures few { result ≤ 6 }
@@ -169,10 +169,7 @@ pub fn string_end(text: &[u8], start: usize, lossy: bool) -> Result<StringEnd, S
             return Err(stop_at(text, place, code));
         }
         if byte == b'\\' {
-            match escape_end(text, place, lossy) {
-                Ok(end) => place = end,
-                Err(stop) => return Err(stop),
-            }
+            place = escape_end(text, place, lossy)?;
             escaped = true;
         } else {
             place += 1;

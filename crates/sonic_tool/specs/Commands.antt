@@ -1,18 +1,14 @@
--- What the words of a command line ask for, and the statuses that a run ends with.
-use Rattle.std.specs.Prelude.{◌≡◌, ◌≢◌, ◌⊎◌, List, [], ◌∷◌, ℕ, codes}
-use Rattle.sonic_tool.specs.declared.status.Status.{Status}
-use Rattle.sonic_tool.specs.declared.status.Status.TheVariants.{Done, DocumentError, BadLines, ReadFault, WriteFault, NoMemory}
+-- The commands, and the words of a command line that ask for them.
+pub mod Get
+use Rattle.std.specs.Prelude.{◌≡◌, List, [], ◌∷◌, ℕ, codes}
+use Rattle.sonic_tool.specs.declared.commands.Command.{Command}
+use Rattle.sonic_tool.specs.declared.commands.Command.TheVariants as command
 
--- the words are a command: none, or the one word `get`
+-- the words ask for this command: no word asks for `get`, as the one word `get` does
+pub data Asks (words : List (List ℕ)) : Command → Type 0 where
+  no_word : words ≡ [] → Asks words command.Get
+  get_word : words ≡ codes "get" ∷ [] → Asks words command.Get
+
+-- the words ask for some command
 abbrev pub IsListed : List (List ℕ) → Type 0
-IsListed words = (words ≡ []) ⊎ (words ≡ codes "get" ∷ [])
-
--- the run ended with a report, and not with a fault or for want of memory
-pub record IsReported (ending : Status) : Type 0 where
-  pub no_read_fault : ending ≢ ReadFault
-  pub no_write_fault : ending ≢ WriteFault
-  pub memory : ending ≢ NoMemory
-
--- the run ended with a report of its whole input
-abbrev pub IsOfInput : Status → Type 0
-IsOfInput ending = (ending ≡ Done) ⊎ (ending ≡ DocumentError) ⊎ (ending ≡ BadLines)
+IsListed words = (asked : Command) × Asks words asked

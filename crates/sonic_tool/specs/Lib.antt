@@ -1,10 +1,7 @@
 pub mod Commands
-pub mod Complete
-pub mod Heads
+pub mod ErrorLines
+pub mod Internal
 pub mod Laws
-pub mod Lines
 pub mod Outside
-pub mod Paths
-pub mod Pieces
-pub mod Replies
 pub mod Reports
+pub mod Sessions

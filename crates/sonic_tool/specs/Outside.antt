@@ -1,19 +1,20 @@
-use Rattle.std.specs.Prelude.{◌≡◌, ℕ, ◌+◌, ◌-◌, ◌^◌, ◌≤◌, min, List, take}
+-- What a source gives and a sink takes, and how they count their faults.
+use Rattle.std.specs.Prelude.{◌≡◌, ℕ, ◌+◌, ◌%◌, ◌^◌, List, ◌++◌}
 use Rattle.std.specs.declared.option.Option.{Option}
 use Rattle.std.specs.Io.KnownBytes.{prepend_known, append_known}
 
--- a count of 64 bits rose, or stands at its last value
+-- a count of 64 bits rose by one, which leads from the last of them to 0, so that no count is as it was
 abbrev pub Rose : ℕ → ℕ → Type 0
-Rose before now = min (before + 1) (2 ^ 64 - 1) ≤ now
+Rose before after = after ≡ (before + 1) % 2 ^ 64
 
--- these bytes were the next of what was left, and whether it is told what is left stays so
+-- these bytes were the next of what was left, and whether that is known stays so
 abbrev pub Gave : Option (List ℕ) → Option (List ℕ) → List ℕ → Type 0
-Gave before now bytes = before ≡ prepend_known bytes now
+Gave before after bytes = before ≡ prepend_known bytes after
 
--- these bytes were written behind the others, and whether it is told what is written stays so
+-- these bytes were written after the others, and whether what is written is known stays so
 abbrev pub Took : Option (List ℕ) → Option (List ℕ) → List ℕ → Type 0
-Took before now bytes = now ≡ append_known before bytes
+Took before after bytes = after ≡ append_known before bytes
 
--- a front of these bytes was written behind the others
-abbrev pub TookFront : Option (List ℕ) → Option (List ℕ) → List ℕ → Type 0
-TookFront before now bytes = (count : ℕ) × Took before now (take count bytes)
+-- a prefix of these bytes was written after the others
+abbrev pub TookPrefix : Option (List ℕ) → Option (List ℕ) → List ℕ → Type 0
+TookPrefix before after bytes = (prefix rest : List ℕ) × (bytes ≡ prefix ++ rest) × Took before after prefix

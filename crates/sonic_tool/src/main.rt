@@ -1,45 +1,27 @@
 //! A command that reads a JSON text from standard input and writes its report to standard output.
 #![tactic(auto)]
 
-// The source and the sink over the system.
-mod edge;
-// Where the lines of a head end, and which are blank.
-mod head;
-// The laws of reports and heads.
+// The commands, and the words that ask for them.
+mod commands;
+// The line of an error.
+mod error_line;
+// The laws of the reports and of the counts of faults.
 mod law;
-// Lines of keys and indexes.
-mod line;
-// Heads of any number of lines.
-mod lines;
-// The source and the sink over memory.
-mod memory;
-// The indexes of a path line.
-mod path;
-// The path of a line, as small pieces of one text.
-mod pieces;
-// The loop that reads the whole input.
-mod reading;
+// Where the input comes from and the report goes.
+mod outside;
 // What is written: pieces of text, borrowed where they can be.
 mod reply;
-// The report of an input.
-mod report;
 // The top call.
 mod run;
-// The trait of what the report is written to.
-mod sink;
-// The trait of what the input comes from.
-mod source;
 // The exit statuses.
 mod status;
 // Runs that no fault stops.
 mod sure;
-// Rows from outside, ample memory, and the edge.
+// Rows from outside, ample memory, and the forms over the system.
 #[cfg(test)]
 mod tests;
-// The loop that writes.
-mod writing;
 
-use edge::{InputSource, OutputSink};
+use outside::stdio::{InputSource, OutputSink};
 use run::run;
 use status::Status;
 use std::io::ErrorKind;

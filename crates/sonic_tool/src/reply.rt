@@ -1,51 +1,45 @@
+//! What is written: pieces of text, borrowed where they can be.
 ghost use Rattle.std.specs.Prelude.{◌≡◌};
+ghost use Rattle.std.specs.Cow.{cow_str_bytes};
 ghost use Rattle.std.specs.List.{flat_map};
-ghost use Rattle.sonic_tool.specs.Replies.{line_bytes, text_of};
+ghost use Rattle.sonic_tool.specs.Internal.Replies.{text_of};
 
 use crate::status::Status;
 use std::alloc::Global;
+use std::borrow::CowStr;
 
-// A line of a report, with its line feed.
-#[derive(Debug, Drop)]
-pub(crate) enum Line<'i> {
-    Fixed(&'static str),
-    Made(String),
-    // A front, a text of the input, and a line feed.
-    Value(String, &'i str),
-}
-
-// A report that is ready to be written: its first line, or nothing, and the lines behind it, with
-// the status that goes with them.
+// A report that is ready to be written: its first piece and those after it, with the status that
+// goes with them.
 #[derive(Debug, Drop)]
 pub(crate) struct Reply<'i> {
     pub(crate) status: Status,
-    pub(crate) first: Line<'i>,
-    pub(crate) lines: Vec<Line<'i>>,
+    pub(crate) first: CowStr<'i>,
+    pub(crate) rest: Vec<CowStr<'i>>,
 }
 
 impl<'i> Reply<'i> {
-    // A report of one line. It takes no memory.
-    pub(crate) fn one(alloc: Global, status: Status, first: Line<'i>) -> Reply<'i>
-        ensures text { text_of result ≡ line_bytes first.entry }
+    // A report of one piece. It takes no memory.
+    pub(crate) fn one(alloc: Global, status: Status, first: CowStr<'i>) -> Reply<'i>
+        ensures text { text_of result ≡ cow_str_bytes first.entry }
         ensures status { result.status ≡ status }
     {
-        let lines = Vec::new(alloc);
+        let rest = Vec::new(alloc);
         Reply {
             status,
             first,
-            lines,
+            rest,
         }
     }
 
-    // A report of these lines.
-    pub(crate) fn all(lines: Vec<Line<'i>>) -> Reply<'i>
-        ensures text { text_of result ≡ flat_map line_bytes lines.entry.items }
+    // A report of these pieces, with the status 0.
+    pub(crate) fn done(rest: Vec<CowStr<'i>>) -> Reply<'i>
+        ensures text { text_of result ≡ flat_map cow_str_bytes rest.entry.items }
         ensures status { result.status ≡ Status.Done }
     {
         Reply {
             status: Status::Done,
-            first: Line::Fixed(""),
-            lines,
+            first: CowStr::Borrowed(""),
+            rest,
         }
     }
 }

@@ -5,7 +5,7 @@ pub enum Status {
     Done = 0,
     /// The report is the one line of an error of the document.
     DocumentError = 1,
-    /// The words are no command.
+    /// The words ask for no command.
     BadUsage = 2,
     /// A line of the head is bad.
     BadLines = 3,
@@ -13,7 +13,7 @@ pub enum Status {
     TooLarge = 4,
     /// A read failed, and nothing was written.
     ReadFault = 5,
-    /// A write failed, and what was written is a front of the report.
+    /// A write failed, and what was written is a prefix of the report.
     WriteFault = 6,
     /// Memory ran out, and nothing was written.
     NoMemory = 7,

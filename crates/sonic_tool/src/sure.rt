@@ -1,10 +1,11 @@
-// Runs that no fault stops.
+//! Runs that no fault stops.
 ghost use Rattle.std.specs.Prelude.{◌≡◌, ◌⊎◌, ◌≤◌, ℕ, List, map, string_bytes};
-ghost use Rattle.sonic_tool.specs.Commands.{IsListed};
-ghost use Rattle.sonic_tool.specs.Complete.{IsAnswerableInput};
+ghost use Rattle.sonic_tool.specs.declared.commands.Command.TheVariants.{Get};
+ghost use Rattle.sonic_tool.specs.Commands.{Asks};
+ghost use Rattle.sonic_tool.specs.Commands.Get.{IsAnswerableInput};
 ghost use Rattle.sonic_tool.specs.Reports.{IsReport};
 
-use crate::memory::{SureSink, SureSource};
+use crate::outside::memory::{SureSink, SureSource};
 use crate::run::run;
 use crate::status::Status;
 use std::alloc::Global;
@@ -12,13 +13,13 @@ use std::alloc::Global;
 /// Runs over an input that is read by pieces of at most `piece` bytes, and a sink that takes
 /// everything.
 ///
-/// Only want of memory keeps such a run from the status of its report.
+/// Only running out of memory keeps such a run from the status of its report.
 pub fn run_surely(alloc: Global, words: &[String], input: Vec<u8>, piece: usize) -> Status
     requires { 1 ≤ piece }
     ensures status { (text : List ℕ) (status : Status)
         → IsReport (map string_bytes words.now) input.items text status
         → (result ≡ status) ⊎ (result ≡ Status.NoMemory) }
-    ensures complete { IsListed (map string_bytes words.now) → IsAnswerableInput input.items
+    ensures complete { Asks (map string_bytes words.now) Get → IsAnswerableInput input.items
         → (result ≡ Status.Done) ⊎ (result ≡ Status.NoMemory) }
 {
     let mut source = SureSource::new(input, piece);

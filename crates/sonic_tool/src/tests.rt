@@ -1,8 +1,7 @@
-// What no clause says: rows from outside, that calls succeed where nothing is wrong, and the edge.
+// What no clause says: rows from outside, that calls succeed where nothing is wrong, and standard input and output.
 mod documents;
 mod faults;
 mod format;
-mod lines;
 mod outside;
 mod paths;
 mod rows;

@@ -14,7 +14,7 @@ use std::process::Abort;
 use std::test::Fail;
 
 // The end of the value that is due at a place, or its fault.
-#[tactic(auto, using(crate::proofs::Descending::steps))]
+#[tactic(auto, using(crate::proofs::DescentLemmas::steps))]
 fn value_end(text: &[u8], start: usize, lossy: bool) -> Result<usize, Stop>
     requires { start ≤ length text.now }
     ensures within { IfOk result (λ j. (start < j) × (j ≤ length text.now)) }

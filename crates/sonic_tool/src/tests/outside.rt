@@ -1,11 +1,11 @@
 // What no clause says: that calls succeed where nothing is wrong, which calls fail, and what passes
-// the edge.
-use crate::edge::{InputSource, OutputSink};
-use crate::memory::{MemorySink, SureSink, SureSource};
-use crate::reading::{ReadError, read_all};
-use crate::sink::Sink;
-use crate::source::Failed;
-use crate::writing::write_all;
+// standard input and output.
+use crate::outside::memory::{MemorySink, SureSink, SureSource};
+use crate::outside::reading::{ReadError, read_all};
+use crate::outside::sink::Sink;
+use crate::outside::source::Failed;
+use crate::outside::stdio::{InputSource, OutputSink};
+use crate::outside::writing::write_all;
 use std::alloc::Global;
 use std::io;
 use std::io::{ErrorKind, Read, Write};

@@ -1,6 +1,6 @@
 // Whole runs over memory: what comes in, what goes out, and the status.
-use crate::edge::InputSource;
-use crate::memory::{MemorySink, SureSink, SureSource};
+use crate::outside::memory::{MemorySink, SureSink, SureSource};
+use crate::outside::stdio::InputSource;
 use crate::run::run;
 use crate::status::Status;
 use crate::sure::run_surely;

@@ -1,9 +1,9 @@
+use Rattle.sonic_lazy.proofs.answer.answer.Goals as goal
 use Rattle.std.proofs.Common.{◌≡◌, ◌∙◌, sym, true, false}
 use Rattle.std.proofs.lemmas.Result.{err_from_is_err_and}
-use Rattle.sonic_lazy.proofs.Answering.{answers_spans, answers_broken, stop_answers, no_paths}
-use Rattle.sonic_lazy.proofs.Stopping.{stop_weaker}
-use Rattle.sonic_lazy.proofs.Visiting.{none_counted}
-use Rattle.sonic_lazy.proofs.answer.answer.Goals as goal
+use Rattle.sonic_lazy.proofs.AnswerLemmas.Walk.{answers_spans, answers_broken, stop_answers, no_paths}
+use Rattle.sonic_parser.proofs.FaultLemmas.{stop_weaker}
+use Rattle.sonic_lazy.proofs.WalkLemmas.Start.{none_counted}
 use Rattle.sonic_lazy.proofs.answer.answer.Goals.{then-is_bytes+in_ok-check, else-is_bytes}
 
 pub returns-then-size-eq0-clause-ok : goal.returns-then-size-eq0-clause-ok

@@ -1,7 +1,7 @@
+use Rattle.sonic_lazy.proofs.answer.furthest.Goals as goal
 use Rattle.std.proofs.Common.{get_or, take}
 use Rattle.std.proofs.lemmas.List.{take_more}
-use Rattle.sonic_lazy.proofs.Answering.{no_value, furthest_value}
-use Rattle.sonic_lazy.proofs.answer.furthest.Goals as goal
+use Rattle.sonic_lazy.proofs.AnswerLemmas.Walk.{no_value, furthest_value}
 
 pub loop-value-preserved : goal.loop-value-preserved
 loop-value-preserved c =

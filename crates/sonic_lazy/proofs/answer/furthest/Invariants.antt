@@ -1,6 +1,6 @@
 use Rattle.std.proofs.Common.{take}
-use Rattle.sonic_lazy.specs.Located.{spans_of}
-use Rattle.sonic_lazy.specs.Walks.{IsFurthest}
+use Rattle.sonic_lazy.specs.Internal.Located.{spans_of}
+use Rattle.sonic_lazy.specs.Internal.Walk.{IsFurthest}
 use Rattle.sonic_lazy.proofs.answer.furthest.Given as goal
 
 abbrev pub invariant-loop-value : goal.invariant-loop-value

@@ -1,5 +1,5 @@
-use Rattle.sonic_lazy.proofs.OnePath.{path_one}
 use Rattle.sonic_lazy.proofs.law.path_has_one_outcome.Goals as goal
+use Rattle.sonic_lazy.proofs.PathLemmas.Outcome.{path_one}
 
 -- a path leads to some outcome, and to one
 pub returns : goal.returns

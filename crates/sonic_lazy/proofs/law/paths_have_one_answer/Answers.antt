@@ -1,5 +1,5 @@
-use Rattle.sonic_lazy.proofs.OneAnswer.{answer_one}
 use Rattle.sonic_lazy.proofs.law.paths_have_one_answer.Goals as goal
+use Rattle.sonic_lazy.proofs.AnswerLemmas.One.{answer_one}
 
 -- outcomes come to some answer, and to one
 pub returns : goal.returns

@@ -1,5 +1,5 @@
-use Rattle.sonic_lazy.proofs.Parting.{parts_told, refusal_of, only_memory}
 use Rattle.sonic_lazy.proofs.many.find_many.Goals as goal
+use Rattle.sonic_lazy.proofs.AnswerLemmas.Cause.{parts_told, refusal_of, only_memory}
 
 pub returns-in-Ok-clause-parts : goal.returns-in-Ok-clause-parts
 returns-in-Ok-clause-parts g c =

@@ -1,9 +1,9 @@
+use Rattle.sonic_lazy.proofs.state.fill.Goals as goal
 use Rattle.std.proofs.Common.{get_or, arith}
 use Rattle.std.proofs.lemmas.Grind.{common_steps}
-use Rattle.std.proofs.lemmas.List.Elements.{Contains-get_or}
 use Rattle.std.proofs.lemmas.List.{take_more}
-use Rattle.sonic_lazy.proofs.Filling.{fill_more}
-use Rattle.sonic_lazy.proofs.state.fill.Goals as goal
+use Rattle.std.proofs.lemmas.List.Elements.{Contains-get_or}
+use Rattle.sonic_lazy.proofs.WalkLemmas.List.{fill_more}
 
 pub index_mut-requires : goal.index_mut-requires
 index_mut-requires c =

@@ -1,226 +1,242 @@
-use Rattle.std.proofs.Common.{◌≡◌, ◌∙◌, inl, inr, ap, sym, ◌+◌, true, false, length, set, arith, refl}
+use Rattle.sonic_lazy.proofs.walk.+walk.Goals as goal
+use Rattle.std.proofs.Common.{◌≡◌, ◌∙◌, inr, ap, sym, true, length, set, arith}
+use Rattle.std.proofs.lemmas.Option.{slice_get_within}
 use Rattle.std.proofs.lemmas.Result.{err_from_is_err_and}
-use Rattle.sonic_text.specs.Places.{after_space}
-use Rattle.sonic_text.proofs.Places.{after_space_later, byte_within}
+use Rattle.sonic_lazy.proofs.PathLemmas.Lead.{count_below}
+use Rattle.sonic_lazy.proofs.WalkLemmas.Child.{is_visit, child_comes, child_prefix, child_passed, child_stops, asked_or_lacks}
+use Rattle.sonic_lazy.proofs.WalkLemmas.End.{whole_there, close_stops, close_later, close_settled, done_settled, container_status, order_within, filled_later, filled_settled, early_settled, asked_stops}
+use Rattle.sonic_parser.proofs.FaultLemmas.{stop_weaker}
+use Rattle.sonic_lazy.proofs.WalkLemmas.Path.{not_later, later_twice}
+use Rattle.sonic_lazy.proofs.WalkLemmas.Start.{none_counted, leaf_settled, leaf_stops, entry_stops, first_followed, first_wanted}
+use Rattle.sonic_lazy.proofs.WalkLemmas.Step.{key_stops, skip_stops, separator_stops, next_followed, skip_passed, closed, child_within, passed_later, separated_later}
+use Rattle.sonic_lazy.specs.Internal.View.{point_at, container_at}
+use Rattle.sonic_pointer.specs.Nodes.{node_of}
 use Rattle.sonic_text.proofs.Values.{items-later}
 use Rattle.sonic_text.proofs.Within.{items_within}
-use Rattle.sonic_pointer.specs.Nodes.{node_of}
-use Rattle.sonic_lazy.specs.Views.{here_at}
-use Rattle.sonic_lazy.proofs.Closing.{entry_stops, close_stops, close_settles, whole_there, container_status}
-use Rattle.sonic_lazy.proofs.Firsts.{first_before, passed_later, below_grown, not_false, still_wanted}
-use Rattle.sonic_lazy.proofs.Meeting.{child_comes, child_front, meet_more, meet_done, meet_stops}
-use Rattle.sonic_lazy.proofs.Settling.{key_stops, value_stops, behind_stops, next_before, pass, closed, child_within}
-use Rattle.sonic_lazy.proofs.Stopping.{stop_weaker}
-use Rattle.sonic_lazy.proofs.Visiting.{grown_twice, visit_filled, visit_early, visit_stops, order_within, leaf_below, leaf_stops, none_counted}
-use Rattle.sonic_lazy.proofs.Walking.{count_below}
-use Rattle.sonic_lazy.proofs.walk.+walk.Goals as goal
 
-pub below-returns-in_err-skip-clause-err : goal.below-returns-in_err-skip-clause-err
-below-returns-in_err-skip-clause-err t c =
+pub follow-returns-in_err-status-clause-err : goal.follow-returns-in_err-status-clause-err
+follow-returns-in_err-status-clause-err t c =
     let p = err_from_is_err_and c.from_residual.result c.from_residual.ensures.1 in
     let none = none_counted c.args.view.now.children (sym c.count.ensures.count ∙ c.if-count-eq0.true) in
-    rw (p.1, p.2) (stop_weaker c.in_err-skip.field-0.0 (λ s f. leaf_stops c.count.ensures.children none c.requires.some f) c.in_err-skip.ensures.err)
+    rw (p.1, p.2) (stop_weaker c.in_err-status.field-0.0
+    (λ s f. leaf_stops (point_at c.args.walk.now c.args.view.now) c.count.ensures.children none c.requires.some f) c.in_err-status.ensures.err)
 
-pub below-returns-then-count-eq0-clause-below : goal.below-returns-then-count-eq0-clause-below
-below-returns-then-count-eq0-clause-below t c =
+pub follow-keep-requires-clause-known : goal.follow-keep-requires-clause-known
+follow-keep-requires-clause-known t c = λ k h. rw c.in_ok-status.ensures.moved (order_within k c.orders-orders.ensures c.requires.are h)
+
+pub follow-returns-then-count-eq0-clause-later : goal.follow-returns-then-count-eq0-clause-later
+follow-returns-then-count-eq0-clause-later t c =
+    let filled = rw (c.place-start.ensures.place, c.in_ok-status.ensures.moved) at c.keep.ensures.filled in
+    rw (c.keep.ensures.kept, c.in_ok-status.ensures.moved)
+    (filled_later c.requires.comes c.in_ok-status.ensures.value c.orders-orders.ensures c.requires.are filled)
+
+pub follow-returns-then-count-eq0-clause-settled : goal.follow-returns-then-count-eq0-clause-settled
+follow-returns-then-count-eq0-clause-settled t c =
+    let filled = rw (c.place-start.ensures.place, c.in_ok-status.ensures.moved) at c.keep.ensures.filled in
+    let point = point_at c.args.walk.now c.args.view.now in
+    let later = filled_later c.requires.comes c.in_ok-status.ensures.value c.orders-orders.ensures c.requires.are filled in
     let none = none_counted c.args.view.now.children (sym c.count.ensures.count ∙ c.if-count-eq0.true) in
-    rw c.in_ok-skip.ensures.moved (leaf_below c.count.ensures.children none c.requires.told)
+    let below = leaf_settled point c.count.ensures.children none in
+    rw (c.keep.ensures.kept, c.in_ok-status.ensures.moved)
+    (filled_settled point c.requires.comes c.in_ok-status.ensures.value c.orders-orders.ensures filled later below)
 
-pub inside-returns-in_err-enter-clause-err : goal.inside-returns-in_err-enter-clause-err
-inside-returns-in_err-enter-clause-err t c =
-    let p = err_from_is_err_and c.from_residual.result c.from_residual.ensures.1 in
-    let e = rw (← c.requires.start) at c.in_err-enter.ensures.err in
-    rw (p.1, p.2) (stop_weaker c.in_err-enter.field-0.0 (λ s f. entry_stops c.requires.here c.requires.some f) e)
+pub follow-returns-in_err-items-clause-err : goal.follow-returns-in_err-items-clause-err
+follow-returns-in_err-items-clause-err t c =
+    let p = err_from_is_err_and c.from_residual-in_err-items.result c.from_residual-in_err-items.ensures.1 in
+    let e = rw c.place-start.ensures.place at c.in_err-items.ensures.err in
+    rw (p.1, p.2) (stop_weaker c.in_err-items.field-0.0 (λ s f. asked_stops c.orders-orders.ensures c.is_asked.ensures.asked f) e)
 
-pub inside-items-init : goal.inside-items-init
-inside-items-init t c =
-    let fit = c.in_ok-enter.ensures.ok in
-    let later = items-later fit in
-    let within = items_within fit in
-    let at_start = rw (← c.requires.start) at fit in
-    record {
-      text = ap (λ walk. walk.text) c.in_ok-enter.ensures.moved;
-      later = later;
-      within = rw c.in_ok-enter.ensures.moved (omega arith);
-      before = rw c.in_ok-enter.ensures.moved (first_before c.requires.here c.requires.some at_start c.requires.told
-          (c.in_ok-marks.ensures.long ∙ c.count.ensures.count) (rw c.count.ensures.count at c.in_ok-marks.ensures.none));
-      grown = rw c.in_ok-enter.ensures.moved (record { kept = λ k i j h. h; lack = λ e. e });
-    }
+pub follow-returns-then-not-branch-clause-settled : goal.follow-returns-then-not-branch-clause-settled
+follow-returns-then-not-branch-clause-settled t c =
+    let unneeded = c.in_ok-items.ensures.unneeded c.if-not-branch.true in
+    early_settled (point_at c.args.walk.now c.args.view.now) c.orders-orders.ensures (c.is_asked.ensures.unasked unneeded.0).1 c.in_ok-items.ensures.settled
 
-pub inside-returns-then-not-branch-clause-below : goal.inside-returns-then-not-branch-clause-below
-inside-returns-then-not-branch-clause-below t c =
-    let done = rw c.items.invariant.text at (c.in_ok-item.ensures.done c.if-not-branch.true) in
-    below_grown c.items.invariant.grown done.below
+pub follow-keep-requires-2-clause-known : goal.follow-keep-requires-2-clause-known
+follow-keep-requires-2-clause-known t c = λ k h. order_within k c.orders-orders.ensures c.in_ok-items.ensures.later.are h
 
-pub inside-returns-in_err-next_item-clause-err : goal.inside-returns-in_err-next_item-clause-err
-inside-returns-in_err-next_item-clause-err t c =
-    let p = err_from_is_err_and c.from_residual-in_err-next_item.result c.from_residual-in_err-next_item.ensures.1 in
-    let b = rw c.items.invariant.text at (c.in_ok-item.ensures.more c.if-not-branch.false) in
-    let e = rw (c.in_ok-item.ensures.text, c.items.invariant.text) at c.in_err-next_item.ensures.err in
-    rw (p.1, p.2) (behind_stops c.requires.here b e)
+pub follow-returns-clause-later : goal.follow-returns-clause-later
+follow-returns-clause-later t c =
+    let value = c.in_ok-items.ensures.whole c.if-not-branch.false in
+    let filled = rw c.place-start.ensures.place at c.keep-2.ensures.filled in
+    let later = c.in_ok-items.ensures.later in
+    rw c.keep-2.ensures.kept (later_twice later (filled_later c.requires.comes value c.orders-orders.ensures later.are filled))
 
-pub inside-overflow_add-passed : goal.inside-overflow_add-passed
-inside-overflow_add-passed t c =
-    let b = c.in_ok-item.ensures.more c.if-not-branch.false in
-    let few = count_below b.passed.level.fit in
-    let later = passed_later b.passed in
-    let comma = c.in_ok-next_item.ensures.item c.if-not-branch-2.false in
-    let first = after_space_later c.item.new.walk.text c.item.new.walk.place in
-    let second = after_space_later c.item.new.walk.text (after_space c.item.new.walk.text c.item.new.walk.place + 1) in
-    omega (arith, few, later, first, second, comma.1, c.in_ok-next_item.ensures.fits)
-
-pub inside-items-smaller : goal.inside-items-smaller
-inside-items-smaller t c =
-    let b = c.in_ok-item.ensures.more c.if-not-branch.false in
-    let later = passed_later b.passed in
-    let comma = c.in_ok-next_item.ensures.item c.if-not-branch-2.false in
-    let within = byte_within c.item.new.walk.text (after_space c.item.new.walk.text c.item.new.walk.place) (λ z. omega (arith, comma.0, z)) in
-    let same = ap length c.in_ok-item.ensures.text in
-    let long = ap (λ walk. length walk.text) c.in_ok-next_item.ensures.moved in
-    let first = after_space_later c.item.new.walk.text c.item.new.walk.place in
-    let second = after_space_later c.item.new.walk.text (after_space c.item.new.walk.text c.item.new.walk.place + 1) in
-    omega (arith, later, within, same, long, comma.1, first, second)
-
-pub inside-items-preserved : goal.inside-items-preserved
-inside-items-preserved t c =
-    let b = rw c.items.invariant.text at (c.in_ok-item.ensures.more c.if-not-branch.false) in
-    let later = passed_later b.passed in
-    let comma = rw (c.in_ok-item.ensures.text, c.items.invariant.text) at (c.in_ok-next_item.ensures.item c.if-not-branch-2.false) in
-    let same = ap length c.in_ok-item.ensures.text in
-    let long = ap (λ walk. length walk.text) c.in_ok-next_item.ensures.moved in
-    let first = after_space_later c.args.walk.now.text c.item.new.walk.place in
-    let second = after_space_later c.args.walk.now.text (after_space c.args.walk.now.text c.item.new.walk.place + 1) in
-    record {
-      text = ap (λ walk. walk.text) c.in_ok-next_item.ensures.moved ∙ (c.in_ok-item.ensures.text ∙ c.items.invariant.text);
-      later = omega (arith, c.items.invariant.later, later, comma.1, first, second);
-      within = omega (arith, c.items.invariant.within, same, long);
-      before = rw (c.in_ok-next_item.ensures.moved, c.in_ok-item.ensures.text, c.items.invariant.text) (next_before c.requires.here b comma.0 comma.1 refl);
-      grown = rw c.in_ok-next_item.ensures.moved (grown_twice c.items.invariant.grown b.grown);
-    }
-
-pub inside-returns-in_err-close-clause-err : goal.inside-returns-in_err-close-clause-err
-inside-returns-in_err-close-clause-err t c =
-    let p = err_from_is_err_and c.from_residual-in_err-close.result c.from_residual-in_err-close.ensures.1 in
-    let b = rw c.items.invariant.text at (c.in_ok-item.ensures.more c.if-not-branch.false) in
-    let end = rw (c.in_ok-item.ensures.text, c.items.invariant.text) at (c.in_ok-next_item.ensures.end c.if-not-branch-2.true) in
-    let e = c.in_err-close.ensures.err in
-    rw (p.1, p.2) (close_stops c.requires.here b end e.0 e.1 e.2)
-
-pub inside-returns-clause-below : goal.inside-returns-clause-below
-inside-returns-clause-below t c =
-    let b = rw c.items.invariant.text at (c.in_ok-item.ensures.more c.if-not-branch.false) in
-    let end = rw (c.in_ok-item.ensures.text, c.items.invariant.text) at (c.in_ok-next_item.ensures.end c.if-not-branch-2.true) in
-    let all = rw c.in_ok-next_item.ensures.moved at c.in_ok-close.ensures.all in
-    rw (c.in_ok-close.ensures.kept, c.in_ok-next_item.ensures.moved)
-    (below_grown c.items.invariant.grown (close_settles c.requires.here b end all c.in_ok-close.ensures.some))
-
-pub inside-returns-clause-whole : goal.inside-returns-clause-whole
-inside-returns-clause-whole t c = λ e.
-    let b = rw c.items.invariant.text at (c.in_ok-item.ensures.more c.if-not-branch.false) in
-    let end = rw (c.in_ok-item.ensures.text, c.items.invariant.text) at (c.in_ok-next_item.ensures.end c.if-not-branch-2.true) in
-    rw c.in_ok-close.ensures.kept (rw c.requires.start at (whole_there b.passed end))
-
-pub inside-returns-clause-status : goal.inside-returns-clause-status
-inside-returns-clause-status t c = λ e.
-    let b = rw c.items.invariant.text at (c.in_ok-item.ensures.more c.if-not-branch.false) in
-    rw c.requires.start at (container_status {j = c.close.new.walk.place} b.passed.level.fit)
+pub follow-returns-clause-settled : goal.follow-returns-clause-settled
+follow-returns-clause-settled t c =
+    let value = c.in_ok-items.ensures.whole c.if-not-branch.false in
+    let filled = rw c.place-start.ensures.place at c.keep-2.ensures.filled in
+    let point = point_at c.args.walk.now c.args.view.now in
+    let later = filled_later c.requires.comes value c.orders-orders.ensures c.in_ok-items.ensures.later.are filled in
+    rw c.keep-2.ensures.kept (filled_settled point c.requires.comes value c.orders-orders.ensures filled later c.in_ok-items.ensures.settled)
 
 pub item-returns-in_err-child-clause-err : goal.item-returns-in_err-child-clause-err
 item-returns-in_err-child-clause-err t c =
     let p = err_from_is_err_and c.from_residual.result c.from_residual.ensures.1 in
     let e = c.in_err-child.ensures.err in
-    rw (p.1, p.2) (key_stops (here_at c.args.walk.now.text c.args.level.now) e.0 c.requires e.1)
+    rw (p.1, p.2) (key_stops c.requires.before c.requires.wanted e.0 e.1)
 
-pub item-unmet-requires : goal.item-unmet-requires
-item-unmet-requires t c =
-    let x = c.in_ok-child.ensures.item in
-    child_within (here_at c.args.walk.now.text c.args.level.now) x.node c.args.marks.now c.in_ok-child.child c.requires.level.long x.is
+pub item-unvisited-requires : goal.item-unvisited-requires
+item-unvisited-requires t c =
+    child_within (container_at c.args.walk.now.text c.args.level.now) c.args.visited.now _ c.in_ok-child.child c.requires.before.long c.in_ok-child.ensures.item.is
 
 pub item-returns-in_err-skip-clause-err : goal.item-returns-in_err-skip-clause-err
 item-returns-in_err-skip-clause-err t c =
     let p = err_from_is_err_and c.from_residual-in_err-skip.result c.from_residual-in_err-skip.ensures.1 in
     let x = c.in_ok-child.ensures.item in
+    let container = container_at c.args.walk.now.text c.args.level.now in
+    let other = closed container c.args.visited.now c.in_ok-child.child c.requires.before.container x.is c.in_default.ensures.none in
     let e = rw c.in_ok-child.ensures.moved at c.in_err-skip.ensures.err in
-    rw (p.1, p.2) (stop_weaker c.in_err-skip.field-0.0
-    (λ s f. value_stops c.requires x.head (closed c.args.marks.now c.in_ok-child.child c.requires.here x.is c.in_default.ensures.none) f) e)
+    rw (p.1, p.2) (stop_weaker c.in_err-skip.field-0.0 (λ s f. skip_stops c.requires.before c.requires.wanted x.head other f) e)
 
-pub item-returns-in_default-clause-more : goal.item-returns-in_default-clause-more
-item-returns-in_default-clause-more t c = λ e.
+pub item-returns-in_default-clause-passed : goal.item-returns-in_default-clause-passed
+item-returns-in_default-clause-passed t c =
     let x = c.in_ok-child.ensures.item in
+    let container = container_at c.args.walk.now.text c.args.level.now in
+    let other = closed container c.args.visited.now c.in_ok-child.child c.requires.before.container x.is c.in_default.ensures.none in
     let value = rw c.in_ok-child.ensures.moved at c.in_ok-skip.ensures.value in
-    rw (c.in_ok-skip.ensures.moved, c.in_ok-child.ensures.moved)
-    (pass c.requires x.head (closed c.args.marks.now c.in_ok-child.child c.requires.here x.is c.in_default.ensures.none) value)
+    rw (c.in_ok-skip.ensures.moved, c.in_ok-child.ensures.moved) (skip_passed c.requires.before x.head other value)
 
-pub item-meet-requires : goal.item-meet-requires
-item-meet-requires t c =
-    let unmet = c.in-Some.ensures.some in
-    let x = rw unmet.0 at c.in_ok-child.ensures.item in
-    let later = c.in_ok-child.ensures.later in
+pub item-child-below-requires : goal.item-child-below-requires
+item-child-below-requires t c =
+    let x = rw c.in-Some.ensures.some.0 at c.in_ok-child.ensures.item in
+    slice_get_within c.args.level.now.view.now.children c.in-Some.unvisited x.node x.is
+
+pub item-follow-requires : goal.item-follow-requires
+item-follow-requires t c =
+    let m = is_visit c.in_ok-child.child c.requires.before c.in_ok-child.ensures.item c.in-Some.ensures.some in
+    let same : node_of c.child-below.result.0 ≡ m.node = cc (c.child-below.ensures.node, m.is) in
+    let front = rw same at c.child-below.ensures.front in
     let long = ap (λ walk. length walk.text) c.in_ok-child.ensures.moved in (
-      omega (arith, c.decreases, later, long),
-      (c.args.passed, c.args.walk.now.place, rw c.in_ok-child.ensures.moved record { before = c.requires; node = x.node; head = x.head; is = x.is; unmet = unmet.1 }),
+      omega (arith, c.decreases, c.in_ok-child.ensures.later, long),
+      (
+        rw (c.in_ok-child.ensures.moved, c.child-below.ensures.paths, front) (child_comes m),
+        (rw (c.child-below.ensures.paths, front) (child_prefix m), rw (c.child-below.ensures.paths, c.in_ok-child.ensures.moved) c.requires.before.are),
+      ),
     )
 
-pub meet-visit-requires : goal.meet-visit-requires
-meet-visit-requires t c =
-    let m = c.requires.2 in
+pub item-returns-in_err-follow-clause-err : goal.item-returns-in_err-follow-clause-err
+item-returns-in_err-follow-clause-err t c =
+    let p = err_from_is_err_and c.from_residual-in_err-follow.result c.from_residual-in_err-follow.ensures.1 in
+    let m = is_visit c.in_ok-child.child c.requires.before c.in_ok-child.ensures.item c.in-Some.ensures.some in
     let same : node_of c.child-below.result.0 ≡ m.node = cc (c.child-below.ensures.node, m.is) in
     let front = rw same at c.child-below.ensures.front in
-    (omega (arith, c.decreases), (rw front (child_comes m), (rw (c.child-below.ensures.paths, front) (child_front m), rw c.child-below.ensures.paths m.before.told)))
+    let e = rw (c.in_ok-child.ensures.moved, c.child-below.ensures.paths, front) at c.in_err-follow.ensures.err in
+    let wants = rw (c.visit.ensures, c.in_ok-child.ensures.moved) at c.is_wanted-more.ensures.more in
+    rw (p.1, p.2) (stop_weaker c.in_err-follow.field-0.0 (λ s f. child_stops m wants f) e)
 
-pub meet-returns-in_err-visit-clause-err : goal.meet-returns-in_err-visit-clause-err
-meet-returns-in_err-visit-clause-err t c =
+pub item-returns-clause-passed : goal.item-returns-clause-passed
+item-returns-clause-passed t c =
+    let m = is_visit c.in_ok-child.child c.requires.before c.in_ok-child.ensures.item c.in-Some.ensures.some in
+    let same : node_of c.child-below.result.0 ≡ m.node = cc (c.child-below.ensures.node, m.is) in
+    let front = rw same at c.child-below.ensures.front in
+    let later = rw (c.child-below.ensures.paths, c.in_ok-child.ensures.moved) at c.in_ok-follow.ensures.later in
+    let settled = rw (c.in_ok-child.ensures.moved, c.child-below.ensures.paths, front) at c.in_ok-follow.ensures.settled in
+    let value = rw c.in_ok-child.ensures.moved at c.in_ok-follow.ensures.whole in
+    let done = rw c.visit.ensures at c.is_wanted-more.ensures.done in
+    rw c.visit.ensures (child_passed m later settled (λ w. value (asked_or_lacks (set c.args.visited.now c.in-Some.unvisited true) c.is_wanted-more.result done w)))
+
+pub items-returns-in_err-enter-clause-err : goal.items-returns-in_err-enter-clause-err
+items-returns-in_err-enter-clause-err t c =
     let p = err_from_is_err_and c.from_residual.result c.from_residual.ensures.1 in
-    let m = c.requires.2 in
-    let same : node_of c.child-below.result.0 ≡ m.node = cc (c.child-below.ensures.node, m.is) in
-    let front = rw same at c.child-below.ensures.front in
-    let e = rw (c.child-below.ensures.paths, front) at c.in_err-visit.ensures.err in
-    let wants = rw (c.meet.ensures, c.lacks_key.ensures) at c.is_wanted-more.ensures.more in
-    rw (p.1, p.2) (stop_weaker c.in_err-visit.field-0.0 (λ s f. meet_stops m wants f) e)
+    let e = rw (← c.requires.start) at c.in_err-enter.ensures.err in
+    rw (p.1, p.2) (stop_weaker c.in_err-enter.field-0.0 (λ s f. entry_stops c.requires.container c.requires.some f) e)
 
-pub meet-returns-then-more-clause-more : goal.meet-returns-then-more-clause-more
-meet-returns-then-more-clause-more t c = λ e n h m.
-    let same : node_of c.child-below.result.0 ≡ m.node = cc (c.child-below.ensures.node, m.is) in
-    let front = rw same at c.child-below.ensures.front in
-    let visited = rw (c.child-below.ensures.paths, front) at c.in_ok-visit.ensures.visited in
-    let whole = not_false c.in_ok-visit.field-0 (λ f. (let u = (c.in_ok-visit.ensures.unneeded f).0 in let clash : true ≡ false = sym e ∙ u in absurd cc)) in
-    let wants = rw (c.meet.ensures, c.lacks_key.ensures) at (c.is_wanted-more.ensures.more e) in
-    rw c.meet.ensures (meet_more m visited (c.in_ok-visit.ensures.whole whole) (still_wanted (here_at c.args.walk.now.text c.args.level.now) (set c.args.marks.now c.args.child true) visited.grown wants))
+pub items-items-init : goal.items-items-init
+items-items-init t c =
+    let fit = c.in_ok-enter.ensures.ok in
+    let place = items-later fit in
+    let within = items_within fit in
+    let at_start = rw (← c.requires.start) at fit in
+    let none = rw c.count.ensures.count at c.in_ok-visited.ensures.none in
+    record {
+      text = ap (λ walk. walk.text) c.in_ok-enter.ensures.moved;
+      place = place;
+      within = rw c.in_ok-enter.ensures.moved (omega arith);
+      before = rw c.in_ok-enter.ensures.moved
+          (first_followed c.requires.container at_start c.requires.are (c.in_ok-visited.ensures.long ∙ c.count.ensures.count) none);
+      wanted = inr (inr (first_wanted (container_at c.args.walk.now.text c.args.level.now) _ c.requires.some none));
+      later = rw c.in_ok-enter.ensures.moved (not_later c.requires.are);
+    }
 
-pub meet-returns-else-more-clause-more : goal.meet-returns-else-more-clause-more
-meet-returns-else-more-clause-more t c = λ e n h m.
-    let same : node_of c.child-below.result.0 ≡ m.node = cc (c.child-below.ensures.node, m.is) in
-    let front = rw same at c.child-below.ensures.front in
-    let visited = rw (c.child-below.ensures.paths, front) at c.in_ok-visit.ensures.visited in
-    let lacking = sym c.lacks_key-else-more.ensures ∙ e in
-    let whole = not_false c.in_ok-visit.field-0 (λ f. (let u = (c.in_ok-visit.ensures.unneeded f).1 in let clash : true ≡ false = sym lacking ∙ u in absurd cc)) in
-    rw c.meet.ensures (meet_more m visited (c.in_ok-visit.ensures.whole whole) (inr (inl lacking)))
+pub items-returns-then-not-is_wanted-clause-settled : goal.items-returns-then-not-is_wanted-clause-settled
+items-returns-then-not-is_wanted-clause-settled t c =
+    done_settled (rw c.items.invariant.text at c.in_ok-item.ensures.passed) (c.is_wanted.ensures.done c.if-not-is_wanted.true).2
 
-pub meet-returns-else-more-clause-done : goal.meet-returns-else-more-clause-done
-meet-returns-else-more-clause-done t c = λ e.
-    let m = c.requires.2 in
-    let same : node_of c.child-below.result.0 ≡ m.node = cc (c.child-below.ensures.node, m.is) in
-    let front = rw same at c.child-below.ensures.front in
-    let visited = rw (c.child-below.ensures.paths, front) at c.in_ok-visit.ensures.visited in
-    let done = rw c.meet.ensures at (c.is_wanted-more.ensures.done c.if-more.false) in
-    meet_done m visited done.0 (sym c.lacks_key-else-more.ensures ∙ e) done.2
+pub items-returns-in_err-next_item-clause-err : goal.items-returns-in_err-next_item-clause-err
+items-returns-in_err-next_item-clause-err t c =
+    let p = err_from_is_err_and c.from_residual-in_err-next_item.result c.from_residual-in_err-next_item.ensures.1 in
+    let passed = rw c.items.invariant.text at c.in_ok-item.ensures.passed in
+    let e = rw (c.in_ok-item.ensures.text, c.items.invariant.text) at c.in_err-next_item.ensures.err in
+    rw (p.1, p.2) (separator_stops passed (c.is_wanted.ensures.more c.if-not-is_wanted.false) e)
 
-pub visit-returns-in_err-status-clause-err : goal.visit-returns-in_err-status-clause-err
-visit-returns-in_err-status-clause-err t c =
-    let p = err_from_is_err_and c.from_residual.result c.from_residual.ensures.1 in
-    let e = c.in_err-status.ensures.err in
-    rw (p.1, p.2) (stop_weaker c.in_err-status.field-0.0 (λ s f. visit_stops c.orders-orders.ensures c.is_asked-needs.ensures.asked f) e)
+pub items-overflow_add-passed : goal.items-overflow_add-passed
+items-overflow_add-passed t c =
+    let passed = c.in_ok-item.ensures.passed in
+    let later = passed_later passed (c.is_wanted.ensures.more c.if-not-is_wanted.false) in
+    let next = separated_later _ _ (c.in_ok-next_item.ensures.item c.if-not-branch.false) in
+    omega (arith, count_below passed.before.fit, later, next.0, c.in_ok-next_item.ensures.fits)
 
-pub visit-keep-requires-clause-known : goal.visit-keep-requires-clause-known
-visit-keep-requires-clause-known t c = λ k h. order_within k c.orders-orders.ensures c.in_ok-status.ensures.below.told h
+pub items-items-smaller : goal.items-items-smaller
+items-items-smaller t c =
+    let later = passed_later c.in_ok-item.ensures.passed (c.is_wanted.ensures.more c.if-not-is_wanted.false) in
+    let next = separated_later _ _ (c.in_ok-next_item.ensures.item c.if-not-branch.false) in
+    let same = ap length c.in_ok-item.ensures.text in
+    let long = ap (λ walk. length walk.text) c.in_ok-next_item.ensures.moved in
+    omega (arith, later, next.0, next.1, same, long)
 
-pub visit-returns-in-Some-clause-visited : goal.visit-returns-in-Some-clause-visited
-visit-returns-in-Some-clause-visited t c =
-    let value = rw c.in-Some.is at c.in_ok-status.ensures.whole in
-    let filled = rw c.place-start.ensures.place at c.keep.ensures.filled in
-    rw c.keep.ensures.kept (visit_filled c.requires.comes value c.orders-orders.ensures c.in_ok-status.ensures.below filled)
+pub items-items-preserved : goal.items-items-preserved
+items-items-preserved t c =
+    let wanted = c.is_wanted.ensures.more c.if-not-is_wanted.false in
+    let passed = rw c.items.invariant.text at c.in_ok-item.ensures.passed in
+    let later = passed_later passed wanted in
+    let comma = rw (c.in_ok-item.ensures.text, c.items.invariant.text) at (c.in_ok-next_item.ensures.item c.if-not-branch.false) in
+    let same = ap length c.in_ok-item.ensures.text in
+    let long = ap (λ walk. length walk.text) c.in_ok-next_item.ensures.moved in
+    let next = separated_later _ _ comma in
+    record {
+      text = ap (λ walk. walk.text) c.in_ok-next_item.ensures.moved ∙ (c.in_ok-item.ensures.text ∙ c.items.invariant.text);
+      place = omega (arith, c.items.invariant.place, later, next.0);
+      within = omega (arith, c.items.invariant.within, same, long);
+      before = rw (c.in_ok-next_item.ensures.moved, c.in_ok-item.ensures.text, c.items.invariant.text) (next_followed passed wanted comma);
+      wanted = rw c.in_ok-next_item.ensures.moved wanted;
+      later = rw (c.in_ok-next_item.ensures.moved, c.in_ok-item.ensures.text) (later_twice c.items.invariant.later c.in_ok-item.ensures.later);
+    }
 
-pub visit-returns-in-None-clause-visited : goal.visit-returns-in-None-clause-visited
-visit-returns-in-None-clause-visited t c =
-    let unneeded = rw c.in-None.is at c.in_ok-status.ensures.unneeded in
-    visit_early c.orders-orders.ensures (c.is_asked-needs.ensures.unasked unneeded.0).1 c.in_ok-status.ensures.below
+pub items-returns-in_err-close-clause-err : goal.items-returns-in_err-close-clause-err
+items-returns-in_err-close-clause-err t c =
+    let p = err_from_is_err_and c.from_residual-in_err-close.result c.from_residual-in_err-close.ensures.1 in
+    let passed = rw c.items.invariant.text at c.in_ok-item.ensures.passed in
+    let end = rw (c.in_ok-item.ensures.text, c.items.invariant.text) at (c.in_ok-next_item.ensures.end c.if-not-branch.true) in
+    let e = c.in_err-close.ensures.err in
+    rw (p.1, p.2) (close_stops passed (c.is_wanted.ensures.more c.if-not-is_wanted.false) end e.0 e.1 e.2)
+
+pub items-returns-clause-later : goal.items-returns-clause-later
+items-returns-clause-later t c =
+    let passed = rw c.items.invariant.text at c.in_ok-item.ensures.passed in
+    let end = rw (c.in_ok-item.ensures.text, c.items.invariant.text) at (c.in_ok-next_item.ensures.end c.if-not-branch.true) in
+    let before = rw c.items.invariant.text at (later_twice c.items.invariant.later c.in_ok-item.ensures.later) in
+    let lack = rw c.in_ok-next_item.ensures.moved at c.in_ok-close.ensures.lack in
+    let still = rw c.in_ok-next_item.ensures.moved at c.in_ok-close.ensures.still in
+    rw (c.in_ok-close.ensures.kept, c.in_ok-next_item.ensures.moved)
+    (later_twice before (close_later passed (c.is_wanted.ensures.more c.if-not-is_wanted.false) end c.in_ok-close.ensures.unvisited lack still))
+
+pub items-returns-clause-settled : goal.items-returns-clause-settled
+items-returns-clause-settled t c =
+    let passed = rw c.items.invariant.text at c.in_ok-item.ensures.passed in
+    let wanted = c.is_wanted.ensures.more c.if-not-is_wanted.false in
+    let end = rw (c.in_ok-item.ensures.text, c.items.invariant.text) at (c.in_ok-next_item.ensures.end c.if-not-branch.true) in
+    let lack = rw c.in_ok-next_item.ensures.moved at c.in_ok-close.ensures.lack in
+    let still = rw c.in_ok-next_item.ensures.moved at c.in_ok-close.ensures.still in
+    let later = close_later passed wanted end c.in_ok-close.ensures.unvisited lack still in
+    rw (c.in_ok-close.ensures.kept, c.in_ok-next_item.ensures.moved) (close_settled passed wanted end c.in_ok-close.ensures.unvisited later)
+
+pub items-returns-clause-whole : goal.items-returns-clause-whole
+items-returns-clause-whole t c = λ e.
+    let passed = rw c.items.invariant.text at c.in_ok-item.ensures.passed in
+    let end = rw (c.in_ok-item.ensures.text, c.items.invariant.text) at (c.in_ok-next_item.ensures.end c.if-not-branch.true) in
+    rw c.in_ok-close.ensures.kept (rw c.requires.start at (whole_there passed (c.is_wanted.ensures.more c.if-not-is_wanted.false) end))
+
+pub items-returns-clause-status : goal.items-returns-clause-status
+items-returns-clause-status t c = λ e.
+    let passed = rw c.items.invariant.text at c.in_ok-item.ensures.passed in
+    rw c.requires.start at (container_status {j = c.close.new.walk.place} passed.before.fit)

@@ -1,4 +1,4 @@
-use Rattle.sonic_parser.proofs.Rules.{empty_begun}
+use Rattle.sonic_parser.proofs.BeginningLemmas.{empty_begun}
 use Rattle.sonic_parser.proofs.begin.begin_container.Goals as goal
 
 pub returns-in-End : goal.returns-in-End

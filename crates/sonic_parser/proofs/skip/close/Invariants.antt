@@ -1,9 +1,10 @@
 use Rattle.std.proofs.Common.{length, ◌-◌}
-use Rattle.sonic_parser.specs.Skipping.{IsReading, place_of}
+use Rattle.sonic_parser.specs.Skipping.{IsLeft}
+use Rattle.sonic_parser.specs.declared.container.Next.TheVariants.{Item}
 use Rattle.sonic_parser.proofs.skip.close.Given as goal
 
-abbrev pub invariant-states : goal.invariant-states
-invariant-states l = IsReading l.lossy l.text l.root l.opened.items l.state
+abbrev pub invariant-items : goal.invariant-items
+invariant-items l = IsLeft l.lossy l.text l.root l.opened.items (Item l.place)
 
-abbrev pub decreases-states : goal.decreases-states
-decreases-states l = length l.text - place_of l.state
+abbrev pub decreases-items : goal.decreases-items
+decreases-items l = length l.text - l.place

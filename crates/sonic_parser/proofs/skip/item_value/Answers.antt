@@ -1,6 +1,6 @@
 use Rattle.std.proofs.Common.{refl}
 use Rattle.std.proofs.lemmas.Result.{err_from_is_err_and}
-use Rattle.sonic_parser.proofs.Rules.{member_item}
+use Rattle.sonic_parser.proofs.BeginningLemmas.{member_item}
 use Rattle.sonic_parser.proofs.skip.item_value.Goals as goal
 
 pub returns-in_err-key_end-in-Object-clause-err : goal.returns-in_err-key_end-in-Object-clause-err

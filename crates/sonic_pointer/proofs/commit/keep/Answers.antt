@@ -1,7 +1,8 @@
-use Rattle.std.proofs.Common.{◌<◌, ◌-◌, ◌∷◌, Ok, Err, Result, OnOk, OnErr, length, sym, ◌∙◌, subst, subst₂, arith}
+use Rattle.std.proofs.Common.{◌<◌, ◌-◌, Ok, Err, Result, OnOk, OnErr, length, sym, ◌∙◌, subst, subst₂, arith}
 use Rattle.std.proofs.lemmas.List.{take_all}
 use Rattle.sonic_pointer.specs.Tries.{IsLine, IsTree}
-use Rattle.sonic_pointer.proofs.Trees.{tree_ended, tree_branched}
+use Rattle.sonic_pointer.specs.Shapes.{kept_entries}
+use Rattle.sonic_pointer.proofs.TreeLemmas.{tree_ended, tree_branched}
 use Rattle.sonic_pointer.proofs.commit.keep.Goals as goal
 
 -- what holds after Ok, and after Err, leads to the goal
@@ -11,8 +12,8 @@ after (Err e) a b c d ok err = err c d
 
 pub returns-then-leaving-len-clause-tree : goal.returns-then-leaving-len-clause-tree
 returns-then-leaving-len-clause-tree c =
-    let P = c.args.paths.now.items in
-    let E = c.args.root.now ∷ c.args.places.now.items in
+    let P = c.args.parts.now.paths.items in
+    let E = kept_entries c.args.parts.now in
     let p = c.args.path in
     let l = c.requires.leaving in
     let e = c.end_path.ensures in
@@ -23,8 +24,8 @@ returns-then-leaving-len-clause-tree c =
 
 pub returns-clause-tree : goal.returns-clause-tree
 returns-clause-tree c =
-    let P = c.args.paths.now.items in
-    let E = c.args.root.now ∷ c.args.places.now.items in
+    let P = c.args.parts.now.paths.items in
+    let E = kept_entries c.args.parts.now in
     let p = c.args.path in
     let l = c.requires.leaving in
     let e = c.branch_path.ensures in

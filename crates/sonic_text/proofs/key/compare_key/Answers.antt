@@ -5,8 +5,8 @@ use Rattle.std.specs.Cmp.Lexicographic.{slice_cmp}
 use Rattle.std.specs.List.{slice_range}
 use Rattle.std.specs.Char.{encode_utf8}
 use Rattle.sonic_text.specs.Strings.{IsString, strict}
-use Rattle.sonic_text.proofs.Keys.{key_more, cmp_front}
-use Rattle.sonic_text.proofs.Unescaping.{reached_start, reached_before, reached_plain, reached_escape, reached_char, reached_all}
+use Rattle.sonic_text.proofs.KeyLemmas.{key_more, cmp_front}
+use Rattle.sonic_text.proofs.StringReadingLemmas.{reached_start, reached_before, reached_plain, reached_escape, reached_char, reached_all}
 use Rattle.sonic_text.proofs.key.compare_key.Goals as goal
 
 pub chars-init : goal.chars-init

@@ -1,6 +1,6 @@
 use Rattle.std.proofs.Common.{◌-◌, ◌<◌, ◌≤◌, List, ℕ, length, take}
 use Rattle.sonic_text.specs.Strings.{IsString, strict}
-use Rattle.sonic_text.proofs.Unescaping.{IsReached}
+use Rattle.sonic_text.proofs.StringReadingLemmas.{IsReached}
 use Rattle.sonic_text.proofs.key.compare_key.Given as goal
 
 abbrev pub invariant-chars : goal.invariant-chars

@@ -1,6 +1,6 @@
 use Rattle.std.proofs.Common.{◌∙◌, sym}
 use Rattle.std.proofs.lemmas.List.{take_rest}
-use Rattle.sonic_text.proofs.Keys.{cmp_piece}
+use Rattle.sonic_text.proofs.KeyLemmas.{cmp_piece}
 use Rattle.sonic_text.proofs.key.piece_order.Goals as goal
 
 pub returns : goal.returns

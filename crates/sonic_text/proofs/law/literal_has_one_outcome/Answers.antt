@@ -1,5 +1,5 @@
 use Rattle.std.proofs.Common.{arith}
-use Rattle.sonic_text.proofs.Literals.{literal_some, literal_fault_one, literal_never_both}
+use Rattle.sonic_text.proofs.LiteralLemmas.{literal_some, literal_fault_one, literal_never_both}
 use Rattle.sonic_text.proofs.law.literal_has_one_outcome.Goals as goal
 
 pub returns : goal.returns

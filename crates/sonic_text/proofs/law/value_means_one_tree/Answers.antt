@@ -1,4 +1,4 @@
-use Rattle.sonic_text.proofs.Meanings.{tree_of, value_of, means_one}
+use Rattle.sonic_text.proofs.TreeLemmas.{tree_of, value_of, means_one}
 use Rattle.sonic_text.proofs.law.value_means_one_tree.Goals as goal
 
 pub returns-clause-means : goal.returns-clause-means

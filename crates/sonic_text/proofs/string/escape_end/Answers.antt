@@ -2,8 +2,8 @@ use Rattle.std.proofs.Common.{◌≡◌, ◌≢◌, ◌+◌, ◌<◌, arith, fal
 use Rattle.std.specs.Prelude.{is_some}
 use Rattle.sonic_text.specs.Places.{byte}
 use Rattle.sonic_text.specs.Strings.{escaped}
-use Rattle.sonic_text.proofs.EscapeFaults.{letter_missing}
-use Rattle.sonic_text.proofs.Escapes.{short_char}
+use Rattle.sonic_text.proofs.EscapeFaultLemmas.{letter_missing}
+use Rattle.sonic_text.proofs.EscapeLemmas.{short_char}
 use Rattle.sonic_text.proofs.string.escape_end.Goals as goal
 
 pub returns-then-is_short-clause-ok : goal.returns-then-is_short-clause-ok

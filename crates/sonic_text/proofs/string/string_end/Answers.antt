@@ -1,5 +1,6 @@
 use Rattle.std.proofs.Common.{◌≡◌, ◌≢◌, ◌↔◌, ◌+◌, ◌<◌, ℕ, Bool, List, [], length, IsTrue, arith, refl, inl, inr}
 use Rattle.std.proofs.lemmas.Bool.{cases_lt}
+use Rattle.std.proofs.lemmas.Result.{err_from_is_err_and}
 use Rattle.sonic_text.specs.Places.{byte}
 use Rattle.sonic_text.specs.Strings.IsChar.{unescaped}
 use Rattle.sonic_text.specs.Strings.AreChars.{no_char, one_more}
@@ -25,12 +26,14 @@ returns-then-byte-eq34-clause-escaped c =
 pub returns-then-byte-lt32-clause-err : goal.returns-then-byte-lt32-clause-err
 returns-then-byte-lt32-clause-err c = control_char c.chars.invariant.fits.1 (omega arith) c.stop_at.ensures
 
-pub returns-in-Err-clause-err : goal.returns-in-Err-clause-err
-returns-in-Err-clause-err c = in_escape c.chars.invariant.fits.1 (omega arith) c.in-Err.ensures.err
+pub returns-in_err-place-clause-err : goal.returns-in_err-place-clause-err
+returns-in_err-place-clause-err c =
+    let p = err_from_is_err_and c.from_residual.result c.from_residual.ensures.1 in
+    rw (p.1, p.2) (in_escape c.chars.invariant.fits.1 (omega arith) c.in_err-place.ensures.err)
 
 pub chars-preserved-then-byte-eq92 : goal.chars-preserved-then-byte-eq92
 chars-preserved-then-byte-eq92 c =
-    let f = c.in-Ok.ensures.ok in
+    let f = c.in_ok-place.ensures.ok in
     let e : byte c.args.text.now c.chars.place ≡ 92 = omega arith in
     record {
       later = omega arith;

@@ -1,7 +1,7 @@
 use Rattle.std.proofs.Common.{◌<◌, arith, refl}
 use Rattle.sonic_text.specs.Strings.{IsHigh, IsEscape}
-use Rattle.sonic_text.proofs.EscapeFaults.{half_missing}
-use Rattle.sonic_text.proofs.Escapes.{plain_char, paired_char, lone_char}
+use Rattle.sonic_text.proofs.EscapeFaultLemmas.{half_missing}
+use Rattle.sonic_text.proofs.EscapeLemmas.{plain_char, paired_char, lone_char}
 use Rattle.sonic_text.proofs.string.unicode_end.Goals as goal
 
 pub returns-then-number-lt55296-clause-ok : goal.returns-then-number-lt55296-clause-ok

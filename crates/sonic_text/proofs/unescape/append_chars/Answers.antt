@@ -2,7 +2,7 @@ use Rattle.std.proofs.Common.{◌≡◌, ◌++◌, ◌∙◌, sym, arith, []}
 use Rattle.std.proofs.lemmas.List.{append-nil}
 use Rattle.std.specs.Char.{encode_utf8}
 use Rattle.std.specs.List.{slice_range}
-use Rattle.sonic_text.proofs.Unescaping.{reached_start, reached_before, reached_plain, reached_escape, reached_char, reached_string, appended}
+use Rattle.sonic_text.proofs.StringReadingLemmas.{reached_start, reached_before, reached_plain, reached_escape, reached_char, reached_string, appended}
 use Rattle.sonic_text.proofs.unescape.append_chars.Goals as goal
 
 pub overflow_sub-end : goal.overflow_sub-end

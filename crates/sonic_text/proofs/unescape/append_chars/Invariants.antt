@@ -1,5 +1,5 @@
 use Rattle.std.proofs.Common.{◌≡◌, ◌-◌, ◌<◌, ◌≤◌, ◌++◌, ℕ, List, length}
-use Rattle.sonic_text.proofs.Unescaping.{IsReached}
+use Rattle.sonic_text.proofs.StringReadingLemmas.{IsReached}
 use Rattle.sonic_text.proofs.unescape.append_chars.Given as goal
 
 abbrev pub invariant-chars : goal.invariant-chars

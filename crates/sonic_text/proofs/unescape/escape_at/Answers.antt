@@ -1,4 +1,4 @@
-use Rattle.sonic_text.proofs.Unescaping.{escape_letter, escape_unicode, escape_short}
+use Rattle.sonic_text.proofs.StringReadingLemmas.{escape_letter, escape_unicode, escape_short}
 use Rattle.sonic_text.proofs.unescape.escape_at.Goals as goal
 
 pub bounds-text-place : goal.bounds-text-place

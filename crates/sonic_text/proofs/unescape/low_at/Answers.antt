@@ -1,5 +1,5 @@
 use Rattle.std.proofs.Common.{arith}
-use Rattle.sonic_text.proofs.Unescaping.{escape_within}
+use Rattle.sonic_text.proofs.StringReadingLemmas.{escape_within}
 use Rattle.sonic_text.proofs.unescape.low_at.Goals as goal
 
 pub returns-then-text-place-lt6-clause-none : goal.returns-then-text-place-lt6-clause-none

@@ -1,6 +1,6 @@
 use Rattle.std.proofs.Common.{◌≡◌, arith, refl}
-use Rattle.sonic_text.proofs.HexDigits.{hex4_within, hex4_one}
-use Rattle.sonic_text.proofs.Unescaping.{unicode_single}
+use Rattle.sonic_text.proofs.HexDigitLemmas.{hex4_within, hex4_one}
+use Rattle.sonic_text.proofs.StringReadingLemmas.{unicode_single}
 use Rattle.sonic_text.proofs.unescape.unicode_at.Goals as goal
 
 pub hex4_at-requires : goal.hex4_at-requires

@@ -1,5 +1,5 @@
 use Rattle.std.proofs.Common.{arith, ◌∙◌, sym}
-use Rattle.sonic_text.proofs.Codepoints.{one_byte, two_bytes, three_bytes, four_bytes, put_one, put_two, put_three, put_four}
+use Rattle.sonic_text.proofs.CodepointLemmas.{one_byte, two_bytes, three_bytes, four_bytes, put_one, put_two, put_three, put_four}
 use Rattle.sonic_text.proofs.utf8.codepoint_to_utf8.Goals as goal
 
 pub returns-then-cp-lt128-clause-written : goal.returns-then-cp-lt128-clause-written

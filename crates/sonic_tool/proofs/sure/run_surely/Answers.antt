@@ -2,7 +2,7 @@ use Rattle.std.proofs.Common.{rules, ◌≡◌, ◌⊎◌, ℕ, List, map, strin
 use Rattle.sonic_tool.specs.declared.status.Status.{Status}
 use Rattle.sonic_tool.specs.declared.status.Status.TheVariants.{NoMemory}
 use Rattle.sonic_tool.specs.Reports.{IsReport}
-use Rattle.sonic_tool.proofs.Completing.{done_surely}
+use Rattle.sonic_tool.proofs.ReportLemmas.{done_surely}
 use Rattle.sonic_tool.proofs.sure.run_surely.Goals as goal
 
 pub returns-clause-complete : goal.returns-clause-complete

@@ -1,5 +1,5 @@
-use Rattle.sonic_lazy.proofs.Wholes.{lazy_one}
 use Rattle.sonic_lazy.proofs.lazyvalue.LazyValueClone.clone.Goals as goal
+use Rattle.sonic_lazy.proofs.WholeLemmas.{lazy_one}
 
 -- the copy has the same text and the same mark
 pub returns : goal.returns

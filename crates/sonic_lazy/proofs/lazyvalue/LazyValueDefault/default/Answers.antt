@@ -1,5 +1,5 @@
-use Rattle.sonic_lazy.proofs.Wholes.{null_is_whole}
 use Rattle.sonic_lazy.proofs.lazyvalue.LazyValueDefault.default.Goals as goal
+use Rattle.sonic_lazy.proofs.WholeLemmas.{null_is_whole}
 
 -- null is a whole value
 pub invariant_of-result : goal.invariant_of-result

@@ -1,8 +1,8 @@
+use Rattle.sonic_lazy.proofs.state.Walk.enter.Goals as goal
 use Rattle.std.proofs.Common.{◌≡◌, ◌∙◌, ◌+◌, ◌-◌, sym, arith, refl}
+use Rattle.sonic_lazy.proofs.WalkLemmas.Start.{no_entry_in_empty}
 use Rattle.sonic_text.specs.Places.{after_space}
 use Rattle.sonic_text.specs.Values.{first_item}
-use Rattle.sonic_lazy.proofs.Entering.{no_entry_in_empty}
-use Rattle.sonic_lazy.proofs.state.Walk.enter.Goals as goal
 
 pub returns-then-enter-clause-ok : goal.returns-then-enter-clause-ok
 returns-then-enter-clause-ok c =

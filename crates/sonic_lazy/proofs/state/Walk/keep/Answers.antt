@@ -1,9 +1,9 @@
+use Rattle.sonic_lazy.proofs.state.Walk.keep.Goals as goal
 use Rattle.std.proofs.Common.{arith}
 use Rattle.std.proofs.lemmas.List.{length-map}
 use Rattle.std.specs.Prelude.{option_map}
-use Rattle.sonic_lazy.specs.Located.{span_at}
-use Rattle.sonic_lazy.proofs.Filling.{fill_mapped}
-use Rattle.sonic_lazy.proofs.state.Walk.keep.Goals as goal
+use Rattle.sonic_lazy.proofs.WalkLemmas.List.{fill_mapped}
+use Rattle.sonic_lazy.specs.Internal.Located.{span_at}
 
 pub fill-requires : goal.fill-requires
 fill-requires c = λ k h.

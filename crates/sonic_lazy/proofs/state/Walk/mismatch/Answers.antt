@@ -1,8 +1,8 @@
-use Rattle.std.proofs.Common.{◌∙◌, ap, refl, arith}
-use Rattle.sonic_text.proofs.Values.{value-longer}
-use Rattle.sonic_lazy.proofs.Entering.{no_entry_by_kind, no_entry_by_fault}
-use Rattle.sonic_lazy.proofs.Stopping.{stop_weaker}
 use Rattle.sonic_lazy.proofs.state.Walk.mismatch.Goals as goal
+use Rattle.std.proofs.Common.{◌∙◌, ap, refl, arith}
+use Rattle.sonic_parser.proofs.FaultLemmas.{stop_weaker}
+use Rattle.sonic_lazy.proofs.WalkLemmas.Start.{no_entry_by_kind, no_entry_by_fault}
+use Rattle.sonic_text.proofs.Values.{value-longer}
 
 pub returns-in-Err : goal.returns-in-Err
 returns-in-Err c = stop_weaker c.in-Err.fault (λ s f. no_entry_by_fault f c.requires) c.in-Err.ensures.err

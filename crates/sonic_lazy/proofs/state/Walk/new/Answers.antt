@@ -1,7 +1,7 @@
+use Rattle.sonic_lazy.proofs.state.Walk.new.Goals as goal
 use Rattle.std.proofs.Common.{rules, ◌≡◌, refl}
 use Rattle.std.specs.Prelude.{replicate}
-use Rattle.sonic_lazy.proofs.Answering.{no_value, replicate_none}
-use Rattle.sonic_lazy.proofs.state.Walk.new.Goals as goal
+use Rattle.sonic_lazy.proofs.AnswerLemmas.Walk.{no_value, replicate_none}
 
 pub returns-clause-findings : goal.returns-clause-findings
 returns-clause-findings c =

@@ -1,17 +1,13 @@
-use Rattle.std.proofs.Common.{◌∙◌, ◌+◌, ap, sym, length, arith, refl}
-use Rattle.std.proofs.lemmas.Result.{err_from_is_err_and}
-use Rattle.sonic_text.specs.Places.{after_space}
-use Rattle.sonic_text.specs.Values.{first_item, next_item}
-use Rattle.sonic_text.proofs.Items.{head_never_both, closing_no_comma}
-use Rattle.sonic_text.proofs.Places.{after_space_later, byte_within}
-use Rattle.sonic_text.proofs.Values.{head-later}
-use Rattle.sonic_pointer.specs.Nodes.{node_of}
-use Rattle.sonic_lazy.proofs.Entering.{none_unopened, none_empty}
-use Rattle.sonic_lazy.proofs.Firsts.{first_unnamed}
-use Rattle.sonic_lazy.proofs.Nodes.{named_leads, none_leads, one_more_unnamed}
-use Rattle.sonic_lazy.proofs.Stopping.{stop_weaker}
-use Rattle.sonic_lazy.proofs.Walking.{count_below, not_named, past_value, past_byte, past_key}
 use Rattle.sonic_lazy.proofs.tests.reference.seek.Goals as goal
+use Rattle.std.proofs.Common.{◌∙◌, ap, sym, length, arith, refl}
+use Rattle.std.proofs.lemmas.Result.{err_from_is_err_and}
+use Rattle.sonic_lazy.proofs.PathLemmas.Lead.{none_unopened, none_empty, first_unnamed, named_leads, none_leads, one_more_unnamed, count_below, not_named, past_value, past_byte, past_key}
+use Rattle.sonic_parser.proofs.FaultLemmas.{stop_weaker}
+use Rattle.sonic_lazy.proofs.WalkLemmas.Step.{separated_later}
+use Rattle.sonic_pointer.specs.Nodes.{node_of}
+use Rattle.sonic_text.proofs.Items.{head_never_both, closing_no_comma}
+use Rattle.sonic_text.proofs.Values.{head-later}
+use Rattle.sonic_text.specs.Values.{first_item, next_item}
 
 pub returns-then-byte_at-opening-clause-no : goal.returns-then-byte_at-opening-clause-no
 returns-then-byte_at-opening-clause-no c = λ e.
@@ -75,22 +71,17 @@ pub overflow_add-passed : goal.overflow_add-passed
 overflow_add-passed c =
     let few = count_below c.items.invariant.none.fit in
     let later = head-later c.in_ok-is_named.ensures.item.1.head in
-    let comma = c.in_ok-next_item.ensures.item c.if-not-branch.false in
-    let first = after_space_later c.skip_value.new.self.text c.skip_value.new.self.place in
-    let second = after_space_later c.skip_value.new.self.text (after_space c.skip_value.new.self.text c.skip_value.new.self.place + 1) in
-    omega (arith, few, later, c.in_ok-skip_value.ensures.ok.later, comma.1, first, second, c.in_ok-next_item.ensures.fits)
+    let next = separated_later _ _ (c.in_ok-next_item.ensures.item c.if-not-branch.false) in
+    omega (arith, few, later, c.in_ok-skip_value.ensures.ok.later, next.0, c.in_ok-next_item.ensures.fits)
 
 pub items-smaller : goal.items-smaller
 items-smaller c =
     let later = head-later c.in_ok-is_named.ensures.item.1.head in
-    let comma = c.in_ok-next_item.ensures.item c.if-not-branch.false in
-    let within = byte_within c.skip_value.new.self.text (after_space c.skip_value.new.self.text c.skip_value.new.self.place) (λ z. omega (arith, comma.0, z)) in
+    let next = separated_later _ _ (c.in_ok-next_item.ensures.item c.if-not-branch.false) in
     let named = ap (λ p. length p.text) c.in_ok-is_named.ensures.cursor in
     let skipped = ap (λ p. length p.text) c.in_ok-skip_value.ensures.cursor in
     let long = ap (λ p. length p.text) c.in_ok-next_item.ensures.cursor in
-    let first = after_space_later c.skip_value.new.self.text c.skip_value.new.self.place in
-    let second = after_space_later c.skip_value.new.self.text (after_space c.skip_value.new.self.text c.skip_value.new.self.place + 1) in
-    omega (arith, later, c.in_ok-skip_value.ensures.ok.later, within, named, skipped, long, comma.1, first, second)
+    omega (arith, later, c.in_ok-skip_value.ensures.ok.later, next.0, next.1, named, skipped, long)
 
 pub items-preserved : goal.items-preserved
 items-preserved c =

@@ -1,5 +1,5 @@
 use Rattle.std.proofs.lemmas.Result.{err_from_is_err_and}
-use Rattle.sonic_parser.proofs.Descending.{descend_key, descend_fault, descend_behind, descend_bracket}
+use Rattle.sonic_parser.proofs.DescentLemmas.{descend_key, descend_fault, descend_behind, descend_bracket}
 use Rattle.sonic_parser.proofs.tests.reference.+value_end.Goals as goal
 
 pub returns-in_err-value-clause-err : goal.returns-in_err-value-clause-err

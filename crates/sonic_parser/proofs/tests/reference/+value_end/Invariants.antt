@@ -1,5 +1,5 @@
 use Rattle.std.proofs.Common.{length, ◌-◌}
-use Rattle.sonic_parser.proofs.Descending.{IsDue}
+use Rattle.sonic_parser.proofs.DescentLemmas.{IsDue}
 use Rattle.sonic_parser.proofs.tests.reference.+value_end.Given as goal
 
 abbrev pub decreases-value_end : goal.decreases-value_end

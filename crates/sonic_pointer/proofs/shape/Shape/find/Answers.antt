@@ -1,60 +1,55 @@
 use Rattle.std.proofs.Common.{◌≡◌, ◌+◌, ◌-◌, ◌/◌, Some, sym, ap, ◌∙◌, arith}
 use Rattle.std.proofs.lemmas.Option.{slice_get-get_or}
 use Rattle.sonic_pointer.specs.Nodes.{node_of}
-use Rattle.sonic_pointer.specs.Tries.{Entry, entry_at, front_at}
+use Rattle.sonic_pointer.specs.Tries.{front_at}
 use Rattle.sonic_pointer.specs.Shapes.{entries_of, shape_spots, shape_labels}
-use Rattle.sonic_pointer.proofs.Kids.{count_of, step_of, label_of}
-use Rattle.sonic_pointer.proofs.Labels.{spot_here}
-use Rattle.sonic_pointer.proofs.NodeOrder.{behind_middle, before_middle, node_cmp_same}
+use Rattle.sonic_pointer.proofs.PlaceLemmas.{spot_here}
+use Rattle.sonic_pointer.proofs.NodeLemmas.{behind_middle, before_middle, node_cmp_same}
 use Rattle.sonic_pointer.proofs.shape.Shape.find.Goals as goal
 
 pub label-requires-clause-step : goal.label-requires-clause-step
 label-requires-clause-step c =
-    let shape = c.args.self.now in
-    let kids : c.children-children.result.now ≡ (entry_at (entries_of shape) c.args.at).children = c.children-children.ensures ∙ ap (λ (e : Entry). e.children) c.place.ensures in
     let i = c.loop-low.invariant in
-    let middle = c.loop-low.low + (c.loop-low.high - c.loop-low.low) / 2 in
-    (front_at (shape_spots shape) c.args.at, step_of shape c.args.at c.requires.shape c.requires.inside c.children-children.result.now kids middle (omega arith))
+    (front_at (shape_spots c.args.self.now) c.args.at, c.children-children.ensures.steps (c.loop-low.low + (c.loop-low.high - c.loop-low.low) / 2) (omega arith))
 
 pub loop-low-preserved-in-Less : goal.loop-low-preserved-in-Less
 loop-low-preserved-in-Less c =
     let shape = c.args.self.now in
-    let kids : c.children-children.result.now ≡ (entry_at (entries_of shape) c.args.at).children = c.children-children.ensures ∙ ap (λ (e : Entry). e.children) c.place.ensures in
     let i = c.loop-low.invariant in
     let middle = c.loop-low.low + (c.loop-low.high - c.loop-low.low) / 2 in
-    let many = count_of shape c.args.at c.requires.shape c.requires.inside c.children-children.result.now kids in
+    let kids = c.children-children.ensures in
+    let many = kids.count in
     let sorted = (spot_here shape.paths.now (entries_of shape) c.requires.shape c.args.at c.requires.inside).sorted in
     record {
       order = omega arith;
       end = omega arith;
       before = i.before;
       behind = λ n s. before_middle (shape_labels shape c.args.at) n (node_of c.label.result) middle sorted (omega arith)
-          (λ d. label_of shape c.args.at c.requires.shape c.requires.inside c.children-children.result.now kids middle d (omega arith) ∙ sym c.label.ensures) (sym (c.in-Less.ensures n s));
+          (λ d. kids.nodes middle d (omega arith) ∙ sym c.label.ensures) (sym (c.in-Less.ensures n s));
     }
 
 pub returns-in-Equal-clause-found : goal.returns-in-Equal-clause-found
 returns-in-Equal-clause-found c = λ n s.
-    let shape = c.args.self.now in
-    let kids : c.children-children.result.now ≡ (entry_at (entries_of shape) c.args.at).children = c.children-children.ensures ∙ ap (λ (e : Entry). e.children) c.place.ensures in
     let i = c.loop-low.invariant in
     let middle = c.loop-low.low + (c.loop-low.high - c.loop-low.low) / 2 in
-    let many = count_of shape c.args.at c.requires.shape c.requires.inside c.children-children.result.now kids in
+    let kids = c.children-children.ensures in
+    let many = kids.count in
     let same : n ≡ node_of c.label.result = node_cmp_same n (node_of c.label.result) (sym (c.in-Equal.ensures n s)) in
-    slice_get-get_or (shape_labels shape c.args.at) middle n (omega arith)
-    ∙ ap Some (label_of shape c.args.at c.requires.shape c.requires.inside c.children-children.result.now kids middle n (omega arith) ∙ (sym c.label.ensures ∙ sym same))
+    slice_get-get_or (shape_labels c.args.self.now c.args.at) middle n (omega arith)
+    ∙ ap Some (kids.nodes middle n (omega arith) ∙ (sym c.label.ensures ∙ sym same))
 
 pub loop-low-preserved : goal.loop-low-preserved
 loop-low-preserved c =
     let shape = c.args.self.now in
-    let kids : c.children-children.result.now ≡ (entry_at (entries_of shape) c.args.at).children = c.children-children.ensures ∙ ap (λ (e : Entry). e.children) c.place.ensures in
     let i = c.loop-low.invariant in
     let middle = c.loop-low.low + (c.loop-low.high - c.loop-low.low) / 2 in
-    let many = count_of shape c.args.at c.requires.shape c.requires.inside c.children-children.result.now kids in
+    let kids = c.children-children.ensures in
+    let many = kids.count in
     let sorted = (spot_here shape.paths.now (entries_of shape) c.requires.shape c.args.at c.requires.inside).sorted in
     record {
       order = omega arith;
       end = i.end;
       before = λ n s. behind_middle (shape_labels shape c.args.at) n (node_of c.label.result) middle sorted (omega arith)
-          (λ d. label_of shape c.args.at c.requires.shape c.requires.inside c.children-children.result.now kids middle d (omega arith) ∙ sym c.label.ensures) (sym (c.in-Greater.ensures n s));
+          (λ d. kids.nodes middle d (omega arith) ∙ sym c.label.ensures) (sym (c.in-Greater.ensures n s));
       behind = i.behind;
     }

@@ -1,10 +1,9 @@
-use Rattle.std.proofs.Common.{◌≡◌, length, refl, ap, ◌∙◌, subst, arith}
+use Rattle.std.proofs.Common.{◌≡◌, length, refl, subst, arith}
 use Rattle.std.proofs.lemmas.List.{get_or-map, length-map}
 use Rattle.sonic_text.specs.Paths.{index}
 use Rattle.sonic_pointer.specs.Nodes.{node_of, path_of}
-use Rattle.sonic_pointer.specs.Tries.{Entry, entry_at}
 use Rattle.sonic_pointer.specs.Shapes.{entries_of, IsLeaving}
-use Rattle.sonic_pointer.proofs.Walks.{step_down, mixed_here, leaving_here, ending_here}
+use Rattle.sonic_pointer.proofs.LeavingLemmas.{step_down, mixed_here, leaving_here, ending_here}
 use Rattle.sonic_pointer.proofs.shape.Shape.walk.Goals as goal
 
 pub returns-in-Err-clause-err : goal.returns-in-Err-clause-err
@@ -28,8 +27,7 @@ pub loop-depth-preserved : goal.loop-depth-preserved
 loop-depth-preserved c =
     let long = length-map c.args.path.now node_of in
     let i = c.loop-depth.invariant in
-    let kids : c.children.result.now ≡ (entry_at (entries_of c.args.self.now) c.loop-depth.at).children = c.children.ensures ∙ ap (λ (e : Entry). e.children) c.place.ensures in
-    let s = step_down c.args.self.now c.loop-depth.at c.in-Ok.i c.loop-depth.depth (path_of c.args.path.now) c.children.result.now c.requires i.inside i.front (omega arith) kids
+    let s = step_down c.args.self.now c.loop-depth.at c.in-Ok.i c.loop-depth.depth (path_of c.args.path.now) c.children.result.now c.children.ensures i.front (omega arith)
     (c.in-Ok.ensures.found _ (get_or-map node_of c.args.path.now c.loop-depth.depth _ (index 0) (omega arith))) in
     record { inside = s.1; front = s.2 }
 

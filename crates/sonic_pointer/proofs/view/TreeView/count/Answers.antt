@@ -1,7 +1,7 @@
 use Rattle.std.proofs.Common.{subst}
 use Rattle.sonic_pointer.specs.Paths.{IsChildren}
 use Rattle.sonic_pointer.specs.Views.{View}
-use Rattle.sonic_pointer.proofs.Kids.{children_of}
+use Rattle.sonic_pointer.proofs.ShapeLemmas.{children_of}
 use Rattle.sonic_pointer.proofs.view.TreeView.count.Goals as goal
 
 pub returns-clause-children : goal.returns-clause-children

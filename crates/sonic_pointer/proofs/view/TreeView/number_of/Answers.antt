@@ -3,8 +3,8 @@ use Rattle.sonic_pointer.specs.Paths.{HasNext}
 use Rattle.sonic_pointer.specs.Tries.{spot_at}
 use Rattle.sonic_pointer.specs.Shapes.{entries_of, shape_spots}
 use Rattle.sonic_pointer.specs.Views.{View}
-use Rattle.sonic_pointer.proofs.Labels.{spot_here}
-use Rattle.sonic_pointer.proofs.Trees.{gap_fresh}
+use Rattle.sonic_pointer.proofs.PlaceLemmas.{spot_here}
+use Rattle.sonic_pointer.proofs.TreeLemmas.{gap_fresh}
 use Rattle.sonic_pointer.proofs.view.TreeView.number_of.Goals as goal
 
 pub returns-in-Err-clause-none : goal.returns-in-Err-clause-none

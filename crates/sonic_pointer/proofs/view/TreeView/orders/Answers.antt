@@ -2,7 +2,7 @@ use Rattle.std.proofs.Common.{ap, ◌∙◌, subst}
 use Rattle.sonic_pointer.specs.Paths.{IsOrders}
 use Rattle.sonic_pointer.specs.Tries.{Entry}
 use Rattle.sonic_pointer.specs.Views.{View}
-use Rattle.sonic_pointer.proofs.Kids.{orders_of}
+use Rattle.sonic_pointer.proofs.ShapeLemmas.{orders_of}
 use Rattle.sonic_pointer.proofs.view.TreeView.orders.Goals as goal
 
 pub returns : goal.returns

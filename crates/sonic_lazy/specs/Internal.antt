@@ -1,0 +1,4 @@
+-- What serves private clauses and loop invariants alone.
+pub mod Located
+pub mod View
+pub mod Walk

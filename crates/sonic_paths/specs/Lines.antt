@@ -1,0 +1,69 @@
+-- Path lines, and what a head of such lines says.
+use Rattle.std.specs.Prelude.{◌≡◌, ◌≢◌, ℕ, ◌+◌, ◌^◌, ◌<◌, ◌≤◌, List, [], ◌∷◌, ◌++◌, Option, length}
+use Rattle.std.specs.Str.{IsUtf8}
+use Rattle.std.specs.Str.Parse.{digits_value}
+use Rattle.sonic_text.specs.declared.kind.Kind.TheVariants.{Array}
+use Rattle.sonic_text.specs.Numbers.{IsWholeText}
+use Rattle.sonic_text.specs.Places.{byte, after_space}
+use Rattle.sonic_text.specs.Paths.{Node, key, index, Path}
+use Rattle.sonic_text.specs.Trees.{Tree, numeral, text, container, Items, no_item, item, Means}
+use Rattle.sonic_pointer.specs.Paths.{IsMixed}
+use Rattle.sonic_paths.specs.declared.lines.Head.{Head}
+use Rattle.sonic_paths.specs.declared.lines.Head.TheVariants.{Paths, Bad}
+use Rattle.sonic_paths.specs.Heads.{IsHead}
+
+-- the text of a number is an integer, without a minus sign, that fits in 64 bits
+abbrev pub IsIndex : List ℕ → Type 0
+IsIndex word = IsWholeText word × (byte word 0 ≢ 45) × (digits_value 10 word < 2 ^ 64)
+
+-- the tree says this node: a string the key that it stands for, and such a number its value
+pub data SaysNode : Tree → Node → Type 0 where
+  says_key : {b : List ℕ} → SaysNode (text b) (key b)
+  says_index : {b : List ℕ} {n : ℕ} → IsIndex b → n ≡ digits_value 10 b → SaysNode (numeral b) (index n)
+
+-- the items say these nodes, each its own
+pub data SayNodes : Items → Path → Type 0 where
+  no_node : SayNodes no_item []
+  one_more_node : {l : Option (List ℕ)} {x : Tree} {xs : Items} {node : Node} {path : Path} → SaysNode x node → SayNodes xs path → SayNodes (item l x xs) (node ∷ path)
+
+-- from i to j stands an array whose items say this path
+abbrev pub IsNodeArray : List ℕ → ℕ → ℕ → Path → Type 0
+IsNodeArray t i j path = (items : Items) × Means t i j (container Array items) × SayNodes items path
+
+-- the line is a document in UTF-8, one value with nothing but white space around it, and that is an array which says this path, of at most 255 nodes
+pub record IsNodeLine (line : List ℕ) (path : Path) : Type 0 where
+  pub utf8 : IsUtf8 line
+  pub end : ℕ
+  pub array : IsNodeArray line (after_space line 0) end path
+  pub alone : after_space line end ≡ length line
+  pub few : length path ≤ 255
+
+-- behind lines of the earlier paths, each line says its path, and none mixes with one before it
+pub data AreLinesAfter : List Path → List (List ℕ) → List Path → Type 0 where
+  no_more_lines : {earlier : List Path} → AreLinesAfter earlier [] []
+  next_line : {earlier : List Path} {line : List ℕ} {lines : List (List ℕ)} {path : Path} {paths : List Path} → IsNodeLine line path → ¬ IsMixed earlier path
+      → AreLinesAfter (earlier ++ path ∷ []) lines paths → AreLinesAfter earlier (line ∷ lines) (path ∷ paths)
+
+-- each line in order says its path, and no path mixes with an earlier one
+abbrev pub AreLines : List (List ℕ) → List Path → Type 0
+AreLines lines paths = AreLinesAfter [] lines paths
+
+-- behind lines of the earlier paths, the line is bad: it says no path, or one that mixes with one of them
+pub data IsBadLine (earlier : List Path) (line : List ℕ) : Type 0 where
+  says_no_path : ((path : Path) → ¬ IsNodeLine line path) → IsBadLine earlier line
+  says_mixed : {path : Path} → IsNodeLine line path → IsMixed earlier path → IsBadLine earlier line
+
+-- behind lines of the earlier paths, line n of these, counted from 1, is the first that is bad
+pub data IsFirstBadAfter : List Path → List (List ℕ) → ℕ → Type 0 where
+  bad_here : {earlier : List Path} {n : ℕ} {line : List ℕ} {lines : List (List ℕ)} → IsBadLine earlier line → n ≡ 1 → IsFirstBadAfter earlier (line ∷ lines) n
+  bad_later : {earlier : List Path} {n m : ℕ} {line : List ℕ} {lines : List (List ℕ)} {path : Path} → IsNodeLine line path → ¬ IsMixed earlier path
+      → IsFirstBadAfter (earlier ++ path ∷ []) lines m → n ≡ m + 1 → IsFirstBadAfter earlier (line ∷ lines) n
+
+-- line n, counted from 1, is the first that says no path, or whose path mixes with an earlier one
+abbrev pub IsFirstBadLine : List (List ℕ) → ℕ → Type 0
+IsFirstBadLine lines n = IsFirstBadAfter [] lines n
+
+-- what the head of an input says: a path on each line, and where the document begins, or which line is the first that is bad
+abbrev pub SaysPaths : List ℕ → Head → Type 0
+SaysPaths t (Paths tree d) = (lines : List (List ℕ)) × (d ≤ length t) × IsHead t 0 lines d × AreLines lines tree
+SaysPaths t (Bad n) = (lines : List (List ℕ)) × (d : ℕ) × IsHead t 0 lines d × IsFirstBadLine lines n

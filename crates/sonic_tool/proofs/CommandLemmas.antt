@@ -1,0 +1,47 @@
+-- Words ask for a command, or for none.
+use Rattle.std.proofs.Common.{◌≡◌, ◌⊎◌, inl, inr, ℕ, ◌<◌, ◌≤◌, Bool, true, false, List, [], ◌∷◌, length, map, get_or, codes, arith, refl, ap}
+use Rattle.std.proofs.lemmas.Slice.Eq.{bytes_eq-Decides}
+use Rattle.std.specs.Bool.{Decides}
+use Rattle.std.specs.Str.{bytes_eq}
+use Rattle.sonic_tool.specs.declared.commands.Command.TheVariants.{Get}
+use Rattle.sonic_tool.specs.Commands.{IsListed}
+use Rattle.sonic_tool.specs.Commands.Asks.{no_word, get_word}
+
+-- no words are none
+pub no_words : {A : Type 0} (f : A → List ℕ) (words : List A) → length words < 1 → map f words ≡ []
+no_words f [] low = refl
+no_words f (w ∷ ws) low = absurd (omega arith)
+
+-- one word is that word
+pub one_word : {A : Type 0} (f : A → List ℕ) (words : List A) (word : A) → 1 ≤ length words → length words < 2 → word ≡ get_or words 0 word
+    → map f words ≡ f word ∷ []
+one_word f [] word low high e = absurd (omega arith)
+one_word f (w ∷ []) word low high e = rw e refl
+one_word f (w ∷ v ∷ ws) word low high e = absurd (omega arith)
+
+-- one word that asks for a command is its name
+pub only_get : {word : List ℕ} → IsListed (word ∷ []) → word ≡ codes "get"
+only_get (Get, no_word e) = absurd cc
+only_get (Get, get_word e) = cc
+
+-- two words and more ask for none
+two_unlisted : (word next : List ℕ) (words : List (List ℕ)) → ¬ IsListed (word ∷ next ∷ words)
+two_unlisted word next words (Get, no_word e) = absurd cc
+two_unlisted word next words (Get, get_word e) = absurd cc
+
+-- so do words of such a number
+pub more_unlisted : {A : Type 0} (f : A → List ℕ) (words : List A) → 2 ≤ length words → ¬ IsListed (map f words)
+more_unlisted f [] many listed = omega arith
+more_unlisted f (w ∷ []) many listed = omega arith
+more_unlisted f (w ∷ v ∷ ws) many listed = two_unlisted (f w) (f v) (map f ws) listed
+
+-- one word asks for a command or not
+word_listed : (word : List ℕ) (b : Bool) → Decides b (word ≡ codes "get") → IsListed (word ∷ []) ⊎ ¬ IsListed (word ∷ [])
+word_listed word true d = inl (Get, get_word (ap (λ w. w ∷ []) (d.0 refl)))
+word_listed word false d = inr (λ l. let e = d.1 (only_get l) in absurd cc)
+
+-- words ask for a command or not
+pub listed_or_not : (words : List (List ℕ)) → IsListed words ⊎ ¬ IsListed words
+listed_or_not [] = inl (Get, no_word refl)
+listed_or_not (word ∷ []) = word_listed word (bytes_eq word (codes "get")) (bytes_eq-Decides word (codes "get"))
+listed_or_not (word ∷ next ∷ words) = inr (two_unlisted word next words)

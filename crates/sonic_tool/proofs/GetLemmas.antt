@@ -1,0 +1,86 @@
+-- An input has one report by `get`, and it is of values alone where the input is answerable.
+use Rattle.std.proofs.Common.{◌≡◌, inl, inr, ℕ, Bool, true, List, [], map, drop, arith, refl, sym, ◌∙◌}
+use Rattle.std.specs.declared.option.Option.{Option}
+use Rattle.sonic_text.specs.Paths.{Path}
+use Rattle.sonic_lazy.specs.Answers.{Span, span_of, Answer, IsAnswer, no_more, no_path, finding, spans, error}
+use Rattle.sonic_lazy.specs.Causes.{IsAnswerable}
+use Rattle.sonic_lazy.specs.Causes.IsAnswerable.{nothing_asked, all_told}
+use Rattle.sonic_lazy.proofs.AnswerLemmas.One.{answer_one}
+use Rattle.sonic_tool.specs.declared.status.Status.{Status}
+use Rattle.sonic_tool.specs.declared.status.Status.TheVariants.{Done}
+use Rattle.sonic_tool.specs.Commands.Get.{IsAnswerReport, ReportsPaths, IsGetReport, IsAnswerableInput}
+use Rattle.sonic_tool.specs.Commands.Get.IsAnswerReport.{entry_lines, error_line}
+use Rattle.sonic_tool.specs.Commands.Get.IsGetReport.{bad_line, answered}
+use Rattle.sonic_paths.specs.Lines.{AreLines, IsFirstBadLine}
+use Rattle.sonic_paths.proofs.Heads.{some_head}
+use Rattle.sonic_paths.proofs.OneHead.{head_one}
+use Rattle.sonic_paths.proofs.LineOutcomes.{lines_one, first_bad_line_one, no_bad_line, lines_or_bad}
+
+-- the other text and status are these
+abbrev pub Same : List ℕ → Status → List ℕ → Status → Type 0
+Same text status other ending = (other ≡ text) × (ending ≡ status)
+
+-- some text and some status make such a report
+abbrev pub SomeText : (List ℕ → Status → Type 0) → Type 0
+SomeText Report = (text : List ℕ) × (status : Status) × Report text status
+
+-- an answer has one report in a document
+answer_report_one : {document : List ℕ} {answer : Answer} {text other : List ℕ} {status ending : Status} → IsAnswerReport document answer text status
+    → IsAnswerReport document answer other ending → Same text status other ending
+answer_report_one (entry_lines q z) (entry_lines p y) = (p ∙ sym q, y ∙ sym z)
+answer_report_one (error_line q z) (error_line p y) = (p ∙ sym q, y ∙ sym z)
+
+-- an answer has some report
+answer_report_some : (document : List ℕ) (answer : Answer) → SomeText (IsAnswerReport document answer)
+answer_report_some document (spans entries) = (_, _, entry_lines refl refl)
+answer_report_some document (error stop) = (_, _, error_line refl refl)
+
+-- paths have one report in a document
+paths_report_one : {document : List ℕ} {paths : List Path} {text other : List ℕ} {status ending : Status} → ReportsPaths document paths text status
+    → ReportsPaths document paths other ending → Same text status other ending
+paths_report_one {document} {paths} {other = other} {ending = ending} r s =
+    let e : s.answer ≡ r.answer = (answer_one document true paths).one s.answer r.answer s.answers r.answers in
+    let moved : IsAnswerReport document r.answer other ending = rw e at s.report in
+    answer_report_one r.report moved
+
+-- an input has one report by `get`
+pub get_report_one : {input text other : List ℕ} {status ending : Status} → IsGetReport input text status → IsGetReport input other ending → Same text status other ending
+get_report_one (bad_line {lines} {n = n} h b q) (bad_line {n = m} g c p) =
+    let moved : IsFirstBadLine lines m = rw (head_one g h).0 at c in
+    (p ∙ rw (first_bad_line_one moved b) (sym q), refl)
+get_report_one (bad_line {lines} h b q) (answered {paths = paths} g a r) =
+    let moved : AreLines lines paths = rw (head_one g h).0 at a in
+    absurd (no_bad_line moved b)
+get_report_one (answered {lines} h a r) (bad_line {n = m} g b q) =
+    let moved : IsFirstBadLine lines m = rw (head_one g h).0 at b in
+    absurd (no_bad_line a moved)
+get_report_one {input} {other = other} {ending = ending} (answered {lines} {paths} {d} h a r) (answered {paths = others} {d = e} g b s) =
+    let heads = head_one g h in
+    let moved : AreLines lines others = rw heads.0 at b in
+    let same : others ≡ paths = lines_one moved a in
+    let led : ReportsPaths (drop d input) paths other ending = rw (heads.1, same) at s in
+    paths_report_one r led
+
+-- an input has some report by `get`
+pub get_report_some : (input : List ℕ) → SomeText (IsGetReport input)
+get_report_some input =
+    let h = some_head input 0 (omega arith) in
+    elim (lines_or_bad [] h.lines) [
+      | inr b ↦ (_, _, bad_line h.head b.1 refl)
+      | inl a ↦
+          let one = answer_one (drop h.document input) true a.0 in
+          let r = answer_report_some (drop h.document input) one.some.0 in
+          (r.0, r.1, answered h.head a.1 (record { answer = one.some.0; answers = one.some.1; report = r.2 }))
+    ]
+
+-- paths that can be answered are answered with spans
+with_spans : {t : List ℕ} {is_bytes : Bool} {paths : List Path} → IsAnswerable t is_bytes paths → (entries : List (Option Span)) × IsAnswer t is_bytes paths (spans entries)
+with_spans (nothing_asked e) = ([], rw e (record { outcomes = []; lead = no_more; come_to = no_path }))
+with_spans (all_told os r leads fails cuts reach utf8) =
+    (map span_of os, record { outcomes = os; lead = leads; come_to = finding fails cuts reach utf8 refl })
+
+-- an input that is answerable has a report with the status 0
+pub answerable_report : {input : List ℕ} → IsAnswerableInput input → (text : List ℕ) × IsGetReport input text Done
+answerable_report {input} i =
+    let a = with_spans i.answerable in
+    (_, answered i.head i.say (record { answer = spans a.0; answers = a.1; report = entry_lines refl refl }))

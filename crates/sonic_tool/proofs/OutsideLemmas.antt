@@ -1,0 +1,88 @@
+-- What a source over memory gave, and what a sink took of several pieces.
+use Rattle.std.proofs.Common.{◌≡◌, ℕ, ◌+◌, ◌-◌, ◌<◌, List, [], ◌++◌, length, get_or, take, drop, sym, ap, ◌∙◌, append_assoc, append-nil, arith, drop-drop, take-add, take-append-drop}
+use Rattle.std.specs.Prelude.{Some, None, Ok, Err, OnErr}
+use Rattle.std.specs.declared.result.Result.{Result}
+use Rattle.std.specs.List.{flat_map}
+use Rattle.std.specs.declared.option.Option.{Option}
+use Rattle.std.specs.Io.KnownBytes.{append_known}
+use Rattle.std.proofs.lemmas.Grind.{flat_map-append}
+use Rattle.std.proofs.lemmas.List.{take_rest, at_drop_more}
+use Rattle.sonic_tool.specs.Outside.{Rose, Gave, Took, TookPrefix}
+
+-- where the first bytes of a room were copied from the rest of the bytes, they were the next of what was left
+pub given_prefix : (bytes : List ℕ) (at count : ℕ) (room : List ℕ)
+    → take count room ≡ take count (take (length bytes - at) (drop at bytes))
+    → Gave (Some (drop at bytes)) (Some (drop (at + count) bytes)) (take count room)
+given_prefix bytes at count room copied =
+    let prefix : take count room ≡ take count (drop at bytes)
+    = copied ∙ ap (take count) (take_rest bytes at) in
+    ap Some (sym (take-append-drop count (drop at bytes))
+    ∙ ap (λ rest. take count (drop at bytes) ++ rest) (drop-drop count at bytes)
+    ∙ ap (λ piece. piece ++ drop (at + count) bytes) (sym prefix))
+
+-- what holds at all holds of an error
+pub on_err : {A E : Type 0} (result : Result A E) (P : Type 0) → P → OnErr result P
+on_err (Ok value) P holds = tt
+on_err (Err error) P holds = holds
+
+-- what follows from what holds of an error holds of it
+pub if_err : {A E : Type 0} (result : Result A E) {P Q : Type 0} → (P → Q) → OnErr result P → OnErr result Q
+if_err (Ok value) follows holds = tt
+if_err (Err error) follows holds = follows holds
+
+-- a text, and then another, are both
+pub took_both : (before between after : Option (List ℕ)) (xs ys : List ℕ) → Took before between xs → Took between after ys → Took before after (xs ++ ys)
+took_both None between after xs ys first second = second ∙ ap (λ known. append_known known ys) first
+took_both (Some bytes) between after xs ys first second = second ∙ ap (λ known. append_known known ys) first ∙ ap Some (append_assoc bytes xs ys)
+
+-- a prefix, and then a prefix of the rest, is a longer prefix
+pub took_more : (before between after : Option (List ℕ)) (bytes : List ℕ) (m n : ℕ)
+    → Took before between (take m bytes)
+    → Took between after (take n (take (length bytes - m) (drop m bytes)))
+    → Took before after (take (m + n) bytes)
+took_more before between after bytes m n first second =
+    took_both before between after _ _ first (second ∙ ap (λ rest. append_known between (take n rest)) (take_rest bytes m))
+    ∙ ap (append_known before) (sym (take-add m n bytes))
+
+-- the first bytes are a prefix
+pub took_first : (before after : Option (List ℕ)) (bytes : List ℕ) (count : ℕ) → Took before after (take count bytes) → TookPrefix before after bytes
+took_first before after bytes count taken = (take count bytes, drop count bytes, sym (take-append-drop count bytes), taken)
+
+-- the whole is a prefix of itself
+pub took_whole : (before after : Option (List ℕ)) (bytes : List ℕ) → Took before after bytes → TookPrefix before after bytes
+took_whole before after bytes taken = (bytes, [], sym (append-nil bytes), taken)
+
+-- a prefix of the first is a prefix of both
+pub prefix_of_first : (before after : Option (List ℕ)) (xs ys : List ℕ) → TookPrefix before after xs → TookPrefix before after (xs ++ ys)
+prefix_of_first before after xs ys (part, rest, e, taken) = (part, rest ++ ys, ap (λ all. all ++ ys) e ∙ append_assoc part rest ys, taken)
+
+-- so is the first and a prefix of the other
+pub prefix_of_both : (before between after : Option (List ℕ)) (xs ys : List ℕ) → Took before between xs → TookPrefix between after ys
+    → TookPrefix before after (xs ++ ys)
+prefix_of_both before between after xs ys first (part, rest, e, taken) =
+    (xs ++ part, rest, ap (λ all. xs ++ all) e ∙ sym (append_assoc xs part rest), took_both before between after xs part first taken)
+
+-- the pieces below an index, the piece there, and those after it
+split_pieces : {P : Type 0} (text : P → List ℕ) (pieces : List P) (i : ℕ) (d : P)
+    → i < length pieces
+    → flat_map text pieces
+    ≡ flat_map text (take i pieces) ++ (text (get_or pieces i d) ++ flat_map text (drop (i + 1) pieces))
+split_pieces text pieces i d below =
+    ap (flat_map text) (sym (take-append-drop i pieces))
+    ∙ flat_map-append text (take i pieces) (drop i pieces)
+    ∙ ap (λ rest. flat_map text (take i pieces) ++ rest) (at_drop_more (flat_map text) pieces i d below)
+
+-- all pieces below an index, and a prefix of the piece there, are a prefix of all pieces
+pub took_pieces : {P : Type 0} (text : P → List ℕ) (before between after : Option (List ℕ))
+    (pieces : List P) (i : ℕ) (d : P)
+    → i < length pieces
+    → Took before between (flat_map text (take i pieces))
+    → TookPrefix between after (text (get_or pieces i d))
+    → TookPrefix before after (flat_map text pieces)
+took_pieces text before between after pieces i d below first second =
+    let both = prefix_of_both before between after _ _ first (prefix_of_first between after _ (flat_map text (drop (i + 1) pieces)) second) in
+    rw (split_pieces text pieces i d below) both
+
+-- no count is the next one after itself
+pub rose_shows : (count : ℕ) → ¬ Rose count count
+rose_shows count same = omega (arith, same)

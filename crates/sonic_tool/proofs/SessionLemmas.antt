@@ -1,0 +1,152 @@
+-- What a run has done, by what its parts did.
+use Rattle.std.proofs.Common.{◌≡◌, ◌≢◌, inl, inr, ℕ, ◌+◌, ◌<◌, List, [], ◌++◌, length, length-append, append-nil, arith, refl, ap, ◌∙◌, Some, None}
+use Rattle.std.specs.Prelude.{IfSome}
+use Rattle.std.specs.declared.option.Option.{Option}
+use Rattle.std.specs.Io.KnownBytes.{IsAtEnd}
+use Rattle.sonic_lazy.specs.Answers.{Answer}
+use Rattle.sonic_tool.specs.declared.commands.Command.TheVariants.{Get}
+use Rattle.sonic_tool.specs.declared.outside.reading.TheConstants.{LIMIT}
+use Rattle.sonic_tool.specs.declared.run.Request.{Request}
+use Rattle.sonic_tool.specs.declared.run.Request.TheVariants.{Usage, Large, Input}
+use Rattle.sonic_tool.specs.declared.status.Status.{Status}
+use Rattle.sonic_tool.specs.declared.status.Status.TheVariants.{Done, BadUsage, TooLarge, WriteFault}
+use Rattle.sonic_tool.specs.Commands.{IsListed}
+use Rattle.sonic_tool.specs.Commands.Get.{IsAnswerReport, IsGetReport}
+use Rattle.sonic_tool.specs.Commands.Get.IsAnswerReport.{entry_lines, error_line}
+use Rattle.sonic_tool.specs.Commands.Get.IsGetReport.{bad_line, answered}
+use Rattle.sonic_tool.specs.Internal.Requests.{IsAsked, IsAnswered}
+use Rattle.sonic_tool.specs.Outside.{Gave, Took, TookPrefix, Rose}
+use Rattle.sonic_tool.specs.Reports.{IsReport}
+use Rattle.sonic_tool.specs.Reports.IsReport.{usage, large, get}
+use Rattle.sonic_tool.specs.Sessions.{Session, IsReported, IsOfInput, IsReply, Reports, ReportsOnly, AnswersAll, ReadsTooMuch, IsRun}
+use Rattle.sonic_tool.proofs.ReportLemmas.{has_one_report, answered_done}
+
+-- the input that was left, where that is known
+abbrev Known : Option (List ℕ) → List ℕ → Type 0
+Known left input = IfSome left (λ bytes. bytes ≡ input)
+
+-- some input was left
+some_input : (left : Option (List ℕ)) → (input : List ℕ) × Known left input
+some_input None = ([], tt)
+some_input (Some bytes) = (bytes, refl)
+
+-- where more bytes than an input may have were read, such an input was left
+large_input : (left rest : Option (List ℕ)) (bytes : List ℕ) → length bytes ≡ LIMIT + 1 → Gave left rest bytes → (input : List ℕ) × Known left input × (LIMIT < length input)
+large_input None rest bytes l gave = (bytes, tt, omega arith)
+large_input (Some all) None bytes l gave = absurd cc
+large_input (Some all) (Some rest) bytes l gave = let e : all ≡ bytes ++ rest = cc in (all, refl, rw e (omega (arith, length-append bytes rest)))
+
+-- bytes that were read to the end are what was left
+whole_input : (left rest : Option (List ℕ)) (bytes : List ℕ) → Gave left rest bytes → IsAtEnd rest → Known left bytes
+whole_input None rest bytes gave end = tt
+whole_input (Some all) None bytes gave end = absurd cc
+whole_input (Some all) (Some rest) bytes gave end = let e : all ≡ bytes ++ rest = cc in e ∙ ap (λ l. bytes ++ l) end ∙ append-nil bytes
+
+-- what a run of the whole input doesn't end with
+of_input : (ending : Status) → IsOfInput ending → IsReported ending × (ending ≢ BadUsage) × (ending ≢ TooLarge)
+of_input ending (inl e) = (record { no_read_fault = λ f. cc; no_write_fault = λ f. cc; memory = λ f. cc }, λ f. cc, λ f. cc)
+of_input ending (inr (inl e)) = (record { no_read_fault = λ f. cc; no_write_fault = λ f. cc; memory = λ f. cc }, λ f. cc, λ f. cc)
+of_input ending (inr (inr e)) = (record { no_read_fault = λ f. cc; no_write_fault = λ f. cc; memory = λ f. cc }, λ f. cc, λ f. cc)
+
+-- a report of an answer goes with a status of a whole input
+answer_status : {document : List ℕ} {answer : Answer} {text : List ℕ} {ending : Status} → IsAnswerReport document answer text ending → IsOfInput ending
+answer_status (entry_lines t e) = inl e
+answer_status (error_line t e) = inr (inl e)
+
+-- so does a report by `get`
+get_status : {input text : List ℕ} {ending : Status} → IsGetReport input text ending → IsOfInput ending
+get_status (bad_line h b t) = inr (inr refl)
+get_status (answered h a r) = answer_status r.report
+
+-- a report of what the source had left, and what its status says of the words and of the source
+pub record IsPrepared (run : Session) (text : List ℕ) (ending : Status) : Type 0 where
+  pub reply : IsReply run text ending
+  pub reported : IsReported ending
+  pub unlisted : ¬ (IsListed run.words) → ending ≡ BadUsage
+  pub listed : ending ≡ BadUsage → ¬ (IsListed run.words)
+  pub whole : IsOfInput ending → IsAtEnd run.after.left
+  pub large : ending ≡ TooLarge → ReadsTooMuch run
+
+-- what answers the request is such a report
+pub prepared : (run : Session) {text : List ℕ} {ending : Status} (request : Request) → IsAsked run.words run.before.left run.after.left request
+    → IsAnswered request text ending → IsPrepared run text ending
+prepared run {text} {ending} Usage asked (t, e) = let i = some_input run.before.left in record {
+  reply = record { input = i.0; known = i.1; report = rw (t, e) (usage asked) };
+  reported = record { no_read_fault = λ f. cc; no_write_fault = λ f. cc; memory = λ f. cc };
+  unlisted = λ u. e;
+  listed = λ u. asked;
+  whole = λ o. absurd ((of_input ending o).1 e);
+  large = λ l. absurd cc;
+}
+prepared run {text} {ending} Large (bytes, listed, long, gave) (t, e) = let i = large_input run.before.left run.after.left bytes long gave in record {
+  reply = record { input = i.0; known = i.1; report = rw (t, e) (large listed i.2) };
+  reported = record { no_read_fault = λ f. cc; no_write_fault = λ f. cc; memory = λ f. cc };
+  unlisted = λ u. absurd (u listed);
+  listed = λ u. absurd cc;
+  whole = λ o. absurd ((of_input ending o).2 e);
+  large = λ l. (bytes, long, gave);
+}
+prepared run {text} {ending} (Input Get bytes) (asks, gave, end, within) report = let o = of_input ending (get_status report) in record {
+  reply = record { input = bytes.items; known = whole_input run.before.left run.after.left bytes.items gave end; report = get asks within report };
+  reported = o.0;
+  unlisted = λ u. absurd (u (Get, asks));
+  listed = λ u. absurd (o.1 u);
+  whole = λ p. end;
+  large = λ l. absurd (o.2 l);
+}
+
+-- what a run reports of an input that is known is the one report of it
+the_report : (run : Session) {ending : Status} → Reports run ending → ReportsOnly run ending
+the_report run {ending} r input text status known report =
+    let same : input ≡ r.reply.input = rw known at r.reply.known in
+    let one = has_one_report run.words input in
+    let mine : IsReport run.words input r.text ending = rw same r.reply.report in
+    let a = one.only r.text ending mine in
+    let b = one.only text status report in
+    (rw (b.0, ← a.0) r.taken, cc (a.1, b.1))
+
+-- so it says what an input is answered that is answerable
+answers_all : (run : Session) {ending : Status} → ReportsOnly run ending → AnswersAll run ending
+answers_all run only input known asks i = let r = answered_done asks i in (only input r.0 Done known r.1).1
+
+-- a run whose report was written
+pub delivered : {run : Session} {text : List ℕ} {ending : Status} → IsPrepared run text ending → Took run.before.written run.after.written text
+    → run.after.read_faults ≡ run.before.read_faults → run.after.write_faults ≡ run.before.write_faults → IsRun run ending
+delivered {run} {text} {ending} p taken reads writes =
+    let reports : Reports run ending = record { text = text; reply = p.reply; taken = taken } in
+    record {
+      reports = λ _. reports;
+      the_only_one = λ _. the_report run reports;
+      complete = λ _. answers_all run (the_report run reports);
+      breaks_off = λ e. absurd (p.reported.no_write_fault e);
+      read_fault_is_silent = λ e. absurd (p.reported.no_read_fault e);
+      no_memory_is_silent = λ e. absurd (p.reported.memory e);
+      read_cause = λ e. absurd (p.reported.no_read_fault e);
+      no_read_cause = λ _. reads;
+      write_cause = λ e. absurd (p.reported.no_write_fault e);
+      no_write_cause = λ _. writes;
+      unlisted = λ u. inl (p.unlisted u);
+      listed = p.listed;
+      whole = p.whole;
+      large = p.large;
+    }
+
+-- a run that a failed write ended
+pub broken : {run : Session} {text : List ℕ} {status : Status} → IsPrepared run text status → TookPrefix run.before.written run.after.written text
+    → run.after.read_faults ≡ run.before.read_faults → Rose run.before.write_faults run.after.write_faults → IsRun run WriteFault
+broken {run} {text} {status} p taken reads rose = record {
+  reports = λ r. absurd (r.no_write_fault refl);
+  the_only_one = λ r. absurd (r.no_write_fault refl);
+  complete = λ r. absurd (r.no_write_fault refl);
+  breaks_off = λ _. record { text = text; status = status; reply = p.reply; taken = taken };
+  read_fault_is_silent = λ e. absurd cc;
+  no_memory_is_silent = λ e. absurd cc;
+  read_cause = λ e. absurd cc;
+  no_read_cause = λ _. reads;
+  write_cause = λ _. rose;
+  no_write_cause = λ e. absurd (e refl);
+  unlisted = λ _. inr refl;
+  listed = λ e. absurd cc;
+  whole = λ o. absurd ((of_input WriteFault o).0.no_write_fault refl);
+  large = λ e. absurd cc;
+}

@@ -1,0 +1,3 @@
+-- What serves private clauses and loop invariants alone.
+pub mod Replies
+pub mod Requests

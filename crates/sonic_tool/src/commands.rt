@@ -1,0 +1,36 @@
+//! The commands, and the words of a command line that ask for them.
+ghost use Rattle.std.specs.Prelude.{◌≡◌, ◌∷◌, [], map, string_bytes, IfSome, IfNone};
+ghost use Rattle.sonic_tool.specs.Commands.{Asks, IsListed};
+
+// What `get` writes: where the paths of an input's head lead in its document.
+pub(crate) mod get;
+
+/// What a run is asked to write of its input.
+#[derive(Clone, Copy, Debug, PartialEq, Eq)]
+pub enum Command {
+    /// Where the paths of the head lead in the document. No word and the word `get` ask for it.
+    Get,
+}
+
+// The command that the words ask for.
+pub(crate) fn asked_command(words: &[String]) -> Option<Command>
+    ensures asked { IfSome result (λ command. Asks (map string_bytes words.now) command) }
+    ensures unlisted { IfNone result (¬ IsListed (map string_bytes words.now)) }
+{
+    match words {
+        [] => Some(Command::Get),
+        [word] => named_command(word.as_str()),
+        _ => None,
+    }
+}
+
+// The command that one word asks for.
+fn named_command(word: &str) -> Option<Command>
+    ensures asked { IfSome result (λ command. Asks (word.now ∷ []) command) }
+    ensures unlisted { IfNone result (¬ IsListed (word.now ∷ [])) }
+{
+    match word {
+        "get" => Some(Command::Get),
+        _ => None,
+    }
+}
