@@ -80,7 +80,7 @@ def document(folder, name):
 
 
 def head(folder, name, lines):
-    """A file of path lines and the empty line behind them."""
+    """A file of path lines and the empty line after them."""
     path = os.path.join(folder, name + ".head")
     with open(path, "w") as out:
         out.write("".join(line + "\n" for line in lines) + "\n")
@@ -135,7 +135,7 @@ def main():
     four = [deep(last), f'[{last},"id"]', f'[{last},"tags",0]', f'[{last},"missing"]']
 
     print(f"{'paths':10} {'document':9} {'MB':>5} {'cat s':>7} {'run s':>7} {'ratio':>6} {'peak MB':>8} {'status':>7}")
-    measure(program, folder, "front", [deep(5)], "records")
+    measure(program, folder, "start", [deep(5)], "records")
     one = measure(program, folder, "one", [deep(last)], "records")
     measure(program, folder, "four", four, "records")
     thousand = measure(program, folder, "thousand", paths, "records")

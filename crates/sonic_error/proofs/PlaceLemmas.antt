@@ -18,12 +18,12 @@ may_start_not : (text : List ℕ) (offset start : ℕ) → is_continuation (get_
     → offset - start ≤ 16 → may_start text offset start ≡ false
 may_start_not text offset start continues near = rw continues (grind (arith, nat_tests))
 
--- nor is the place behind it an end
+-- nor is the place after it an end
 may_end_not : (text : List ℕ) (offset end : ℕ) → is_continuation (get_or text (end - 1) 0) ≡ true
     → end - offset ≤ 16 → may_end text offset end ≡ false
 may_end_not text offset end continues near = rw continues (grind (arith, nat_tests))
 
--- behind a byte that goes on with no character there is an end
+-- after a byte that goes on with no character there is an end
 may_end_yes : (text : List ℕ) (offset end : ℕ) → is_continuation (get_or text (end - 1) 0) ≡ false
     → may_end text offset end ≡ true
 may_end_yes text offset end stops = rw stops refl

@@ -1,4 +1,4 @@
--- What an error tells, and what it is to tell of a text.
+-- What an error says, and what it shows of a text.
 use Rattle.std.specs.Prelude.{◌≡◌, ℕ, ◌-◌, Option, Some, None, List, [], ◌++◌, slice_range, take}
 use Rattle.std.specs.declared.io.ErrorKind.{ErrorKind}
 use Rattle.std.specs.declared.io.ErrorKind.TheVariants.{UnexpectedEof, OutOfMemory, InvalidData}
@@ -59,7 +59,7 @@ shown code text place =
     code_text code ++ position_text (line_of text place) (column_of text place) (slice_range text start end)
     (mask_text (offset - start) (end - offset - 1))
 
--- the error tells this code at this place of the text
+-- the error says this code at this place of the text
 pub record IsErrorAt (error : Error) (c : ErrorCode) (t : List ℕ) (p : ℕ) : Type 0 where
   pub code : error_code error ≡ c
   pub offset : error_offset error ≡ offset_of t p
@@ -67,7 +67,7 @@ pub record IsErrorAt (error : Error) (c : ErrorCode) (t : List ℕ) (p : ℕ) : 
   pub column : error_column error ≡ column_of t p
   pub text : error_text error ≡ shown c t p
 
--- the error tells this code, and no place
+-- the error says this code, and no place
 pub record IsPlainError (error : Error) (c : ErrorCode) : Type 0 where
   pub code : error_code error ≡ c
   pub offset : error_offset error ≡ 0
@@ -75,7 +75,7 @@ pub record IsPlainError (error : Error) (c : ErrorCode) : Type 0 where
   pub column : error_column error ≡ 0
   pub text : error_text error ≡ code_text c
 
--- the kind of the error of reading or writing that is behind it
+-- the kind of the error of reading or writing that is after it
 abbrev pub io_kind_of : ErrorCode → Option ErrorKind
 io_kind_of (Io kind) = Some kind
 io_kind_of other = None

@@ -2,7 +2,7 @@ use Rattle.std.specs.Prelude.{ℕ}
 use Rattle.sonic_error.specs.declared.json_type.JsonType.{JsonType}
 use Rattle.sonic_error.specs.declared.json_type.JsonType.TheVariants.{Null, Boolean, Number, String, Object, Array}
 
--- the number that stands for a kind of value
+-- the number that denotes a kind of value
 abbrev pub number_of : JsonType → ℕ
 number_of Null = 0
 number_of Boolean = 1

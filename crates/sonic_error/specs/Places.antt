@@ -43,6 +43,6 @@ may_end text offset end = not (is_continuation (slice_index text (end - 1))) || 
 abbrev pub fragment_start : List ℕ → ℕ → ℕ
 fragment_start text offset = greatest_up_to (may_start text offset) (offset - 8)
 
--- what is shown ends at the least such place at least 8 bytes behind the offset, or with the text
+-- what is shown ends at the least such place at least 8 bytes after the offset, or with the text
 abbrev pub fragment_end : List ℕ → ℕ → ℕ
 fragment_end text offset = least_from (may_end text offset) (offset + 8) (length text)

@@ -65,7 +65,7 @@ code_text ExpectedQuote = codes "Expect a quote"
 code_text SerExpectKeyIsStrOrNum = codes "Expected the key to be string/bool/number when serializing map"
 code_text NoMemory = codes "out of memory"
 
--- how many bytes at the front are whole characters of UTF-8 (`Utf8Error::valid_up_to`)
+-- how many bytes at the start are whole characters of UTF-8 (`Utf8Error::valid_up_to`)
 abbrev pub valid_up_to : List ℕ → ℕ
 valid_up_to bytes = utf8_valid_len bytes
 
@@ -77,9 +77,9 @@ lossy bytes = utf8_lossy bytes
 abbrev pub dots : ℕ → List ℕ
 dots count = replicate count 46
 
--- a line that points at one byte of the line above it: dots, and `^` where that byte stands
+-- a line that points at one byte of the line above it: dots, and `^` where that byte is
 abbrev pub mask_text : ℕ → ℕ → List ℕ
-mask_text before behind = dots before ++ codes "^" ++ dots behind
+mask_text before after = dots before ++ codes "^" ++ dots after
 
 -- where the text is wrong: the line, the column, the bytes round the place, and the mask below them
 abbrev pub position_text : ℕ → ℕ → List ℕ → List ℕ → List ℕ

@@ -23,7 +23,7 @@ pub enum Category {
     Memory,
 }
 
-/// What is wrong. The place where it is wrong stands beside the code, never in it.
+/// What is wrong. The place where it is wrong is beside the code, never in it.
 ///
 /// It prints as a short message: `ErrorCode::ExpectedQuote` as `Expect a quote`.
 #[derive(Clone, Copy, Debug, PartialEq, Eq)]
@@ -32,41 +32,41 @@ pub enum ErrorCode {
     Message(Note),
     /// Reading or writing failed in this way.
     Io(ErrorKind),
-    /// The text ends inside a value, or before one that is due.
+    /// The text ends inside a value, or before one that is expected.
     EofWhileParsing,
-    /// Behind a key stands no colon.
+    /// No colon follows a key.
     ExpectedColon,
-    /// Behind an element stands neither a comma nor a closing bracket.
+    /// Neither a comma nor a closing bracket follows an element.
     ExpectedArrayCommaOrEnd,
-    /// Behind a member stands neither a comma nor a closing brace.
+    /// Neither a comma nor a closing brace follows a member.
     ExpectedObjectCommaOrEnd,
     /// A byte that isn't the next letter of `true`, `false` or `null`.
     InvalidLiteral,
-    /// A value is due, and none begins with this byte.
+    /// A value is expected, and none begins with this byte.
     InvalidJsonValue,
-    /// An object is wanted, and no `{` stands here.
+    /// An object is wanted, and no `{` is here.
     ExpectedObjectStart,
-    /// An array is wanted, and no `[` stands here.
+    /// An array is wanted, and no `[` is here.
     ExpectedArrayStart,
-    /// No escape has this byte behind its backslash.
+    /// No escape has this byte after its backslash.
     InvalidEscape,
-    /// A digit is due and isn't there, or stands behind a first digit 0.
+    /// A digit is expected and isn't there, or follows a first digit 0.
     InvalidNumber,
     /// A number doesn't fit the type that it is read into.
     NumberOutOfRange,
-    /// A byte behind `\u` is no hexadecimal digit.
+    /// A byte after `\u` is no hexadecimal digit.
     InvalidUnicodeCodePoint,
     /// The bytes aren't UTF-8.
     InvalidUTF8,
-    /// A byte below 0x20 stands in a string.
+    /// A byte below 0x20 is in a string.
     ControlCharacterWhileParsingString,
-    /// A key is due, and no quote stands here.
+    /// A key is expected, and no quote is here.
     ExpectObjectKeyOrEnd,
-    /// A comma stands behind the last element or member.
+    /// A comma follows the last element or member.
     TrailingComma,
-    /// Something stands behind the value that was to be the whole text.
+    /// Something follows the value that was to be the whole text.
     TrailingCharacters,
-    /// More than 255 arrays and objects stand inside each other.
+    /// More than 255 arrays and objects are inside each other.
     RecursionLimitExceeded,
     /// A key leads into an object without members.
     GetInEmptyObject,
@@ -76,15 +76,15 @@ pub enum ErrorCode {
     GetInEmptyArray,
     /// An index isn't below the number of elements.
     GetIndexOutOfArray,
-    /// A value of another kind stands where one is to be changed.
+    /// A value of another kind is where one is to be changed.
     UnexpectedVisitType,
-    /// Half of a surrogate pair stands alone.
+    /// Half of a surrogate pair is alone.
     InvalidSurrogateUnicodeCodePoint,
     /// A number is to be finite, and isn't.
     FloatMustBeFinite,
     /// A key is to be a number, and isn't.
     ExpectedNumericKey,
-    /// A quote is due, and isn't there.
+    /// A quote is expected, and isn't there.
     ExpectedQuote,
     /// A key is to be a text or a number, and isn't.
     SerExpectKeyIsStrOrNum,

@@ -34,7 +34,7 @@ pub(crate) fn start_of_fragment(json: &[u8], offset: usize) -> usize
 pub(crate) fn end_of_fragment(json: &[u8], offset: usize) -> usize
     requires { offset ≤ length json.now }
     ensures end { result ≡ fragment_end json.now offset }
-    ensures behind { offset ≤ result }
+    ensures after { offset ≤ result }
     ensures near { result ≤ offset + 17 }
     ensures inside { result ≤ length json.now }
 {
@@ -45,7 +45,7 @@ pub(crate) fn end_of_fragment(json: &[u8], offset: usize) -> usize
     end
 }
 
-/// The bytes, and behind them zeros.
+/// The bytes, and after them zeros.
 pub(crate) fn fragment_of(bytes: &[u8]) -> [u8; FRAGMENT_ROOM]
     requires { length bytes.now ≤ FRAGMENT_ROOM }
     ensures { take (length bytes.now) result ≡ bytes.now }

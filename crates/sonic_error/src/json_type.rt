@@ -35,7 +35,7 @@ impl JsonType {
     }
 }
 
-/// What a caller wanted where it met a value of another kind.
+/// What a caller wanted where it found a value of another kind.
 #[derive(Clone, Copy, Debug, PartialEq, Eq)]
 pub enum Wanted {
     Object,

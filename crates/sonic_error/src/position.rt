@@ -9,7 +9,7 @@ use std::fmt;
 
 /// A place in a text, with the bytes round it, so that it is printed without the text.
 ///
-/// `fragment` holds the text's bytes from `start` to `end`, and zeros behind them.
+/// `fragment` holds the text's bytes from `start` to `end`, and zeros after them.
 #[derive(Clone, Copy, PartialEq, Eq)]
 pub(crate) struct Position {
     pub(crate) offset: usize,
@@ -19,7 +19,7 @@ pub(crate) struct Position {
     end: usize,
     fragment: [u8; FRAGMENT_ROOM],
     ghost before: { start ≤ offset },
-    ghost behind: { offset ≤ end },
+    ghost after: { offset ≤ end },
     ghost room: { end - start ≤ FRAGMENT_ROOM },
 }
 
@@ -93,7 +93,7 @@ impl fmt::Display for Position {
         let fragment = Lossy(&self.fragment[..self.end - self.start]);
         let mask = Mask {
             before: self.offset - self.start,
-            behind: (self.end - self.offset).saturating_sub(1),
+            after: (self.end - self.offset).saturating_sub(1),
         };
         write!(f, " at line {} column {}", self.line, self.column)?;
         write!(f, "\n\n\t{fragment}\n\t{mask}\n")
@@ -104,14 +104,14 @@ impl fmt::Display for Position {
 #[derive(Clone, Copy)]
 struct Mask {
     before: usize,
-    behind: usize,
+    after: usize,
 }
 
 impl fmt::Display for Mask {
-    ghost output = { λ mask. Some (mask_text mask.before mask.behind) };
+    ghost output = { λ mask. Some (mask_text mask.before mask.after) };
 
     fn fmt<W: fmt::Write>(&self, f: &mut fmt::Formatter<W>) -> fmt::Result {
-        write!(f, "{}^{}", Dots(self.before), Dots(self.behind))
+        write!(f, "{}^{}", Dots(self.before), Dots(self.after))
     }
 }
 

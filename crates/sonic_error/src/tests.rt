@@ -232,7 +232,7 @@ fn finds_the_place(rt: HostRuntime) {
 }
 
 #[test]
-fn tells_the_family(rt: HostRuntime) {
+fn reports_the_family(rt: HostRuntime) {
     let table = [
         (
             ErrorCode::Io(ErrorKind::TimedOut),

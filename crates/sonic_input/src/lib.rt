@@ -5,7 +5,7 @@
 mod faststr;
 // The kinds of input that JSON is read from.
 mod input;
-// Want of memory, as an error.
+// Running out of memory, as an error.
 mod memory;
 // The cursor that a parser reads an input with.
 mod read;

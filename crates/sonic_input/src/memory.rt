@@ -1,4 +1,4 @@
-// Want of memory, told as an error.
+// Running out of memory, reported as an error.
 ghost use Rattle.sonic_error.specs.Errors.{IsPlainError};
 
 use sonic_error::{Error, ErrorCode};

@@ -3,18 +3,18 @@ ghost use Rattle.std.specs.Prelude.{◌≡◌, ◌≢◌, ◌+◌, ◌-◌, ◌<
 ghost use Rattle.std.specs.Option.{SomeIff};
 ghost use Rattle.std.specs.Str.{IsUtf8};
 ghost use Rattle.sonic_error.specs.Errors.{IsErrorAt};
-ghost use Rattle.sonic_input.specs.Cursors.{IsMark, no_mark};
+ghost use Rattle.sonic_input.specs.Cursors.{IsNextInvalid, no_invalid};
 
 use crate::input::JsonInput;
 use crate::slice::JsonSlice;
 use sonic_error::{Error, ErrorCode, Result};
 use std::marker::Model;
 
-/// A cursor over an input, with a mark at the first place where its UTF-8 is broken.
+/// A cursor over an input, which knows the first place where its UTF-8 is broken.
 ///
-/// The cursor is an index of the input's bytes, from 0 to their number. The mark is an index
+/// The cursor is an index of the input's bytes, from 0 to their number. That place is an index
 /// too, or `usize::MAX` where nothing is broken. Inputs that are text already are never looked
-/// at for it, and a reader of [`Read::unmarked`] has none until it is looked for.
+/// at for it, and a reader of [`Read::unscanned`] has none until it is looked for.
 ///
 /// ```text
 /// let mut read = Read::from("[1]");
@@ -29,8 +29,8 @@ pub struct Read<'de> {
     text: &'de [u8],
     index: usize,
     next_invalid_utf8: usize,
-    // Whether the mark was looked for, or nothing can be broken.
-    is_marked: bool,
+    // Whether the bytes were looked at for it, or nothing can be broken.
+    is_scanned: bool,
     need_utf8_valid: bool,
 }
 
@@ -49,8 +49,8 @@ impl<'de> Model for Read<'de> {
 // The first place from `place` on where the UTF-8 of the bytes from there is broken.
 fn first_broken(text: &[u8], place: usize) -> usize
     requires { place ≤ length text.now }
-    ensures mark { IsMark true text.now place result }
-    ensures bound { result ≢ no_mark → result ≤ length text.now }
+    ensures next_invalid { IsNextInvalid true text.now place result }
+    ensures bound { result ≢ no_invalid → result ≤ length text.now }
 {
     match simdutf8::compat::from_utf8(&text[place..]) {
         Ok(_) => usize::MAX,
@@ -61,16 +61,16 @@ fn first_broken(text: &[u8], place: usize) -> usize
 impl<'de> Read<'de> {
     ghost use Rattle.sonic_input.specs.Slices.{slice_bytes, is_shared};
 
-    /// A cursor at the first byte of the input, with its mark.
+    /// A cursor at the first byte of the input, whose bytes are looked at.
     ///
-    /// Bytes are read once for the mark: of the bytes 0x22 0xFF 0x22 it is 1.
+    /// Bytes are read once for the first broken place: of the bytes 0x22 0xFF 0x22 it is 1.
     pub fn from<I: JsonInput<'de>>(input: I) -> Read<'de>
         ensures text { result.text ≡ I.JsonInput.content input }
         ensures place { result.place ≡ 0 }
         ensures is_bytes { result.is_bytes ≡ I.JsonInput.is_bytes }
         ensures is_shared { result.is_shared ≡ I.JsonInput.shares }
-        ensures mark { IsMark result.is_bytes result.text 0 result.mark }
-        ensures is_marked { result.is_marked ≡ true }
+        ensures next_invalid { IsNextInvalid result.is_bytes result.text 0 result.next_invalid }
+        ensures is_scanned { result.is_scanned ≡ true }
     {
         let need_utf8_valid = input.need_utf8_valid();
         let text = input.to_u8_slice();
@@ -83,59 +83,59 @@ impl<'de> Read<'de> {
             } else {
                 usize::MAX
             },
-            is_marked: true,
+            is_scanned: true,
             need_utf8_valid,
         }
     }
 
     /// A cursor at the first byte of a slice that is known to be UTF-8.
     ///
-    /// The slice counts as text, whatever input it is a part of, so there is no mark.
+    /// The slice counts as text, whatever input it is a part of, so nothing in it is broken.
     pub fn of_slice(slice: JsonSlice<'de>) -> Read<'de>
         requires { IsUtf8 (slice_bytes slice) }
         ensures text { result.text ≡ slice_bytes slice.entry }
         ensures place { result.place ≡ 0 }
         ensures is_bytes { result.is_bytes ≡ false }
         ensures is_shared { result.is_shared ≡ is_shared slice.entry }
-        ensures mark { result.mark ≡ usize.MAX }
-        ensures is_marked { result.is_marked ≡ true }
+        ensures next_invalid { result.next_invalid ≡ usize.MAX }
+        ensures is_scanned { result.is_scanned ≡ true }
     {
         Read {
             input: slice,
             text: slice.bytes(),
             index: 0,
             next_invalid_utf8: usize::MAX,
-            is_marked: true,
+            is_scanned: true,
             need_utf8_valid: false,
         }
     }
 
     /// A cursor at the first byte of a slice whose bytes aren't looked at.
     ///
-    /// The slice counts as bytes that may be no UTF-8, and there is no mark until
+    /// The slice counts as bytes that may be no UTF-8, and no broken place is known until
     /// `check_invalid_utf8` looks for one: till then `next_invalid_utf8` and `check_utf8_final`
     /// say nothing of the bytes. So what isn't read isn't looked at either.
-    pub fn unmarked(slice: JsonSlice<'de>) -> Read<'de>
+    pub fn unscanned(slice: JsonSlice<'de>) -> Read<'de>
         ensures text { result.text ≡ slice_bytes slice.entry }
         ensures place { result.place ≡ 0 }
         ensures is_bytes { result.is_bytes ≡ true }
         ensures is_shared { result.is_shared ≡ is_shared slice.entry }
-        ensures mark { result.mark ≡ usize.MAX }
-        ensures is_marked { result.is_marked ≡ false }
+        ensures next_invalid { result.next_invalid ≡ usize.MAX }
+        ensures is_scanned { result.is_scanned ≡ false }
     {
         Read {
             input: slice,
             text: slice.bytes(),
             index: 0,
             next_invalid_utf8: usize::MAX,
-            is_marked: false,
+            is_scanned: false,
             need_utf8_valid: true,
         }
     }
 
     /// How many bytes are left from the cursor on.
     ///
-    /// Behind the first byte of `[1]` it is 2.
+    /// After the first byte of `[1]` it is 2.
     #[inline]
     pub fn remain(&self) -> usize
         ensures { result ≡ length self.now.text - self.now.place }
@@ -145,7 +145,7 @@ impl<'de> Read<'de> {
 
     /// The cursor, as an index of the input's bytes.
     ///
-    /// At the end it is their number: 3 behind the last byte of `[1]`.
+    /// At the end it is their number: 3 after the last byte of `[1]`.
     #[inline]
     pub fn index(&self) -> usize
         ensures place { result ≡ self.now.place }
@@ -203,7 +203,7 @@ impl<'de> Read<'de> {
         }
     }
 
-    /// The byte at the cursor, which moves behind it, or `None` at the end.
+    /// The byte at the cursor, which moves past it, or `None` at the end.
     ///
     /// Two calls on `Read::from("[")` give `Some(b'[')` and `None`.
     #[inline]
@@ -237,7 +237,7 @@ impl<'de> Read<'de> {
         }
     }
 
-    /// The next `n` bytes, behind which the cursor moves, or `None` where fewer are left.
+    /// The next `n` bytes, past which the cursor moves, or `None` where fewer are left.
     ///
     /// Of `Read::from("[1]")` the next 2 are `b"[1"`, and then only `]` is left.
     pub fn next_n(&mut self, n: usize) -> Option<&'de [u8]>
@@ -306,27 +306,27 @@ impl<'de> Read<'de> {
         self.need_utf8_valid
     }
 
-    /// The mark: the first place where the UTF-8 is broken, or `usize::MAX`.
+    /// The first place where the UTF-8 is broken, or `usize::MAX`.
     ///
-    /// Of the bytes 0x22 0xFF 0x22 it is 1. A reader without a mark has `usize::MAX` too.
+    /// Of the bytes 0x22 0xFF 0x22 it is 1. An unscanned reader has `usize::MAX` too.
     pub fn next_invalid_utf8(&self) -> usize
-        ensures mark { result ≡ self.now.mark }
-        ensures marked { self.now.is_marked ≡ true
-            → (from : ℕ) × IsMark self.now.is_bytes self.now.text from result }
-        ensures unmarked { self.now.is_marked ≡ false
+        ensures next_invalid { result ≡ self.now.next_invalid }
+        ensures scanned { self.now.is_scanned ≡ true
+            → (from : ℕ) × IsNextInvalid self.now.is_bytes self.now.text from result }
+        ensures unscanned { self.now.is_scanned ≡ false
             → (self.now.is_bytes ≡ true) × (result ≡ usize.MAX) }
         ensures inside { result ≢ usize.MAX → result ≤ length self.now.text }
     {
         self.next_invalid_utf8
     }
 
-    /// The error `ErrorCode::InvalidUTF8` at the mark, if there is one.
+    /// The error `ErrorCode::InvalidUTF8` at the first broken place, if there is one.
     ///
     /// For the bytes 0x22 0xFF 0x22 it is an error in line 1, column 2.
     pub fn check_utf8_final(&self) -> Result<()>
-        ensures variant { IsOk result ↔ (self.now.mark ≡ usize.MAX) }
+        ensures variant { IsOk result ↔ (self.now.next_invalid ≡ usize.MAX) }
         ensures err { IfErr result (λ error.
-            IsErrorAt error ErrorCode.InvalidUTF8 self.now.text self.now.mark) }
+            IsErrorAt error ErrorCode.InvalidUTF8 self.now.text self.now.next_invalid) }
     {
         if self.next_invalid_utf8 == usize::MAX {
             return Ok(());
@@ -334,19 +334,19 @@ impl<'de> Read<'de> {
         Err(Error::syntax(ErrorCode::InvalidUTF8, self.text, self.next_invalid_utf8))
     }
 
-    /// Moves the mark to the first place where the bytes from the cursor on are broken.
+    /// Looks for the first place where the bytes from the cursor on are broken.
     ///
-    /// So a caller passes a broken place that doesn't matter: with the cursor behind it, the mark
-    /// is the next one. Of text there is no mark, and nothing is looked at.
+    /// So a caller passes a broken place that doesn't matter: with the cursor after it, the next
+    /// one is found. Of text there is none, and nothing is looked at.
     pub fn check_invalid_utf8(&mut self)
-        ensures kept { self.new ≡ record self.old { mark = self.new.mark; is_marked = true } }
+        ensures kept { self.new ≡ record self.old { next_invalid = self.new.next_invalid; is_scanned = true } }
         ensures bytes { self.old.is_bytes ≡ true
-            → IsMark true self.old.text self.old.place self.new.mark }
+            → IsNextInvalid true self.old.text self.old.place self.new.next_invalid }
         ensures text { self.old.is_bytes ≡ false → self.new ≡ self.old }
     {
         if self.need_utf8_valid {
             self.next_invalid_utf8 = first_broken(self.text, self.index);
-            self.is_marked = true;
+            self.is_scanned = true;
         }
     }
 }

@@ -9,7 +9,7 @@ use Rattle.std.specs.Str.{IsUtf8, IsCharBoundary}
 use Rattle.sonic_input.specs.Slices.{slice_bytes}
 use Rattle.sonic_input.specs.declared.slice.JsonSlice.{JsonSlice}
 use Rattle.sonic_lazy.specs.Internal.Located.{IsStatus}
-use Rattle.sonic_lazy.specs.LazyValues.{raw_bytes, is_marked}
+use Rattle.sonic_lazy.specs.LazyValues.{raw_bytes, has_escapes}
 use Rattle.sonic_lazy.specs.Wholes.{IsWholeValue, IsPart}
 use Rattle.sonic_lazy.specs.declared.lazyvalue.LazyValue.{LazyValue}
 use Rattle.sonic_parser.specs.declared.status.ParseStatus.{ParseStatus}
@@ -31,7 +31,7 @@ use Rattle.sonic_text.specs.declared.kind.Kind.TheVariants.{Array, Object}
 no_proof : IsProp ⊥
 no_proof = hlevel arith
 
--- what is told to be a value from end to end is one
+-- what is said to be a value from end to end is one
 value_had : (b : List ℕ) → ∥ IsValue strict b 0 (length b) ∥₁ → IsValue strict b 0 (length b)
 value_had b h = elim (value_some_outcome strict b 0) [
   | inl x ↦ elim (cases_eq x.0 (length b)) [
@@ -56,14 +56,14 @@ some_before Is test (suc n) = elim (some_before Is test n) [
 abbrev IsBackslash : List ℕ → ℕ → ℕ → Type 0
 IsBackslash b i k = (i < k) × (byte b k ≡ 92)
 
--- stands at k, or doesn't
+-- is at k, or isn't
 backslash_or_not : (b : List ℕ) (i k : ℕ) → IsBackslash b i k ⊎ ¬ IsBackslash b i k
 backslash_or_not b i k = elim (cases_lt i k) [
   | inr l ↦ inr (λ x. omega (arith, l, x.0))
   | inl l ↦ elim (cases_eq (byte b k) 92) [ inl c ↦ inl (l, c) | inr c ↦ inr (λ x. c x.1) ]
 ]
 
--- a string with a backslash stands here, or none does
+-- a string with a backslash is here, or there is none
 escaped_or_not : (b : List ℕ) (i j : ℕ) → IsEscapedString b i j ⊎ ¬ IsEscapedString b i j
 escaped_or_not b i j = elim (cases_eq (byte b i) 34) [
   | inr d ↦ inr (λ x. d x.0)
@@ -77,38 +77,38 @@ escaped_or_not b i j = elim (cases_eq (byte b i) 34) [
 pub false_not_true : IsTrue false → ⊥
 false_not_true e = cc
 
--- what is told to be the mark is it
-mark_had : (b : List ℕ) (i j : ℕ) (m : Bool) → ∥ IsTrue m ↔ IsEscapedString b i j ∥₁ → IsTrue m ↔ IsEscapedString b i j
-mark_had b i j true h = elim (escaped_or_not b i j) [
+-- what is said of escapes is so
+escapes_had : (b : List ℕ) (i j : ℕ) (m : Bool) → ∥ IsTrue m ↔ IsEscapedString b i j ∥₁ → IsTrue m ↔ IsEscapedString b i j
+escapes_had b i j true h = elim (escaped_or_not b i j) [
   | inl x ↦ (λ t. x, λ y. refl)
   | inr none ↦ absurd (∥∥₁_elim h no_proof (λ e. none (e.0 refl)))
 ]
-mark_had b i j false h = (λ e. absurd (false_not_true e), λ y. absurd (∥∥₁_elim h no_proof (λ e. false_not_true (e.1 y))))
+escapes_had b i j false h = (λ e. absurd (false_not_true e), λ y. absurd (∥∥₁_elim h no_proof (λ e. false_not_true (e.1 y))))
 
--- what is told to be a whole value is one
+-- what is said to be a whole value is one
 pub whole_had : (b : List ℕ) (m : Bool) → ∥ IsWholeValue b m ∥₁ → IsWholeValue b m
 whole_had b m h = record {
   value = value_had b (∥∥₁_map h (λ x. x.value));
   utf8 = IsUtf8-had b (∥∥₁_map h (λ x. x.utf8));
-  mark = mark_had b 0 (length b) m (∥∥₁_map h (λ x. x.mark));
+  escapes = escapes_had b 0 (length b) m (∥∥₁_map h (λ x. x.escapes));
 }
 
 -- a lazy value holds a whole value
-pub lazy_is_whole : (value : LazyValue) → IsWholeValue (raw_bytes value) (is_marked value)
-lazy_is_whole value = whole_had (raw_bytes value) (is_marked value) value.whole
+pub lazy_is_whole : (value : LazyValue) → IsWholeValue (raw_bytes value) (has_escapes value)
+lazy_is_whole value = whole_had (raw_bytes value) (has_escapes value) value.whole
 
--- two lazy values of one text and one mark are one
+-- two lazy values of one text that say the same of escapes are one
 pub lazy_one : (raw : JsonSlice) (m : Bool) (h g : ∥ IsWholeValue (slice_bytes raw) m ∥₁)
     → ◌≡◌ {A = LazyValue} (record { raw = raw; has_escaped = m; whole = h }) (record { raw = raw; has_escaped = m; whole = g })
 lazy_one raw m h g = ap (λ (x : ∥ IsWholeValue (slice_bytes raw) m ∥₁). record { raw = raw; has_escaped = m; whole = x }) (squash₁ h g)
 
--- the word null stands in its own letters
-null_stands : IsLiteral (codes "null") (codes "null") 0 4
-null_stands = ((omega arith, λ k l. let e : 0 + k ≡ k = omega arith in rw e refl), refl)
+-- the word null is in its own letters
+null_is : IsLiteral (codes "null") (codes "null") 0 4
+null_is = ((omega arith, λ k l. let e : 0 + k ≡ k = omega arith in rw e refl), refl)
 
 -- it is no string
-null_unmarked : IsTrue false ↔ IsEscapedString (codes "null") 0 4
-null_unmarked = (λ e. absurd (false_not_true e), λ x. absurd (let q = x.0 in omega arith))
+null_has_none : IsTrue false ↔ IsEscapedString (codes "null") 0 4
+null_has_none = (λ e. absurd (false_not_true e), λ x. absurd (let q = x.0 in omega arith))
 
 -- each byte of it is ASCII
 null_ascii : (i : ℕ) → byte (codes "null") i < 128
@@ -120,7 +120,7 @@ null_ascii (suc (suc (suc (suc i)))) = omega arith
 
 -- and so it is a whole value
 pub null_is_whole : IsWholeValue (codes "null") false
-null_is_whole = record { value = null_literal null_stands; utf8 = IsUtf8-from_ascii (codes "null") null_ascii; mark = null_unmarked }
+null_is_whole = record { value = null_literal null_is; utf8 = IsUtf8-from_ascii (codes "null") null_ascii; escapes = null_has_none }
 
 -- the first and the last byte of a value are ASCII
 abbrev AreEndsAscii : List ℕ → ℕ → ℕ → Type 0
@@ -165,19 +165,19 @@ value_ends {t} {i} {j} (filled {kind} is y x c q) =
 -- a part of UTF-8 text that begins and ends with ASCII bytes is UTF-8
 utf8_between : (b : List ℕ) (i j : ℕ) → IsUtf8 b → i < j → j ≤ length b → byte b i < 128 → byte b (j - 1) < 128 → IsUtf8 (slice_range b i j)
 utf8_between b i j u l within first last =
-    let behind : IsCharBoundary b (j - 1 + 1) = IsCharBoundary-after_ascii b (j - 1) u (omega arith) last in
+    let after : IsCharBoundary b (j - 1 + 1) = IsCharBoundary-after_ascii b (j - 1) u (omega arith) last in
     let p : j - 1 + 1 ≡ j = omega arith in
-    IsUtf8-between b i j u (omega arith) (omega arith, λ m h. absurd (omega arith)) (rw p at behind)
+    IsUtf8-between b i j u (omega arith) (omega arith, λ m h. absurd (omega arith)) (rw p at after)
 
--- a part of a front is one of the whole
-part_of_front : (t : List ℕ) (r i j : ℕ) → i ≤ j → j ≤ r → slice_range (take r t) i j ≡ slice_range t i j
-part_of_front t r i j l h =
+-- a part of a prefix is one of the whole
+part_of_prefix : (t : List ℕ) (r i j : ℕ) → i ≤ j → j ≤ r → slice_range (take r t) i j ≡ slice_range t i j
+part_of_prefix t r i j l h =
     let e : i + (r - i) ≡ r = omega arith in
     let f : drop i (take (i + (r - i)) t) ≡ take (r - i) (drop i t) = drop-take i (r - i) t in
     let d : drop i (take r t) ≡ take (r - i) (drop i t) = rw e at f in
     rw d (take-take (j - i) (r - i) (drop i t) (omega arith))
 
--- the span of a value is UTF-8 where a front of the text is that it lies in
+-- the span of a value is UTF-8 where a prefix of the text is that it lies in
 pub utf8_of_span : {t : List ℕ} {i j : ℕ} (r : ℕ) → IsUtf8 (take r t) → IsValue strict t i j → j ≤ r → j ≤ length t → IsUtf8 (slice_range t i j)
 utf8_of_span {t} {i} {j} r u x h within =
     let l = value-longer x in
@@ -186,7 +186,7 @@ utf8_of_span {t} {i} {j} r u x h within =
     let a : byte (take r t) i ≡ byte t i = get_or-take r t i 0 (omega arith) in
     let b : byte (take r t) (j - 1) ≡ byte t (j - 1) = get_or-take r t (j - 1) 0 (omega arith) in
     let part : IsUtf8 (slice_range (take r t) i j) = utf8_between (take r t) i j u l long (omega (arith, a, ends.0)) (omega (arith, b, ends.1)) in
-    let same : slice_range (take r t) i j ≡ slice_range t i j = part_of_front t r i j (omega arith) h in
+    let same : slice_range (take r t) i j ≡ slice_range t i j = part_of_prefix t r i j (omega arith) h in
     rw (← same) part
 
 -- the status of a value is that of its own text
@@ -202,7 +202,7 @@ pub whole_of_part : {t b : List ℕ} {i j : ℕ} {status : ParseStatus} {is : Bo
 whole_of_part {t} {b} {i} {j} {status} {is} e p s m = record {
   value = rw e (value_of_part p.value p.inside);
   utf8 = rw e p.utf8;
-  mark = status_of_part t b i j status e (value-longer p.value) p.inside s is m;
+  escapes = status_of_part t b i j status e (value-longer p.value) p.inside s is m;
 }
 
 pub ruleset entries = (whole_of_part, value-longer)

@@ -36,7 +36,7 @@ pub data IsReach (t : List ℕ) (os : List Outcome) (r : ℕ) : Type 0 where
   to_the_root : SomeLacks os → IsWhole t r → IsReach t os r
   to_the_furthest : {i : ℕ} → ¬ SomeLacks os → Contains os (found i r) → ((a b : ℕ) → Contains os (found a b) → b ≤ r) → IsReach t os r
 
--- a span, from its first byte to behind its last
+-- a span, from its first byte to after its last
 abbrev pub Span : Type 0
 Span = ℕ × ℕ
 

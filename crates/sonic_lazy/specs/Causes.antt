@@ -12,7 +12,7 @@ use Rattle.sonic_lazy.specs.Paths.{Outcome}
 -- each path finds a value or lacks its key, the text is whole if one does, and it is UTF-8 as far as it is needed
 pub data IsAnswerable (t : List ℕ) (is_bytes : Bool) (paths : List Path) : Type 0 where
   nothing_asked : paths ≡ [] → IsAnswerable t is_bytes paths
-  all_told : (os : List Outcome) (r : ℕ) → AllLead t paths os → NoneFails os → NoneCut os → IsReach t os r → (is_bytes ≡ true → IsUtf8 (take r t))
+  all_reported : (os : List Outcome) (r : ℕ) → AllLead t paths os → NoneFails os → NoneCut os → IsReach t os r → (is_bytes ≡ true → IsUtf8 (take r t))
       → IsAnswerable t is_bytes paths
 
 -- there is no memory, or the error is the answer of the paths

@@ -10,4 +10,4 @@ pub record ExactlyOne {A : Type 0} (Holds : A → Type 0) : Type 0 where
 
 -- after each prefix that the two paths share, their next nodes ask for one kind of container: both are keys, or both indexes
 abbrev pub MixNowhere : Path → Path → Type 0
-MixNowhere p q = (front r s : Path) (a b : Node) → p ≡ front ++ a ∷ r → q ≡ front ++ b ∷ s → kind_of a ≡ kind_of b
+MixNowhere p q = (prefix r s : Path) (a b : Node) → p ≡ prefix ++ a ∷ r → q ≡ prefix ++ b ∷ s → kind_of a ≡ kind_of b

@@ -8,5 +8,5 @@ abbrev pub raw_bytes : LazyValue → List ℕ
 raw_bytes value = slice_bytes value.raw
 
 -- whether it is a string with a backslash
-abbrev pub is_marked : LazyValue → Bool
-is_marked value = value.has_escaped
+abbrev pub has_escapes : LazyValue → Bool
+has_escapes value = value.has_escaped

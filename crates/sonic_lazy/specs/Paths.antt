@@ -24,7 +24,7 @@ pub data Outcome : Type 0 where
   fails : Stop → Outcome
   cut : Stop → Outcome
 
--- the type of the value that stands at i, by its first byte
+-- the type of the value at i, by its first byte
 abbrev pub type_at : List ℕ → ℕ → JsonType
 type_at t i =
     if byte t i == 110 then Null
@@ -44,18 +44,18 @@ abbrev pub name_of : ℕ → Option (List ℕ) → Node
 name_of n None = index n
 name_of n (Some k) = key k
 
--- the n-th item of a container of this kind, which is due at h, has its value due at v, and the node names it
+-- the n-th item of a container of this kind, which is expected at h, has its value expected at v, and the node names it
 pub record IsNamed (t : List ℕ) (kind : Kind) (n h v : ℕ) (node : Node) : Type 0 where
   pub label : Option (List ℕ)
   pub head : ItemHead strict t kind h v label
   pub name : name_of n label ≡ node
 
--- in the container at i the first n items fit, the next is due at h, and the node names none of the n
+-- in the container at i the first n items fit, the next is expected at h, and the node names none of the n
 pub record NoneNamed (t : List ℕ) (i : ℕ) (kind : Kind) (n h : ℕ) (node : Node) : Type 0 where
   pub fit : ItemsFit strict t kind i n h
   pub none : (p g v : ℕ) → p < n → ItemsFit strict t kind i p g → ¬ IsNamed t kind p g v node
 
--- the node leads on to the first item of the container at i that it names, and the item's value is due at v
+-- the node leads on to the first item of the container at i that it names, and the item's value is expected at v
 pub record LeadsOn (t : List ℕ) (i : ℕ) (node : Node) (v : ℕ) : Type 0 where
   pub n : ℕ
   pub h : ℕ
@@ -76,30 +76,30 @@ abbrev pub wanted_of : Kind → Wanted
 wanted_of Array = WantedArray
 wanted_of Object = WantedObject
 
--- what comes of a node that names none of the items of a container of its kind, whose closing bracket stands at q
+-- what comes of a node that names none of the items of a container of its kind, whose closing bracket is at q
 abbrev pub past_end : Kind → ℕ → Outcome
 past_end Array q = fails_at q GetIndexOutOfArray
 past_end Object q = lacks q
 
--- what comes of a node that asks for this kind and leads nowhere in the whole value at i, whose last byte stands at q
+-- what comes of a node that asks for this kind and leads nowhere in the whole value at i, whose last byte is at q
 abbrev pub nowhere : List ℕ → ℕ → ℕ → Kind → Outcome
 nowhere t i q kind =
     if byte t i == opening kind && byte t (after_space t (i + 1)) == closing kind then fails_at q (empty_code kind)
     else if byte t i == opening kind then past_end kind q
     else fails_at q (Message (Mismatch (type_at t i) (wanted_of kind)))
 
--- where the path leads from the place i, at which a value is due
+-- where the path leads from the place i, at which a value is expected
 pub data Evaluates (t : List ℕ) : ℕ → Path → Outcome → Type 0 where
-  -- the path is used up, and a value stands here
-  stands : {i j : ℕ} → IsValue strict t i j → Evaluates t i [] (found i j)
+  -- the path is used up, and a value is here
+  found_here : {i j : ℕ} → IsValue strict t i j → Evaluates t i [] (found i j)
   -- the first node leads on, and the rest of the path goes on there
   goes_on : {i v : ℕ} {node : Node} {rest : Path} {o : Outcome} → LeadsOn t i node v → Evaluates t v rest o → Evaluates t i (node ∷ rest) o
-  -- it doesn't lead on, and the value is whole: that is told at the value's last byte
+  -- it doesn't lead on, and the value is whole: that is reported at the value's last byte
   leads_nowhere : {i j : ℕ} {node : Node} {rest : Path} {o : Outcome} → IsValue strict t i j → ((v : ℕ) → ¬ LeadsOn t i node v)
       → o ≡ nowhere t i (j - 1) (kind_of node) → Evaluates t i (node ∷ rest) o
-  -- the path is used up, and the value that is due here has a fault
+  -- the path is used up, and the value that is expected here has a fault
   cut_here : {i : ℕ} {s : Stop} → IsFault strict t i s → Evaluates t i [] (cut s)
-  -- the value that is due here has a fault, and before that the first node doesn't lead on
+  -- the value that is expected here has a fault, and before that the first node doesn't lead on
   cut_before : {i : ℕ} {node : Node} {rest : Path} {s : Stop} → IsFault strict t i s → ((v : ℕ) → ¬ LeadsOn t i node v)
       → Evaluates t i (node ∷ rest) (cut s)
 

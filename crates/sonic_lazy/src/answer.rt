@@ -6,7 +6,7 @@ ghost use Rattle.sonic_error.specs.declared.code.ErrorCode.TheVariants.{InvalidU
 ghost use Rattle.sonic_error.specs.Texts.{valid_up_to};
 ghost use Rattle.sonic_parser.specs.Faults.{IsStopFor};
 ghost use Rattle.sonic_lazy.specs.Answers.{IsAnswer, Answer};
-ghost use Rattle.sonic_lazy.specs.Internal.Located.{AreMarked, span_at, spans_of};
+ghost use Rattle.sonic_lazy.specs.Internal.Located.{HaveStatuses, span_at, spans_of};
 ghost use Rattle.sonic_lazy.specs.Internal.Walk.{root_point, IsStop, IsError, IsFurthest, IsReached};
 
 use crate::located::Located;
@@ -29,7 +29,7 @@ struct Reached<'de> {
 
 // The values that the paths of a tree are answered with, in their order, or the one error.
 //
-// What stands behind the last byte that is needed plays no part.
+// What follows the last byte that is needed plays no part.
 pub(crate) fn answer(
     alloc: Global,
     read: Read<'_>,
@@ -39,7 +39,7 @@ pub(crate) fn answer(
     requires { read.place ≡ 0 }
     ensures ok { IfOk result (λ found.
         IsAnswer read.entry.text is_bytes tree.now (Answer.spans (spans_of found.items))) }
-    ensures marked { IfOk result (λ found. AreMarked read.entry.text found.items) }
+    ensures statuses { IfOk result (λ found. HaveStatuses read.entry.text found.items) }
     ensures err { IfErr result (IsStopFor (IsError read.entry.text is_bytes tree.now)) }
 {
     let size = tree.size();
@@ -66,7 +66,7 @@ fn reach<'de>(
     ensures text { IfOk result (λ x. x.text.now ≡ read.entry.text) }
     ensures reached { IfOk result (λ x.
         IsReached read.entry.text tree.now (spans_of x.found.items) x.reach) }
-    ensures marked { IfOk result (λ x. AreMarked read.entry.text x.found.items) }
+    ensures statuses { IfOk result (λ x. HaveStatuses read.entry.text x.found.items) }
     ensures err { IfErr result (IsStopFor (IsStop (root_point read.entry.text tree.now) false)) }
 {
     let mut parser = Parser::new(read);
@@ -110,7 +110,7 @@ fn further(reach: usize, value: Option<Located>) -> usize
     }
 }
 
-// Looks at the front of a text, whether it is UTF-8.
+// Looks at a prefix of a text, whether it is UTF-8.
 fn check(text: &[u8], reach: usize) -> Result<(), Stop>
     requires { reach ≤ length text.now }
     ensures ok { OnOk result (IsUtf8 (take reach text.now)) }

@@ -8,7 +8,7 @@ use crate::lazyvalue::LazyValue;
 use crate::located::Located;
 use sonic_input::JsonInput;
 
-// The value that stands in the input where it was found.
+// The value in the input where it was found.
 #[tactic(auto, using(crate::proofs::WholeLemmas::entries))]
 pub(crate) fn entry<'de, I: JsonInput<'de>>(input: I, found: Located) -> LazyValue<'de>
     requires value { IsPart (I.JsonInput.content input) found.start found.end }

@@ -16,7 +16,7 @@ pub fn path_has_one_outcome()
 
 /// A law of paths: where one is cut, it is by the fault of the whole text, the same for all.
 ///
-/// So in `[1,{"a":2,]` both `[1, "b"]` and `[2]` are cut at the closing bracket, where a key is due.
+/// So in `[1,{"a":2,]` both `[1, "b"]` and `[2]` are cut at the closing bracket, where a key is expected.
 #[tactic(auto, using(crate::proofs::PathLemmas::Outcome::cut_is_fault))]
 pub fn a_cut_is_the_root_fault()
     ensures { (t : List ℕ) (path : List Node) (s : Stop) → Leads t path (cut s) → IsRootFault t s }
@@ -26,7 +26,7 @@ pub fn a_cut_is_the_root_fault()
 /// is one.
 ///
 /// So in `[{},1` the path `[0, "a"]` fails at the closing brace, and the end of the text, where a
-/// comma or a bracket is due, plays no part.
+/// comma or a bracket is expected, plays no part.
 pub fn outcomes_come_before_the_fault()
     ensures fails { (t : List ℕ) (path : List Node) (s r : Stop) → IsRootFault t r
         → Leads t path (fails s) → s.place < r.place }
@@ -34,10 +34,10 @@ pub fn outcomes_come_before_the_fault()
         → Leads t path (lacks q) → q < r.place }
 {}
 
-/// A law of two paths that don't mix keys and indexes behind one front: where both fail at one
+/// A law of two paths that don't mix keys and indexes after one prefix: where both fail at one
 /// place, they fail for one reason.
 ///
-/// Of `["a"]` and `[0]`, which do mix, the first fails in `7` as no object stands there, and the
+/// Of `["a"]` and `[0]`, which do mix, the first fails in `7` as no object is there, and the
 /// second as no array does, both at the `7`.
 #[tactic(auto, using(crate::proofs::PathLemmas::Outcome::fails_agree))]
 pub fn fails_at_one_place_agree()

@@ -31,15 +31,15 @@ pub struct LazyValue<'a> {
 impl<'a> LazyValue<'a> {
     ghost use Rattle.std.specs.Prelude.{◌≡◌};
     ghost use Rattle.std.specs.Cow.{IsBorrowedStr, cow_str_bytes};
-    ghost use Rattle.sonic_lazy.specs.LazyValues.{raw_bytes, is_marked};
+    ghost use Rattle.sonic_lazy.specs.LazyValues.{raw_bytes, has_escapes};
 
-    /// The value whose text this is, with the mark whether it is a string with a backslash.
+    /// The value whose text this is, and whether it is a string with a backslash.
     ///
     /// Nothing is looked at. `LazyValue::whole(JsonSlice::from("[1]"), false)` is the array of a 1.
     pub fn whole(raw: JsonSlice<'a>, has_escaped: bool) -> LazyValue<'a>
         requires { IsWholeValue (slice_bytes raw) has_escaped }
         ensures text { raw_bytes result ≡ slice_bytes raw.entry }
-        ensures mark { is_marked result ≡ has_escaped }
+        ensures escapes { has_escapes result ≡ has_escaped }
     {
         LazyValue { raw, has_escaped }
     }
@@ -90,9 +90,9 @@ impl<'a> Clone for LazyValue<'a> {
 /// The value `null`.
 impl<'a> Default for LazyValue<'a> {
     ghost use Rattle.std.specs.Prelude.{◌≡◌, codes, false};
-    ghost use Rattle.sonic_lazy.specs.LazyValues.{raw_bytes, is_marked};
+    ghost use Rattle.sonic_lazy.specs.LazyValues.{raw_bytes, has_escapes};
 
-    ghost is_default = { λ value. (raw_bytes value ≡ codes "null") × (is_marked value ≡ false) };
+    ghost is_default = { λ value. (raw_bytes value ≡ codes "null") × (has_escapes value ≡ false) };
 
     fn default() -> LazyValue<'a> {
         LazyValue {

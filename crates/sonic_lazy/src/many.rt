@@ -4,7 +4,7 @@ ghost use Rattle.sonic_error.specs.Errors.{IsPlainError};
 ghost use Rattle.sonic_lazy.specs.Answers.{IsAnswer, Answer};
 ghost use Rattle.sonic_lazy.specs.Causes.{IsAnswerable, IsRefusal};
 ghost use Rattle.sonic_lazy.specs.LazyValues.{raw_bytes};
-ghost use Rattle.sonic_lazy.specs.Internal.Located.{IsStatus, AreMarked, AreParts, span_at, spans_of};
+ghost use Rattle.sonic_lazy.specs.Internal.Located.{IsStatus, HaveStatuses, AreParts, span_at, spans_of};
 ghost use Rattle.sonic_lazy.specs.Shown.{AreValues, HaveTexts, span_text};
 ghost use Rattle.sonic_lazy.specs.Wholes.{IsPart};
 
@@ -19,7 +19,7 @@ use std::alloc::{AllocError, Global};
 
 // The values that the paths of a tree find, in their order, with `None` for one that lacks its key.
 //
-// What stands behind the last byte that the paths need plays no part.
+// What follows the last byte that the paths need plays no part.
 pub(crate) fn find_many<'de, I: JsonInput<'de>>(
     alloc: Global,
     json: I,
@@ -27,7 +27,7 @@ pub(crate) fn find_many<'de, I: JsonInput<'de>>(
 ) -> Result<Vec<Option<Located>>, Error>
     ensures ok { IfOk result (λ found. IsAnswer (I.JsonInput.content json) I.JsonInput.is_bytes
         tree.now (Answer.spans (spans_of found.items))) }
-    ensures marked { IfOk result (λ found. AreMarked (I.JsonInput.content json) found.items) }
+    ensures statuses { IfOk result (λ found. HaveStatuses (I.JsonInput.content json) found.items) }
     ensures parts { IfOk result (λ found. AreParts (I.JsonInput.content json) found.items) }
     ensures err { IfErr result (λ error. IsRefusal (I.JsonInput.content json) I.JsonInput.is_bytes
         tree.now error) }
@@ -35,21 +35,21 @@ pub(crate) fn find_many<'de, I: JsonInput<'de>>(
         → IfErr result (λ error. IsPlainError error ErrorCode.NoMemory) }
 {
     let text = json.to_u8_slice();
-    let read = Read::unmarked(json.to_json_slice());
+    let read = Read::unscanned(json.to_json_slice());
     match answer(alloc, read, json.need_utf8_valid(), tree) {
         Ok(found) => Ok(found),
         Err(fault) => Err(fault.error(text)),
     }
 }
 
-// The lazy values that stand in an input where they were found, in their order.
+// The lazy values in an input where they were found, in their order.
 fn values<'de, I: JsonInput<'de>>(
     alloc: Global,
     json: I,
     found: &[Option<Located>],
 ) -> Result<Vec<Option<LazyValue<'de>>>, AllocError>
     requires parts { AreParts (I.JsonInput.content json) found.now }
-    requires marked { AreMarked (I.JsonInput.content json) found.now }
+    requires statuses { HaveStatuses (I.JsonInput.content json) found.now }
     ensures { IfOk result (λ values.
         HaveTexts (I.JsonInput.content json) values.items (spans_of found.now)) }
 {
@@ -60,10 +60,10 @@ fn values<'de, I: JsonInput<'de>>(
     Ok(values)
 }
 
-// The lazy value that stands in an input where one was found.
+// The lazy value in an input where one was found.
 fn value<'de, I: JsonInput<'de>>(json: I, located: Option<Located>) -> Option<LazyValue<'de>>
     requires part { IfSome located (λ x. IsPart (I.JsonInput.content json) x.start x.end) }
-    requires marked { IfSome located (λ x.
+    requires statuses { IfSome located (λ x.
         IsStatus (I.JsonInput.content json) x.start x.end x.status) }
     ensures { option_map raw_bytes result
         ≡ option_map (span_text (I.JsonInput.content json)) (option_map span_at located) }
@@ -77,7 +77,7 @@ fn value<'de, I: JsonInput<'de>>(json: I, located: Option<Located>) -> Option<La
 /// What the paths of a tree lead to, in the order in which they were added.
 ///
 /// It is `None` for a path whose key an object with members lacks, and then the root is a whole
-/// value. What stands behind the last byte that the paths need may be anything. Of equal keys the
+/// value. What follows the last byte that the paths need may be anything. Of equal keys the
 /// first counts. The nearest place at which a path leads nowhere is the error, or the fault of the
 /// text.
 ///

@@ -8,7 +8,7 @@ ghost use Rattle.sonic_text.specs.Values.{opening, IsValue, IsKey, ItemsFit};
 ghost use Rattle.sonic_text.specs.Faults.{IsFault, IsKeyFault};
 ghost use Rattle.sonic_parser.specs.Containers.{IsEnd, IsSeparated, IsSeparatorFault};
 ghost use Rattle.sonic_parser.specs.Faults.{IsStopFor};
-ghost use Rattle.sonic_lazy.specs.Internal.Located.{IsStatus, AreMarked, spans_of};
+ghost use Rattle.sonic_lazy.specs.Internal.Located.{IsStatus, HaveStatuses, spans_of};
 ghost use Rattle.sonic_lazy.specs.Paths.{type_at, empty_code, wanted_of};
 ghost use Rattle.sonic_lazy.specs.Internal.Walk.{IsNoEntry, IsFilled};
 
@@ -19,7 +19,7 @@ use sonic_text::{Kind, Stop, byte_at};
 use std::alloc::{AllocError, Global};
 use std::marker::Model;
 
-// A parser that stands where a walk has come to, and what the walk's paths have found so far.
+// A parser at the place that a walk has come to, and what the walk's paths have found so far.
 #[derive(Drop)]
 pub(crate) struct Walk<'de> {
     alloc: Global,
@@ -43,7 +43,7 @@ impl<'de> Model for Walk<'de> {
 }
 
 impl<'de> Walk<'de> {
-    // A walk that begins where the parser stands, for this many paths.
+    // A walk that begins at the parser's place, for this many paths.
     pub(crate) fn new(
         alloc: Global,
         parser: Parser<'de>,
@@ -92,7 +92,7 @@ impl<'de> Walk<'de> {
         self.lacking
     }
 
-    // Skips the value that stands here.
+    // Skips the value at the cursor.
     pub(crate) fn skip(&mut self) -> Result<ParseStatus, Fault>
         ensures value { OnOk result (IsValue strict self.old.text self.old.place self.new.place) }
         ensures status { IfOk result (λ status.
@@ -103,7 +103,7 @@ impl<'de> Walk<'de> {
         self.parser.skip_value(self.alloc)
     }
 
-    // Enters the container of this kind that stands here, up to its first item.
+    // Enters the container of this kind at the cursor, up to its first item.
     pub(crate) fn enter(&mut self, kind: Kind) -> Result<(), Fault>
         ensures ok { OnOk result (ItemsFit strict self.old.text kind self.old.place 0 self.new.place) }
         ensures moved { OnOk result (self.new ≡ record self.old { place = self.new.place }) }
@@ -124,7 +124,7 @@ impl<'de> Walk<'de> {
         }))
     }
 
-    // Why the value that stands here is no container of this kind.
+    // Why the value at the cursor is no container of this kind.
     fn mismatch(&mut self, kind: Kind) -> Fault
         requires { byte self.old.text self.old.place ≢ opening kind }
         ensures { IsStopFor (IsNoEntry self.old.text self.old.place kind) result }
@@ -152,7 +152,7 @@ impl<'de> Walk<'de> {
         self.parser.next_item(kind)
     }
 
-    // Passes the key that stands here, up to the member's value, and gives the key's end.
+    // Passes the key at the cursor, up to the member's value, and gives the key's end.
     pub(crate) fn key(&mut self) -> Result<usize, Stop>
         ensures ok { IfOk result (λ end. (b : List ℕ)
             × IsString strict self.old.text self.old.place end b
@@ -191,7 +191,7 @@ impl<'de> Walk<'de> {
     // The value that each path found.
     pub(crate) fn into_spans(self) -> Vec<Option<Located>>
         ensures spans { spans_of result.items ≡ self.entry.findings.spans }
-        ensures marked { AreMarked self.entry.text result.items }
+        ensures statuses { HaveStatuses self.entry.text result.items }
     {
         let Walk { spans, parser, .. } = self;
         spans
@@ -229,7 +229,7 @@ pub(crate) fn wanted_of(kind: Kind) -> Wanted
     }
 }
 
-// The type of the value that stands at a place, by its first byte.
+// The type of the value at a place, by its first byte.
 pub(crate) fn type_at(text: &[u8], place: usize) -> JsonType
     ensures { result ≡ type_at text.now place }
 {

@@ -5,10 +5,10 @@ ghost use Rattle.sonic_lazy.specs.Internal.Walk.{SomeOpen};
 use std::alloc::{AllocError, Global};
 use std::marker::Model;
 
-// A mark for each child, and how many were not visited.
+// Whether each child was visited, and how many were not.
 #[derive(Drop)]
 pub(crate) struct Visited {
-    marks: Vec<bool>,
+    flags: Vec<bool>,
     left: usize,
 }
 
@@ -17,9 +17,9 @@ impl Model for Visited {
 
     ghost Value = { List Bool };
 
-    ghost view = { λ visited. visited.marks.items };
+    ghost view = { λ visited. visited.flags.items };
 
-    ghost invariant = { λ visited. visited.left ≡ count_by not visited.marks.items };
+    ghost invariant = { λ visited. visited.left ≡ count_by not visited.flags.items };
 }
 
 impl Visited {
@@ -28,8 +28,8 @@ impl Visited {
         ensures long { IfOk result (λ visited. length visited ≡ count) }
         ensures none { IfOk result (λ visited. (c : ℕ) → c < count → slice_get visited c ≡ Some false) }
     {
-        let marks = vec![in alloc; false; count]?;
-        Ok(Visited { marks, left: count })
+        let flags = vec![in alloc; false; count]?;
+        Ok(Visited { flags, left: count })
     }
 
     // The child, if there is one that was not visited yet.
@@ -39,7 +39,7 @@ impl Visited {
         ensures none { IfNone result (IfSome child (λ c. slice_get self.now c ≡ Some true)) }
     {
         match child {
-            Some(child) if !self.marks[child] => Some(child),
+            Some(child) if !self.flags[child] => Some(child),
             _ => None,
         }
     }
@@ -50,7 +50,7 @@ impl Visited {
         ensures { self.new ≡ set self.old child true }
     {
         self.left -= 1;
-        self.marks[child] = true;
+        self.flags[child] = true;
     }
 
     // Whether each child was visited.

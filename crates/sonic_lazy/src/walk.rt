@@ -5,7 +5,7 @@ ghost use Rattle.sonic_text.specs.Strings.{strict};
 ghost use Rattle.sonic_text.specs.Paths.{Node};
 ghost use Rattle.sonic_text.specs.Values.{IsValue};
 ghost use Rattle.sonic_text.specs.Faults.{IsKeyFault};
-ghost use Rattle.sonic_pointer.specs.Paths.{HasFront, IsChildren};
+ghost use Rattle.sonic_pointer.specs.Paths.{HasPrefix, IsChildren};
 ghost use Rattle.sonic_parser.specs.Faults.{IsStopFor};
 ghost use Rattle.sonic_lazy.specs.Internal.Located.{IsStatus};
 ghost use Rattle.sonic_lazy.specs.Paths.{kind_of};
@@ -19,7 +19,7 @@ use sonic_parser::{Fault, ParseStatus};
 use sonic_pointer::{Branch, TreeView};
 use sonic_text::{Kind, Stop};
 
-// A container in which the children of a place of the tree are looked for.
+// A container in which the children of a vertex of the tree are looked for.
 #[derive(Drop)]
 struct Level<'l, 't> {
     view: &'l TreeView<'t>,
@@ -37,7 +37,7 @@ struct Level<'l, 't> {
 #[cycle(walk)]
 pub(crate) fn follow(walk: &mut Walk<'_>, view: &TreeView<'_>, finish: bool) -> Result<(), Fault>
     requires comes { ComesTo (point_at walk.old view.now) }
-    requires some { HasFront view.now.paths view.now.front }
+    requires some { HasPrefix view.now.paths view.now.prefix }
     requires are { AreFindings walk.old.text view.now.paths walk.old.findings }
     ensures later { OnOk result (IsLater walk.old.text view.now.paths walk.old.findings
         walk.new.findings) }
@@ -77,7 +77,7 @@ fn is_asked(finish: bool, orders: &[usize]) -> bool
 
 // The kind of container that the children of the view ask for.
 fn kind_of_children(view: &TreeView<'_>) -> Kind
-    requires { IsChildren view.now.paths view.now.front view.now.children }
+    requires { IsChildren view.now.paths view.now.prefix view.now.children }
     ensures { (c : ℕ) (node : Node) → slice_get view.now.children c ≡ Some node → kind_of node ≡ result }
 {
     match view.branch() {

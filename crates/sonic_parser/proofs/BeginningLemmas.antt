@@ -41,7 +41,7 @@ container_value {kind = kind} is within x =
     let b = items_open is in
     plain_value (λ q. opening_no_quote kind (omega arith)) (value-longer x) within x
 
--- an element's value is due where the element is
+-- an element's value is expected where the element is
 pub element_item : {m : Bool} {t : List ℕ} {h : ℕ} → h ≤ length t → IsItem m t Array h h
 element_item l = record { later = omega arith; within = l; label = None; head = no_head refl }
 

@@ -12,7 +12,7 @@ use Rattle.sonic_parser.specs.declared.container.Next.TheVariants.{Item, End}
 abbrev pub IsEnd : List ℕ → Kind → ℕ → ℕ → Type 0
 IsEnd t kind e j = (byte t (after_space t e) ≡ closing kind) × (j ≡ after_space t e + 1)
 
--- after the item whose value ends at e a comma comes, and the next item is due at h
+-- after the item whose value ends at e a comma comes, and the next item is expected at h
 abbrev pub IsSeparated : List ℕ → ℕ → ℕ → Type 0
 IsSeparated t e h = (byte t (after_space t e) ≡ 44) × (h ≡ after_space t (after_space t e + 1))
 
@@ -20,12 +20,12 @@ IsSeparated t e h = (byte t (after_space t e) ≡ 44) × (h ≡ after_space t (a
 abbrev pub IsSeparatorFault : List ℕ → Kind → ℕ → Stop → Type 0
 IsSeparatorFault t kind e s = NothingFits t e (closing kind) × (s ≡ bad t (after_space t e) (code_after_item kind))
 
--- after the bracket at i the first item is due, or the closing bracket comes
+-- after the bracket at i the first item is expected, or the closing bracket comes
 abbrev pub IsFirst : List ℕ → Kind → ℕ → Next → Type 0
 IsFirst t kind i (Item h) = (i < h) × (h ≤ length t) × (h ≡ after_space t (i + 1)) × (byte t h ≢ closing kind)
 IsFirst t kind i (End j) = (i < j) × (j ≤ length t) × IsEnd t kind (i + 1) j
 
--- after the item whose value ends at e the next one is due, or the closing bracket comes
+-- after the item whose value ends at e the next one is expected, or the closing bracket comes
 abbrev pub IsNext : List ℕ → Kind → ℕ → Next → Type 0
 IsNext t kind e (Item h) = (e < h) × (h ≤ length t) × IsSeparated t e h
 IsNext t kind e (End j) = (e < j) × (j ≤ length t) × IsEnd t kind e j

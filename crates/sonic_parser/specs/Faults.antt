@@ -12,7 +12,7 @@ abbrev pub IsStopFor : (Stop → Type 0) → Fault → Type 0
 IsStopFor Says OutOfMemory = Unit {0}
 IsStopFor Says (At s) = Says s
 
--- the error that tells a fault of the text
+-- the error that reports a fault of the text
 abbrev pub IsErrorOf : List ℕ → Fault → Error → Type 0
 IsErrorOf t OutOfMemory e = IsPlainError e NoMemory
 IsErrorOf t (At s) e = IsErrorAt e s.code t s.place

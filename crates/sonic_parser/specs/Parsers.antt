@@ -13,12 +13,12 @@ use Rattle.sonic_text.specs.Faults.{IsFault}
 use Rattle.sonic_parser.specs.declared.status.ParseStatus.{ParseStatus}
 use Rattle.sonic_parser.specs.declared.status.ParseStatus.TheVariants.{HasEscaped}
 
--- a text, the place in it that is read next, the reader's mark, whether the text came as bytes that may be no UTF-8, and whether strings
--- are read in the lossy way, which takes surrogate escapes that don't stand in pairs
+-- a text, the place in it that is read next, the reader's first invalid byte, whether the text came as bytes that may be no UTF-8, and whether strings
+-- are read in the lossy way, which takes surrogate escapes that aren't in pairs
 pub record Parsing : Type 0 where
   pub text : List ℕ
   pub place : ℕ
-  pub mark : ℕ
+  pub next_invalid : ℕ
   pub is_bytes : Bool
   pub lossy : Bool
 
@@ -26,18 +26,18 @@ pub record Parsing : Type 0 where
 abbrev pub moved : Parsing → ℕ → Parsing
 moved parser place = record parser { place = place }
 
--- the place where the next value is due
-abbrev pub due : Parsing → ℕ
-due parser = after_space parser.text parser.place
+-- the place where the next value is expected
+abbrev pub value_start : Parsing → ℕ
+value_start parser = after_space parser.text parser.place
 
--- the value that was due was skipped, and this is its text
+-- the value that was expected was skipped, and this is its text
 pub record IsSkipped (before now : Parsing) (bytes : List ℕ) (needs : ParseStatus) : Type 0 where
-  pub value : IsValue before.lossy before.text (due before) now.place
-  pub span : bytes ≡ slice_range before.text (due before) now.place
-  pub status : (needs ≡ HasEscaped) ↔ IsEscapedString before.text (due before) now.place
+  pub value : IsValue before.lossy before.text (value_start before) now.place
+  pub span : bytes ≡ slice_range before.text (value_start before) now.place
+  pub status : (needs ≡ HasEscaped) ↔ IsEscapedString before.text (value_start before) now.place
   pub cursor : now ≡ moved before now.place
 
--- what is due isn't there, for this reason, and the parser has come to the place of the fault
+-- what is expected isn't there, for this reason, and the parser has come to the place of the fault
 pub record IsStopped (Fails : Stop → Type 0) (before now : Parsing) (e : Error) : Type 0 where
   pub stop : Stop
   pub fault : Fails stop
@@ -48,22 +48,22 @@ pub record IsStopped (Fails : Stop → Type 0) (before now : Parsing) (e : Error
 abbrev pub IsFilledContainer : List ℕ → ℕ → Type 0
 IsFilledContainer t i = (kind : Kind) × (byte t i ≡ opening kind) × (byte t (after_space t (i + 1)) ≢ closing kind)
 
--- there is no memory to skip the container with items that is due, and the parser is where it was
+-- there is no memory to skip the container with items that is expected, and the parser is where it was
 pub record IsOutOfMemory (before now : Parsing) (e : Error) : Type 0 where
-  pub container : IsFilledContainer before.text (due before)
+  pub container : IsFilledContainer before.text (value_start before)
   pub error : IsPlainError e NoMemory
   pub cursor : now ≡ before
 
--- no value was skipped, as it has a fault, or for want of memory
+-- no value was skipped, as it has a fault, or by running out of memory
 abbrev pub IsUnskipped : Parsing → Parsing → Error → Type 0
-IsUnskipped before now e = IsStopped (IsFault before.lossy before.text (due before)) before now e ⊎ IsOutOfMemory before now e
+IsUnskipped before now e = IsStopped (IsFault before.lossy before.text (value_start before)) before now e ⊎ IsOutOfMemory before now e
 
 -- the container of this kind at the cursor has a first item, which is at the cursor now
 pub record IsEntered (kind : Kind) (before now : Parsing) : Type 0 where
-  pub due : now.place ≡ after_space before.text (before.place + 1)
+  pub value_start : now.place ≡ after_space before.text (before.place + 1)
   pub item : byte before.text now.place ≢ closing kind
 
--- the key at the cursor was passed with its colon, and the member's value is due at the cursor now
+-- the key at the cursor was passed with its colon, and the member's value is expected at the cursor now
 pub record IsKeyPassed (before now : Parsing) (found : StringEnd) : Type 0 where
   pub bytes : List ℕ
   pub string : IsString before.lossy before.text before.place found.end bytes

@@ -1,4 +1,4 @@
--- What the loop knows that goes through a value from left to right: invariants, on which no public clause stands.
+-- What the loop knows that goes through a value from left to right: invariants, on which no public clause rests.
 use Rattle.std.specs.Prelude.{◌≡◌, ◌↔◌, ℕ, ◌<◌, ◌≤◌, Bool, List, [], ◌∷◌, ◌++◌, Option, length}
 use Rattle.sonic_text.specs.declared.kind.Kind.{Kind}
 use Rattle.sonic_text.specs.declared.kind.Kind.TheVariants.{Object}
@@ -20,12 +20,12 @@ pub record IsComplete (m : Bool) (t : List ℕ) (i : ℕ) (x : Skipped) : Type 0
   pub value : IsValue m t i x.end
   pub status : (x.status ≡ HasEscaped) ↔ IsEscapedString t i x.end
 
--- the value at i was read, or it is a container whose first item is due
+-- the value at i was read, or it is a container whose first item is expected
 abbrev pub IsBegun : Bool → List ℕ → ℕ → Begun → Type 0
 IsBegun m t i (Complete x) = IsComplete m t i x
 IsBegun m t i (Inside kind h) = (i < h) × (h ≤ length t) × ItemsFit m t kind i 0 h
 
--- of the item of this kind that is due at h the value is due at v
+-- of the item of this kind that is expected at h the value is expected at v
 pub record IsItem (m : Bool) (t : List ℕ) (kind : Kind) (h v : ℕ) : Type 0 where
   pub later : h ≤ v
   pub within : v ≤ length t
@@ -36,7 +36,7 @@ pub record IsItem (m : Bool) (t : List ℕ) (kind : Kind) (h v : ℕ) : Type 0 w
 abbrev pub IsItemFault : Bool → List ℕ → Kind → ℕ → Stop → Type 0
 IsItemFault m t kind h s = (kind ≡ Object) × IsKeyFault m t h s
 
--- a value is due at p inside open containers of these kinds of the value at i, the outermost first, and all before p fits
+-- a value is expected at p inside open containers of these kinds of the value at i, the outermost first, and all before p fits
 pub data IsOpen (m : Bool) (t : List ℕ) (i : ℕ) : ℕ → List Kind → Type 0 where
   here : {p : ℕ} {kinds : List Kind} → p ≡ i → kinds ≡ [] → IsOpen m t i p kinds
   inside : {kind : Kind} {p n h v : ℕ} {label : Option (List ℕ)} {outer kinds : List Kind} → IsOpen m t i p outer → ItemsFit m t kind p n h

@@ -1,4 +1,4 @@
--- What the fields of a `Parser` stand for.
+-- What the fields of a `Parser` denote.
 use Rattle.sonic_parser.specs.Parsers.{Parsing}
 use Rattle.sonic_parser.specs.declared.parser.Parser.TheInside.{Inside}
 
@@ -7,7 +7,7 @@ abbrev pub parsing_of : Inside → Parsing
 parsing_of parser = record {
   text = parser.read.text;
   place = parser.read.place;
-  mark = parser.read.mark;
+  next_invalid = parser.read.next_invalid;
   is_bytes = parser.read.is_bytes;
   lossy = parser.lossy;
 }

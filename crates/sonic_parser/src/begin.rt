@@ -22,7 +22,7 @@ pub(crate) struct Skipped {
 pub(crate) enum Begun {
     // The value is read.
     Complete(Skipped),
-    // It is a container of this kind, whose first item is due here.
+    // It is a container of this kind, whose first item is expected here.
     Inside(Kind, usize),
 }
 
@@ -35,7 +35,7 @@ fn plain(end: usize) -> Begun
     Begun::Complete(Skipped { end, status })
 }
 
-// Begins the string whose quote stands at a place.
+// Begins the string whose quote is at a place.
 #[inline]
 #[tactic(auto, using(crate::proofs::BeginningLemmas::beginnings))]
 fn begin_string(text: &[u8], place: usize, lossy: bool) -> Result<Begun, Stop>
@@ -49,7 +49,7 @@ fn begin_string(text: &[u8], place: usize, lossy: bool) -> Result<Begun, Stop>
     Ok(Begun::Complete(Skipped { end, status }))
 }
 
-// Begins the number that stands at a place.
+// Begins the number at a place.
 #[inline]
 #[tactic(auto, using(crate::proofs::BeginningLemmas::beginnings))]
 fn begin_number(text: &[u8], place: usize, lossy: bool) -> Result<Begun, Stop>
@@ -64,7 +64,7 @@ fn begin_number(text: &[u8], place: usize, lossy: bool) -> Result<Begun, Stop>
     }
 }
 
-// Begins the container whose bracket stands at a place.
+// Begins the container whose bracket is at a place.
 #[inline]
 #[tactic(auto, using(crate::proofs::BeginningLemmas::beginnings))]
 fn begin_container(text: &[u8], place: usize, kind: Kind) -> Begun
@@ -78,7 +78,7 @@ fn begin_container(text: &[u8], place: usize, kind: Kind) -> Begun
     }
 }
 
-// Begins the value that is due at a place.
+// Begins the value that is expected at a place.
 #[inline(always)]
 #[tactic(auto, using(crate::proofs::BeginningLemmas::beginnings))]
 pub(crate) fn begin(text: &[u8], place: usize, lossy: bool) -> Result<Begun, Stop>

@@ -13,13 +13,13 @@ use sonic_text::{Kind, Stop, StringEnd, byte_at, skip_space, stop_at, string_end
 // How a container goes on.
 #[derive(Clone, Copy)]
 pub(crate) enum Next {
-    // With an item, which is due here.
+    // With an item, which is expected here.
     Item(usize),
     // With its closing bracket, which ends here.
     End(usize),
 }
 
-// How the container goes on whose bracket stands at a place.
+// How the container goes on whose bracket is at a place.
 #[inline]
 pub(crate) fn first_item(text: &[u8], place: usize, kind: Kind) -> Next
     requires within { place ≤ length text.now }
@@ -52,14 +52,14 @@ pub(crate) fn next_item(text: &[u8], end: usize, kind: Kind) -> Result<Next, Sto
     }
 }
 
-// The key of a member, and where the member's value is due.
+// The key of a member, and where the member's value is expected.
 #[derive(Clone, Copy)]
 pub(crate) struct KeyEnd {
     pub(crate) string: StringEnd,
     pub(crate) value: usize,
 }
 
-// The key that is due at a place, with the colon after it.
+// The key that is expected at a place, with the colon after it.
 #[inline]
 #[tactic(auto, using(crate::proofs::BeginningLemmas::keys))]
 pub(crate) fn key_end(text: &[u8], place: usize, lossy: bool) -> Result<KeyEnd, Stop>

@@ -13,14 +13,14 @@ use std::alloc::{AllocError, AllocFailed};
 pub enum Fault {
     /// Memory ran out.
     OutOfMemory,
-    /// What is due at this place of the text isn't there.
+    /// What is expected at this place of the text isn't there.
     At(Stop),
 }
 
 impl Fault {
-    /// The error that tells the fault, over the text that was read.
+    /// The error that reports the fault, over the text that was read.
     ///
-    /// A stop at 1 of `[x` is an error in line 1, column 2. Want of memory is
+    /// A stop at 1 of `[x` is an error in line 1, column 2. Running out of memory is
     /// `ErrorCode::NoMemory` without a place.
     pub fn error(self, text: &[u8]) -> Error
         requires { IsStopFor (λ s. s.place ≤ length text.now) self }

@@ -22,7 +22,7 @@ use sonic_text::{Kind, Stop, StringEnd, literal_end, number_end, skip_space};
 use std::alloc::Global;
 use std::marker::Model;
 
-/// A parser that reads the values of a text one behind the other.
+/// A parser that reads the values of a text one after the other.
 ///
 /// ```text
 /// let mut parser = Parser::new(Read::from(" [1, 2] x"));
@@ -50,13 +50,13 @@ impl<'de> Model for Parser<'de> {
 }
 
 impl<'de> Parser<'de> {
-    ghost use Rattle.sonic_parser.specs.Parsers.{moved, due, IsSkipped, IsUnskipped, IsStopped, IsFilledContainer, IsOutOfMemory, IsEntered, IsKeyPassed, IsPassed};
+    ghost use Rattle.sonic_parser.specs.Parsers.{moved, value_start, IsSkipped, IsUnskipped, IsStopped, IsFilledContainer, IsOutOfMemory, IsEntered, IsKeyPassed, IsPassed};
 
-    /// A strict parser, which starts where the reader stands.
+    /// A strict parser, which starts at the reader's place.
     pub fn new(read: Read<'de>) -> Parser<'de>
         ensures text { result.text ≡ read.entry.text }
         ensures place { result.place ≡ read.entry.place }
-        ensures mark { result.mark ≡ read.entry.mark }
+        ensures next_invalid { result.next_invalid ≡ read.entry.next_invalid }
         ensures is_bytes { result.is_bytes ≡ read.entry.is_bytes }
         ensures lossy { result.lossy ≡ false }
     {
@@ -67,7 +67,7 @@ impl<'de> Parser<'de> {
         }
     }
 
-    /// The same parser, which takes surrogate escapes that don't stand in pairs.
+    /// The same parser, which takes surrogate escapes that aren't in pairs.
     pub fn utf8_lossy(self) -> Parser<'de>
         ensures { result ≡ record self.entry { lossy = true } }
     {
@@ -95,12 +95,12 @@ impl<'de> Parser<'de> {
         self.read.as_u8_slice()
     }
 
-    /// The first byte from the cursor on that is no white space, behind which the cursor moves, or
+    /// The first byte from the cursor on that is no white space, past which the cursor moves, or
     /// `None` where there is none, with the cursor at the end.
     #[inline]
     pub fn skip_space(&mut self) -> Option<u8>
-        ensures byte { SomeIff result (due self.old < length self.old.text) (byte self.old.text (due self.old)) }
-        ensures some { OnSome result (self.new ≡ moved self.old (due self.old + 1)) }
+        ensures byte { SomeIff result (value_start self.old < length self.old.text) (byte self.old.text (value_start self.old)) }
+        ensures some { OnSome result (self.new ≡ moved self.old (value_start self.old + 1)) }
         ensures none { IfNone result (self.new ≡ moved self.old (length self.old.text)) }
     {
         let byte = self.skip_space_peek()?;
@@ -111,8 +111,8 @@ impl<'de> Parser<'de> {
     /// The same byte as `skip_space` gives, with the cursor on it.
     #[inline]
     pub fn skip_space_peek(&mut self) -> Option<u8>
-        ensures byte { SomeIff result (due self.old < length self.old.text) (byte self.old.text (due self.old)) }
-        ensures moved { self.new ≡ moved self.old (due self.old) }
+        ensures byte { SomeIff result (value_start self.old < length self.old.text) (byte self.old.text (value_start self.old)) }
+        ensures moved { self.new ≡ moved self.old (value_start self.old) }
         ensures none { IfNone result (self.new.place ≡ length self.old.text) }
     {
         let place = skip_space(self.read.as_u8_slice(), self.read.index());
@@ -123,11 +123,11 @@ impl<'de> Parser<'de> {
     /// The error for what was found at the byte before the cursor, or, where the text came as bytes
     /// that aren't UTF-8, the error for that.
     ///
-    /// Behind the `x` of `[x`, `ErrorCode::InvalidJsonValue` has the offset 1.
+    /// After the `x` of `[x`, `ErrorCode::InvalidJsonValue` has the offset 1.
     pub fn error(&self, reason: ErrorCode) -> Error
-        ensures broken { self.now.mark ≢ usize.MAX
-            → IsErrorAt result ErrorCode.InvalidUTF8 self.now.text self.now.mark }
-        ensures unbroken { self.now.mark ≡ usize.MAX
+        ensures broken { self.now.next_invalid ≢ usize.MAX
+            → IsErrorAt result ErrorCode.InvalidUTF8 self.now.text self.now.next_invalid }
+        ensures unbroken { self.now.next_invalid ≡ usize.MAX
             → IsErrorAt result reason self.now.text (self.now.place - 1) }
     {
         match self.read.check_utf8_final() {
@@ -136,7 +136,7 @@ impl<'de> Parser<'de> {
         }
     }
 
-    // Moves behind what stands from one place to another, and gives it.
+    // Moves past what is from one place to another, and gives it.
     fn pass(&mut self, start: usize, end: usize) -> &'de [u8]
         requires order { start ≤ end }
         requires within { end ≤ length self.old.text }
@@ -178,13 +178,13 @@ impl<'de> Parser<'de> {
         }
     }
 
-    /// Passes the number whose first byte, `first`, stands before the cursor (RFC 8259, section 6).
+    /// Passes the number whose first byte, `first`, comes before the cursor (RFC 8259, section 6).
     ///
-    /// It is the longest number: behind the `1` of `1.2.3` it is `1.2`, with the cursor at the
+    /// It is the longest number: after the `1` of `1.2.3` it is `1.2`, with the cursor at the
     /// second dot.
     #[tactic(auto, using(crate::proofs::RefusalLemmas::refusals))]
     pub fn skip_number(&mut self, first: u8) -> Result<&'de str, Error>
-        requires behind { 0 < self.old.place }
+        requires after { 0 < self.old.place }
         requires first { byte self.old.text (self.old.place - 1) ≡ first }
         requires begins { (first ≡ 45) ⊎ IsDigit first }
         ensures number { OnOk result (IsNumber self.old.text (self.old.place - 1) self.new.place) }
@@ -205,7 +205,7 @@ impl<'de> Parser<'de> {
 
     /// Enters the container of this kind that begins at the cursor: whether it has an item.
     ///
-    /// The cursor moves to the first item, or, where there is none, behind the closing bracket: of
+    /// The cursor moves to the first item, or, where there is none, after the closing bracket: of
     /// `[ 1]` to the `1`, and of `[ ]x` to the `x`.
     #[inline]
     pub fn enter(&mut self, kind: Kind) -> bool
@@ -230,7 +230,7 @@ impl<'de> Parser<'de> {
     /// Goes on after an item of a container of this kind, whose value ended at the cursor: whether
     /// another item follows.
     ///
-    /// The cursor moves behind the comma and the white space after it to the next item, or behind
+    /// The cursor moves past the comma and the white space after it to the next item, or after
     /// the closing bracket. After an error it is where it was.
     #[inline]
     pub fn next_item(&mut self, kind: Kind) -> Result<bool, Stop>
@@ -277,7 +277,7 @@ impl<'de> Parser<'de> {
 
     /// Skips the value that begins at the cursor, however deep it is.
     ///
-    /// The cursor moves behind the value's last byte. After an error it is where it was. Only a
+    /// The cursor moves past the value's last byte. After an error it is where it was. Only a
     /// container with items takes memory, one byte for each that is open at once. What comes after
     /// the value isn't read, and nothing is said of its UTF-8.
     pub fn skip_value(&mut self, alloc: Global) -> Result<ParseStatus, Fault>
@@ -305,7 +305,7 @@ impl<'de> Parser<'de> {
         }
     }
 
-    // The end of the container that begins at the cursor, whose first item is due at a place.
+    // The end of the container that begins at the cursor, whose first item is expected at a place.
     fn close(&mut self, alloc: Global, kind: Kind, first: usize) -> Result<usize, Fault>
         requires within { first ≤ length self.old.text }
         requires item { ItemsFit self.old.lossy self.old.text kind self.old.place 0 first }
@@ -329,12 +329,12 @@ impl<'de> Parser<'de> {
         end
     }
 
-    /// Passes the value that is due, however deep it is, and gives its text.
+    /// Passes the value that is expected, however deep it is, and gives its text.
     ///
     /// The text begins with the value's first byte and ends with its last: of ` [1, 2] x` it is
     /// `[1, 2]`. Only a container with items takes memory, one byte for each that is open at once.
-    /// What stands behind the value isn't read, and nothing is said of its UTF-8. After an error
-    /// the cursor stands where the text's fault is, or, for want of memory, where it stood.
+    /// What follows the value isn't read, and nothing is said of its UTF-8. After an error
+    /// the cursor is where the text's fault is, or, where memory ran out, where it was.
     #[tactic(auto, using(crate::proofs::RefusalLemmas::refusals))]
     pub fn skip_one(&mut self, alloc: Global) -> Result<(&'de [u8], ParseStatus), Error>
         ensures ok { IfOk result (λ found. IsSkipped self.old self.new found.0.now found.1) }

@@ -1,4 +1,4 @@
--- What a reader of a path line learns from what it meets.
+-- What a reader of a path line learns from what it reads.
 use Rattle.std.proofs.Common.{◌≡◌, ◌≢◌, ◌⊎◌, inl, inr, ℕ, ◌+◌, ◌-◌, ◌<◌, ◌≤◌, List, [], ◌∷◌, ◌++◌, length, length-append, append_assoc, arith, refl, ap}
 use Rattle.std.proofs.lemmas.Bool.Decides.{nat_tests}
 use Rattle.std.proofs.lemmas.List.Sums.{prefix_len-drop_no}
@@ -81,7 +81,7 @@ inside_array : {t : List ℕ} {i j : ℕ} {path : Path} → byte t (after_space 
 inside_array some (_, means_empty b c q, s) = absurd (some c)
 inside_array some (xs, means_filled b q d is, s) = (xs, rw q at is, s)
 
--- behind the bracket of such an array there is no path yet
+-- after the bracket of such an array there is no path yet
 pub leads_first : {t : List ℕ} {i h : ℕ} {path : Path} → byte t i ≡ 91 → h ≡ after_space t (i + 1) → byte t h ≢ 93 → path ≡ [] → LeadsTo t i h path
 leads_first {t} {i} {h} b q d e = rw e (record {
   more = λ j rest r. (r.0, means_filled b q d r.1, r.2);
@@ -117,7 +117,7 @@ module _ {t : List ℕ} {i h e : ℕ} {node : Node} {path : Path} (s : LeadsTo t
       let one = node_at_one f.at x in
       elim f.follows [ inl d ↦ misfit.1 (rw one.0 at d) | inr d ↦ misfit.0 (rw one.0 at d.0) ]
 
--- nor where no node stands
+-- nor where there is no node
 pub none_here : {t : List ℕ} {i h j : ℕ} {path whole : Path} → LeadsTo t i h path → ((e : ℕ) (node : Node) → ¬ IsNodeAt t h e node) → ¬ IsNodeArray t i j whole
 none_here {j = j} {whole = whole} s never r = let f = first_of (s.only j whole r).2 in never f.end f.node f.at
 
@@ -139,7 +139,7 @@ quoted {t} {i} {j} quote v = elim (string_some strict t i quote) [
   | inr (_, f) ↦ absurd (value_never_both v (string_fault quote f))
 ]
 
--- where a value has a fault no node stands
+-- where a value has a fault there is no node
 pub fault_no_node : {t : List ℕ} {i j : ℕ} {node : Node} {s : Stop} → IsFault strict t i s → ¬ IsNodeAt t i j node
 fault_no_node f (_, m, _) = value_never_both (value_of m) f
 
@@ -150,7 +150,7 @@ text_begins (means_string s) = s.opens
 numeral_begins : {t : List ℕ} {i j : ℕ} {b : List ℕ} → Means t i j (numeral b) → (byte t i ≡ 45) ⊎ IsDigit (byte t i)
 numeral_begins (means_number n e) = number_begins n
 
--- so no node stands where another byte does
+-- so there is no node at another byte
 pub other_no_node : {t : List ℕ} {i j : ℕ} {node : Node} → byte t i ≢ 34 → byte t i ≢ 45 → ¬ IsDigit (byte t i) → ¬ IsNodeAt t i j node
 other_no_node quote minus digit (_, m, says_key) = quote (text_begins m)
 other_no_node quote minus digit (_, m, says_index k v) = elim (numeral_begins m) [ inl e ↦ minus e | inr d ↦ digit d ]

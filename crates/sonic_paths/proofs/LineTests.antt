@@ -19,7 +19,7 @@ use Rattle.sonic_paths.specs.Lines.{IsIndex, SaysNode, says_key, says_index, Say
 use Rattle.sonic_paths.proofs.Deciding.{all_three, one_of_two, denied, at_most}
 use Rattle.sonic_paths.proofs.LineNodes.{said_index, array_one}
 
--- an integer stands from i to j or not
+-- an integer is from i to j or not
 int_or_not : (t : List ℕ) (i j : ℕ) → IsInt t i j ⊎ ¬ IsInt t i j
 int_or_not t i j =
     one_of_two
@@ -46,7 +46,7 @@ node_or_none (numeral b) = elim (index_or_not b) [
 ]
 node_or_none x = inr (λ s. elim s.1 [ ])
 
--- the items behind the first, and what they say
+-- the items after the first, and what they say
 later_nodes : {l : _} {x : Tree} {xs : Items} → SomeNodes (item l x xs) → SomeNode x × SomeNodes xs
 later_nodes (_, one_more_node s r) = ((_, s), (_, r))
 

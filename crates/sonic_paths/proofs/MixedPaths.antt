@@ -37,15 +37,15 @@ mixed_with : {paths : List Path} (before q path : Path) → Contains paths (befo
 mixed_with before [] path c m = absurd m
 mixed_with before (x ∷ q) [] c m = absurd m
 mixed_with before (x ∷ q) (y ∷ path) c (inl kinds) =
-    record { front = before; node = y; rest = path; other = x; is = refl; next = record { rest = q; path = c }; kinds = kinds }
+    record { prefix = before; node = y; rest = path; other = x; is = refl; next = record { rest = q; path = c }; kinds = kinds }
 mixed_with {paths} before (x ∷ q) (y ∷ path) c (inr (e, m)) =
     let more : Contains paths (before ++ y ∷ [] ++ q) = rw (append_assoc before (y ∷ []) q, ← e) c in
     rw (append_assoc before (y ∷ []) path) at (mixed_with (before ++ y ∷ []) q path more m)
 
 -- paths that have the parts of a mix mix
-mix_of : (front : Path) (node other : Node) (rest others : Path) → is_key other ≢ is_key node → Mix (front ++ other ∷ others) (front ++ node ∷ rest)
+mix_of : (prefix : Path) (node other : Node) (rest others : Path) → is_key other ≢ is_key node → Mix (prefix ++ other ∷ others) (prefix ++ node ∷ rest)
 mix_of [] node other rest others kinds = inl kinds
-mix_of (x ∷ front) node other rest others kinds = inr (refl, mix_of front node other rest others kinds)
+mix_of (x ∷ prefix) node other rest others kinds = inr (refl, mix_of prefix node other rest others kinds)
 
 -- what is in a list is the first, or a later one
 first_or_later : (q p : Path) (paths : List Path) → Contains (q ∷ paths) p → (q ≡ p) ⊎ Contains paths p
@@ -67,5 +67,5 @@ some_or_none P (x ∷ paths) test = elim (test x) [
 pub mixed_or_not : (paths : List Path) (path : Path) → IsMixed paths path ⊎ ¬ IsMixed paths path
 mixed_or_not paths path = elim (some_or_none (λ q. Mix q path) paths (λ q. mix_or_not q path)) [
   | inl (q, c, m) ↦ inl (mixed_with [] q path c m)
-  | inr none ↦ inr (λ m. none _ m.next.path (rw m.is (mix_of m.front m.node m.other m.rest m.next.rest m.kinds)))
+  | inr none ↦ inr (λ m. none _ m.next.path (rw m.is (mix_of m.prefix m.node m.other m.rest m.next.rest m.kinds)))
 ]

@@ -3,7 +3,7 @@ use Rattle.std.proofs.Common.{◌≡◌, ℕ, List, arith, refl}
 use Rattle.sonic_paths.specs.Heads.{IsHead}
 use Rattle.sonic_paths.specs.Heads.IsHead.{blank_line, blank_end, last_line, one_more_line}
 
--- from one place on stand one list of lines and one document
+-- from one place on are one list of lines and one document
 pub head_one : {t : List ℕ} {i d e : ℕ} {lines more : List (List ℕ)} → IsHead t i lines d → IsHead t i more e → (lines ≡ more) × (d ≡ e)
 head_one (blank_line b l q) (blank_line c m p) = (refl, cc)
 head_one (blank_line b l q) (blank_end c m p) = absurd (omega arith)

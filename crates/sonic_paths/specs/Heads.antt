@@ -1,4 +1,4 @@
--- An input is a head of lines, a line of white space alone, and the document behind it.
+-- An input is a head of lines, a line of white space alone, and the document after it.
 use Rattle.std.specs.Prelude.{◌≡◌, ℕ, ◌+◌, ◌<◌, ◌≤◌, ◌==◌, Bool, not, List, [], ◌∷◌, length, drop, slice_range}
 use Rattle.std.specs.List.{prefix_len}
 use Rattle.sonic_text.specs.Places.{after_space}
@@ -19,9 +19,9 @@ line_at t i = slice_range t i (line_end t i)
 abbrev pub IsBlank : List ℕ → ℕ → Type 0
 IsBlank t i = line_end t i ≤ after_space t i
 
--- from i on stand these lines before the first blank one, and the document begins at d
+-- from i on are these lines before the first blank one, and the document begins at d
 pub data IsHead (t : List ℕ) : ℕ → List (List ℕ) → ℕ → Type 0 where
-  -- the document begins behind the blank line
+  -- the document begins after the blank line
   blank_line : {i d : ℕ} → IsBlank t i → line_end t i < length t → d ≡ line_end t i + 1 → IsHead t i [] d
   -- no line feed ends the blank line, and the document is empty
   blank_end : {i d : ℕ} → IsBlank t i → line_end t i ≡ length t → d ≡ length t → IsHead t i [] d

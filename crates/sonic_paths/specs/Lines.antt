@@ -16,7 +16,7 @@ use Rattle.sonic_paths.specs.Heads.{IsHead}
 abbrev pub IsIndex : List ℕ → Type 0
 IsIndex word = IsWholeText word × (byte word 0 ≢ 45) × (digits_value 10 word < 2 ^ 64)
 
--- the tree says this node: a string the key that it stands for, and such a number its value
+-- the tree says this node: a string the key that it denotes, and such a number its value
 pub data SaysNode : Tree → Node → Type 0 where
   says_key : {b : List ℕ} → SaysNode (text b) (key b)
   says_index : {b : List ℕ} {n : ℕ} → IsIndex b → n ≡ digits_value 10 b → SaysNode (numeral b) (index n)
@@ -26,7 +26,7 @@ pub data SayNodes : Items → Path → Type 0 where
   no_node : SayNodes no_item []
   one_more_node : {l : Option (List ℕ)} {x : Tree} {xs : Items} {node : Node} {path : Path} → SaysNode x node → SayNodes xs path → SayNodes (item l x xs) (node ∷ path)
 
--- from i to j stands an array whose items say this path
+-- from i to j is an array whose items say this path
 abbrev pub IsNodeArray : List ℕ → ℕ → ℕ → Path → Type 0
 IsNodeArray t i j path = (items : Items) × Means t i j (container Array items) × SayNodes items path
 
@@ -38,7 +38,7 @@ pub record IsNodeLine (line : List ℕ) (path : Path) : Type 0 where
   pub alone : after_space line end ≡ length line
   pub few : length path ≤ 255
 
--- behind lines of the earlier paths, each line says its path, and none mixes with one before it
+-- after lines of the earlier paths, each line says its path, and none mixes with one before it
 pub data AreLinesAfter : List Path → List (List ℕ) → List Path → Type 0 where
   no_more_lines : {earlier : List Path} → AreLinesAfter earlier [] []
   next_line : {earlier : List Path} {line : List ℕ} {lines : List (List ℕ)} {path : Path} {paths : List Path} → IsNodeLine line path → ¬ IsMixed earlier path
@@ -48,12 +48,12 @@ pub data AreLinesAfter : List Path → List (List ℕ) → List Path → Type 0 
 abbrev pub AreLines : List (List ℕ) → List Path → Type 0
 AreLines lines paths = AreLinesAfter [] lines paths
 
--- behind lines of the earlier paths, the line is bad: it says no path, or one that mixes with one of them
+-- after lines of the earlier paths, the line is bad: it says no path, or one that mixes with one of them
 pub data IsBadLine (earlier : List Path) (line : List ℕ) : Type 0 where
   says_no_path : ((path : Path) → ¬ IsNodeLine line path) → IsBadLine earlier line
   says_mixed : {path : Path} → IsNodeLine line path → IsMixed earlier path → IsBadLine earlier line
 
--- behind lines of the earlier paths, line n of these, counted from 1, is the first that is bad
+-- after lines of the earlier paths, line n of these, counted from 1, is the first that is bad
 pub data IsFirstBadAfter : List Path → List (List ℕ) → ℕ → Type 0 where
   bad_here : {earlier : List Path} {n : ℕ} {line : List ℕ} {lines : List (List ℕ)} → IsBadLine earlier line → n ≡ 1 → IsFirstBadAfter earlier (line ∷ lines) n
   bad_later : {earlier : List Path} {n m : ℕ} {line : List ℕ} {lines : List (List ℕ)} {path : Path} → IsNodeLine line path → ¬ IsMixed earlier path

@@ -1,4 +1,4 @@
--- What the fields of a `LinePath` stand for.
+-- What the fields of a `LinePath` denote.
 use Rattle.std.specs.Prelude.{List, map, string_bytes}
 use Rattle.sonic_text.specs.Paths.{Node, key, index}
 use Rattle.sonic_paths.specs.declared.path.OwnedNode.{OwnedNode}

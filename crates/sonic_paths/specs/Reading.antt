@@ -1,4 +1,4 @@
--- What the reader of a path line knows: private clauses and an invariant, on which no public clause stands.
+-- What the reader of a path line knows: private clauses and an invariant, on which no public clause rests.
 use Rattle.std.specs.Prelude.{◌≡◌, ℕ, ◌≤◌, List, ◌++◌, length}
 use Rattle.std.specs.declared.option.Option.{Option}
 use Rattle.std.specs.declared.option.Option.TheVariants.{Some, None}
@@ -11,11 +11,11 @@ use Rattle.sonic_paths.specs.declared.path.OwnedNode.{OwnedNode}
 use Rattle.sonic_paths.specs.Lines.{SaysNode, SayNodes, IsNodeArray}
 use Rattle.sonic_paths.specs.Owned.{owned_node}
 
--- from i to j stands a value that says this node
+-- from i to j is a value that says this node
 abbrev pub IsNodeAt : List ℕ → ℕ → ℕ → Node → Type 0
 IsNodeAt t i j node = (x : Tree) × Means t i j x × SaysNode x node
 
--- from h on stand items of an array that say this path, up to a closing bracket that ends at j
+-- from h on are items of an array that say this path, up to a closing bracket that ends at j
 abbrev pub AreNodesAt : List ℕ → ℕ → ℕ → Path → Type 0
 AreNodesAt t h j path = (xs : Items) × ItemsMean t Array h j xs × SayNodes xs path
 

@@ -17,7 +17,7 @@ use std::alloc::{AllocError, Global};
 /// The path that a line says, or `None` where it says none. A line ends before its line feed.
 ///
 /// A line is a JSON text in UTF-8 (RFC 8259, section 2): an array of at most 255 strings and
-/// numbers, with white space around it. A string is a key, unescaped; surrogate escapes stand in
+/// numbers, with white space around it. A string is a key, unescaped; surrogate escapes are in
 /// pairs (RFC 7493, section 2.1). A number is an index, and has no sign, no fraction and no
 /// exponent, and fits in a `usize`.
 ///
@@ -87,7 +87,7 @@ fn node(alloc: Global, parser: &mut Parser<'_>) -> Result<Option<OwnedNode>, All
     }
 }
 
-// Passes the string at the cursor, if one stands there, and gives its key.
+// Passes the string at the cursor, if one is there, and gives its key.
 fn key(alloc: Global, parser: &mut Parser<'_>) -> Result<Option<OwnedNode>, AllocError>
     requires utf8 { IsUtf8 parser.old.text }
     requires strictly { parser.old.lossy ≡ strict }
@@ -106,7 +106,7 @@ fn key(alloc: Global, parser: &mut Parser<'_>) -> Result<Option<OwnedNode>, Allo
     }
 }
 
-// The text that the string from `start` to `end`, both quotes included, stands for.
+// The text that the string from `start` to `end`, both quotes included, denotes.
 fn key_text(alloc: Global, line: &[u8], start: usize, end: usize) -> Result<String, AllocError>
     requires utf8 { IsUtf8 line.now }
     requires string { (b : List ℕ) × IsString strict line.now start end b }
@@ -114,13 +114,13 @@ fn key_text(alloc: Global, line: &[u8], start: usize, end: usize) -> Result<Stri
 {
     let mut bytes = Vec::new(alloc);
     match unescape_into(&mut bytes, line, start, end, false) {
-        // SAFETY: a string of a text in UTF-8 stands for bytes in UTF-8.
+        // SAFETY: a string of a text in UTF-8 denotes bytes in UTF-8.
         Ok(()) => Ok(unsafe { String::from_utf8_unchecked(bytes) }),
         Err(_) => Err(AllocError),
     }
 }
 
-// Passes the number at the cursor, if one stands there that is an index, and gives the index.
+// Passes the number at the cursor, if one is there that is an index, and gives the index.
 fn index(parser: &mut Parser<'_>) -> Option<OwnedNode>
     requires begins { (byte parser.old.text parser.old.place ≡ 45)
         ⊎ IsDigit (byte parser.old.text parser.old.place) }

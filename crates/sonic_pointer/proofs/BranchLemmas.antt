@@ -1,95 +1,95 @@
--- A path that leaves the tree: the new places hang below the one where it does.
+-- A path that leaves the tree: the new vertices hang below the one where it does.
 use Rattle.std.proofs.Common.{◌≡◌, ◌≢◌, ℕ, ◌+◌, ◌-◌, ◌<◌, ◌≤◌, List, [], ◌∷◌, ◌++◌, length, get_or, take, drop, map, AllPairs, Contains, insert, refl, sym, ap, ◌∙◌, subst, inl, inr, arith, append_assoc, length-append}
 use Rattle.std.proofs.lemmas.Bool.{cases_lt, cases_eq}
 use Rattle.std.proofs.lemmas.List.{get_or_push, take-append-drop, take_more, length-take-le, take_all, drop_more}
 use Rattle.std.proofs.lemmas.List.Elements.{All-weaker, All-nil, All-cons}
 use Rattle.sonic_text.specs.Paths.{Node, index, Path}
 use Rattle.sonic_pointer.specs.Paths.{HasNext}
-use Rattle.sonic_pointer.specs.Tries.{Spot, spot_at, front_at, label_at, last_node, labels, IsStep, IsBefore, IsSpot, IsTrie}
-use Rattle.sonic_pointer.proofs.PathLemmas.{HasFront, longer, same, shorter, fork, next_of_front, next_cases, orders_old, orders_none, orders_push}
+use Rattle.sonic_pointer.specs.Tries.{Spot, spot_at, prefix_at, label_at, last_node, labels, IsStep, IsBefore, IsSpot, IsTrie}
+use Rattle.sonic_pointer.proofs.PathLemmas.{HasPrefix, longer, same, shorter, fork, next_of_prefix, next_cases, orders_old, orders_none, orders_push}
 use Rattle.sonic_pointer.proofs.TrieLemmas.{Grows, IsSound, grows_of, step_more, labels_more, spot_old, append_other, first_same}
 use Rattle.sonic_pointer.proofs.InsertLemmas.{map-insert, All-insert, Contains-insert_same, Contains-insert_other, AllPairs-insert}
 
--- the path leaves the tree behind the place `at` by the node n, and the rest follows; the new places come last
-pub record IsBranched (P : List Path) (S S' : List Spot) (at place : ℕ) (p : Path) : Type 0 where
+-- the path leaves the tree after the vertex `at` by the node n, and the rest follows; the new vertices come last
+pub record IsBranched (P : List Path) (S S' : List Spot) (at position : ℕ) (p : Path) : Type 0 where
   pub n : Node
   pub rest : Path
   pub inside : at < length S
-  pub path : p ≡ front_at S at ++ n ∷ rest
-  pub fresh : ¬ HasNext P (front_at S at) n
-  pub fits : place ≤ length (labels S (spot_at S at))
-  pub before : (k : ℕ) (d : Node) → k < place → IsBefore (get_or (labels S (spot_at S at)) k d) n
-  pub behind : (k : ℕ) (d : Node) → place ≤ k → k < length (labels S (spot_at S at)) → IsBefore n (get_or (labels S (spot_at S at)) k d)
+  pub path : p ≡ prefix_at S at ++ n ∷ rest
+  pub fresh : ¬ HasNext P (prefix_at S at) n
+  pub fits : position ≤ length (labels S (spot_at S at))
+  pub before : (k : ℕ) (d : Node) → k < position → IsBefore (get_or (labels S (spot_at S at)) k d) n
+  pub after : (k : ℕ) (d : Node) → position ≤ k → k < length (labels S (spot_at S at)) → IsBefore n (get_or (labels S (spot_at S at)) k d)
   pub long : length S' ≡ length S + (length rest + 1)
   pub others : (k : ℕ) → k < length S → k ≢ at → spot_at S' k ≡ spot_at S k
-  pub here : spot_at S' at ≡ record { front = front_at S at; orders = (spot_at S at).orders; children = insert (spot_at S at).children place (length S) }
+  pub here : spot_at S' at ≡ record { prefix = prefix_at S at; orders = (spot_at S at).orders; children = insert (spot_at S at).children position (length S) }
   pub inner : (k j : ℕ) → k ≡ length S + j → j < length rest
-      → spot_at S' k ≡ record { front = front_at S at ++ n ∷ take j rest; orders = []; children = (length S + j + 1) ∷ [] }
-  pub last : (k : ℕ) → k ≡ length S + length rest → spot_at S' k ≡ record { front = p; orders = length P ∷ []; children = [] }
+      → spot_at S' k ≡ record { prefix = prefix_at S at ++ n ∷ take j rest; orders = []; children = (length S + j + 1) ∷ [] }
+  pub last : (k : ℕ) → k ≡ length S + length rest → spot_at S' k ≡ record { prefix = p; orders = length P ∷ []; children = [] }
 
-branched_grows : {P : List Path} {S S' : List Spot} {at place : ℕ} {p : Path} → IsBranched P S S' at place p → Grows S S'
-branched_grows {at = at} h = grows_of at (let l = h.long in omega arith) h.others (ap (λ (s : Spot). s.front) h.here)
+branched_grows : {P : List Path} {S S' : List Spot} {at position : ℕ} {p : Path} → IsBranched P S S' at position p → Grows S S'
+branched_grows {at = at} h = grows_of at (let l = h.long in omega arith) h.others (ap (λ (s : Spot). s.prefix) h.here)
 
--- no path of the list has a front of the new places
-no_front : {P : List Path} {g : Path} {n : Node} (mid : Path) → ¬ HasNext P g n → ¬ HasFront P (g ++ n ∷ mid)
-no_front mid fresh front = fresh (next_of_front mid front)
+-- no path of the list has a prefix of the new vertices
+no_prefix : {P : List Path} {g : Path} {n : Node} (mid : Path) → ¬ HasNext P g n → ¬ HasPrefix P (g ++ n ∷ mid)
+no_prefix mid fresh prefix = fresh (next_of_prefix mid prefix)
 
--- a place that was there, and isn't the one where the path leaves
-branched_known : {P : List Path} {S S' : List Spot} {at place : ℕ} {p : Path} → IsTrie P S → IsSound P S → IsBranched P S S' at place p
-    → (k : ℕ) → k < length S → k ≢ at → (m : Node) (r : Path) → p ≡ front_at S k ++ m ∷ r → HasNext P (front_at S k) m
-branched_known {P} {S} {S'} {at} {place} {p} t sound h k inside other m r e =
-    elim (fork (front_at S at) (front_at S k) h.rest r h.n m (sym h.path ∙ e)) [
-      | longer mid w ↦ sound at h.inside (front_at S k) m mid w
+-- a vertex that was there, and isn't the one where the path leaves
+branched_known : {P : List Path} {S S' : List Spot} {at position : ℕ} {p : Path} → IsTrie P S → IsSound P S → IsBranched P S S' at position p
+    → (k : ℕ) → k < length S → k ≢ at → (m : Node) (r : Path) → p ≡ prefix_at S k ++ m ∷ r → HasNext P (prefix_at S k) m
+branched_known {P} {S} {S'} {at} {position} {p} t sound h k inside other m r e =
+    elim (fork (prefix_at S at) (prefix_at S k) h.rest r h.n m (sym h.path ∙ e)) [
+      | longer mid w ↦ sound at h.inside (prefix_at S k) m mid w
       | same w q ↦ absurd (other (t.distinct k at inside h.inside w))
-      | shorter mid w ↦ absurd (h.fresh (sound k inside (front_at S at) h.n mid w))
+      | shorter mid w ↦ absurd (h.fresh (sound k inside (prefix_at S at) h.n mid w))
     ]
 
-branched_other : {P : List Path} {S S' : List Spot} {at place : ℕ} {p : Path} → IsSound P S → IsBranched P S S' at place p
-    → (k : ℕ) → k < length S → p ≢ front_at S k
-branched_other {S = S} {at = at} sound h k inside e = h.fresh (sound k inside (front_at S at) h.n h.rest (sym e ∙ h.path))
+branched_other : {P : List Path} {S S' : List Spot} {at position : ℕ} {p : Path} → IsSound P S → IsBranched P S S' at position p
+    → (k : ℕ) → k < length S → p ≢ prefix_at S k
+branched_other {S = S} {at = at} sound h k inside e = h.fresh (sound k inside (prefix_at S at) h.n h.rest (sym e ∙ h.path))
 
--- the front of the new place with the number j among them
-branched_front : {P : List Path} {S S' : List Spot} {at place : ℕ} {p : Path} (h : IsBranched P S S' at place p) (k j : ℕ) → k ≡ length S + j → j < length h.rest + 1
-    → front_at S' k ≡ front_at S at ++ h.n ∷ take j h.rest
-branched_front {S = S} {at = at} h k j is l = elim (cases_eq j (length h.rest)) [
-  | inl e ↦ ap (λ (s : Spot). s.front) (h.last k (omega arith)) ∙ (h.path ∙ ap (λ r. front_at S at ++ h.n ∷ r) (sym (take_all j h.rest (omega arith))))
-  | inr e ↦ ap (λ (s : Spot). s.front) (h.inner k j is (omega arith))
+-- the prefix of the new vertex with the number j among them
+branched_prefix : {P : List Path} {S S' : List Spot} {at position : ℕ} {p : Path} (h : IsBranched P S S' at position p) (k j : ℕ) → k ≡ length S + j → j < length h.rest + 1
+    → prefix_at S' k ≡ prefix_at S at ++ h.n ∷ take j h.rest
+branched_prefix {S = S} {at = at} h k j is l = elim (cases_eq j (length h.rest)) [
+  | inl e ↦ ap (λ (s : Spot). s.prefix) (h.last k (omega arith)) ∙ (h.path ∙ ap (λ r. prefix_at S at ++ h.n ∷ r) (sym (take_all j h.rest (omega arith))))
+  | inr e ↦ ap (λ (s : Spot). s.prefix) (h.inner k j is (omega arith))
 ]
 
 last_of : (f : Path) (n : Node) → last_node (f ++ n ∷ []) ≡ n
 last_of f n = let l = length-append f (n ∷ []) in get_or_push f n (index 0) (length (f ++ n ∷ []) - 1) (omega arith)
 
 -- a new child is one step below its parent
-step_new : {S : List Spot} {f : Path} {c : ℕ} (n : Node) → c < length S → front_at S c ≡ f ++ n ∷ [] → (label_at S c ≡ n) × IsStep S f c
+step_new : {S : List Spot} {f : Path} {c : ℕ} (n : Node) → c < length S → prefix_at S c ≡ f ++ n ∷ [] → (label_at S c ≡ n) × IsStep S f c
 step_new {S} {f} {c} n inside e =
     let l : label_at S c ≡ n = ap last_node e ∙ last_of f n in
     (l, record { below = inside; is = e ∙ ap (λ m. f ++ m ∷ []) (sym l) })
 
--- the place where the path leaves
-branched_here : {P : List Path} {S S' : List Spot} {at place : ℕ} {p : Path} → IsTrie P S → IsBranched P S S' at place p
-    → IsSpot (P ++ p ∷ []) S' (record { front = front_at S at; orders = (spot_at S at).orders; children = insert (spot_at S at).children place (length S) })
-branched_here {P} {S} {S'} {at} {place} {p} t h =
+-- the vertex where the path leaves
+branched_here : {P : List Path} {S S' : List Spot} {at position : ℕ} {p : Path} → IsTrie P S → IsBranched P S S' at position p
+    → IsSpot (P ++ p ∷ []) S' (record { prefix = prefix_at S at; orders = (spot_at S at).orders; children = insert (spot_at S at).children position (length S) })
+branched_here {P} {S} {S'} {at} {position} {p} t h =
     let g = branched_grows h in
     let s = t.all at h.inside in
     let long = h.long in
-    let new = step_new {S = S'} {f = front_at S at} {c = length S} h.n (omega arith) (branched_front h (length S) 0 (omega arith) (omega arith)) in
+    let new = step_new {S = S'} {f = prefix_at S at} {c = length S} h.n (omega arith) (branched_prefix h (length S) 0 (omega arith) (omega arith)) in
     let old : labels S' (spot_at S at) ≡ labels S (spot_at S at) = labels_more (spot_at S at) g s.steps in
-    let e : map (label_at S') (insert (spot_at S at).children place (length S)) ≡ insert (labels S (spot_at S at)) place h.n =
-    map-insert (label_at S') (spot_at S at).children place (length S) ∙ (ap (λ l. insert l place (label_at S' (length S))) old ∙ ap (insert (labels S (spot_at S at)) place) new.0) in
+    let e : map (label_at S') (insert (spot_at S at).children position (length S)) ≡ insert (labels S (spot_at S at)) position h.n =
+    map-insert (label_at S') (spot_at S at).children position (length S) ∙ (ap (λ l. insert l position (label_at S' (length S))) old ∙ ap (insert (labels S (spot_at S at)) position) new.0) in
     record {
-      orders = orders_old p (λ q. append_other (front_at S at) h.rest h.n (sym q ∙ h.path)) s.orders;
-      steps = All-insert (IsStep S' (front_at S at)) (spot_at S at).children place (length S) new.1
-          (All-weaker (IsStep S (front_at S at)) (IsStep S' (front_at S at)) (λ c x. step_more g x) (spot_at S at).children s.steps);
-      sorted = subst (AllPairs IsBefore) (sym e) (AllPairs-insert IsBefore (labels S (spot_at S at)) place h.n h.fits s.sorted h.before h.behind);
+      orders = orders_old p (λ q. append_other (prefix_at S at) h.rest h.n (sym q ∙ h.path)) s.orders;
+      steps = All-insert (IsStep S' (prefix_at S at)) (spot_at S at).children position (length S) new.1
+          (All-weaker (IsStep S (prefix_at S at)) (IsStep S' (prefix_at S at)) (λ c x. step_more g x) (spot_at S at).children s.steps);
+      sorted = subst (AllPairs IsBefore) (sym e) (AllPairs-insert IsBefore (labels S (spot_at S at)) position h.n h.fits s.sorted h.before h.after);
       complete = λ m next. subst (λ l. Contains l m) (sym e) (elim (next_cases p next) [
-        | inl w ↦ Contains-insert_other (labels S (spot_at S at)) place h.n m (s.complete m w)
+        | inl w ↦ Contains-insert_other (labels S (spot_at S at)) position h.n m (s.complete m w)
         | inr w ↦
-            let q : h.n ≡ m = first_same (front_at S at) h.rest w.0 h.n m (sym h.path ∙ w.1) in
-            subst (Contains (insert (labels S (spot_at S at)) place h.n)) q (Contains-insert_same (labels S (spot_at S at)) place h.n)
+            let q : h.n ≡ m = first_same (prefix_at S at) h.rest w.0 h.n m (sym h.path ∙ w.1) in
+            subst (Contains (insert (labels S (spot_at S at)) position h.n)) q (Contains-insert_same (labels S (spot_at S at)) position h.n)
       ]);
     }
 
--- a front, the next node of the rest, and what is behind it
+-- a prefix, the next node of the rest, and what is after it
 split_rest : (g r : Path) (n : Node) (j : ℕ) → j < length r
     → (g ++ n ∷ r ≡ (g ++ n ∷ take j r) ++ get_or r j (index 0) ∷ drop (j + 1) r) × (g ++ n ∷ take (j + 1) r ≡ (g ++ n ∷ take j r) ++ get_or r j (index 0) ∷ [])
 split_rest g r n j l =
@@ -100,11 +100,11 @@ split_rest g r n j l =
       ap (λ x. g ++ n ∷ x) c ∙ sym (append_assoc g (n ∷ take j r) (get_or r j (index 0) ∷ [])),
     )
 
--- the last new place, where the path ends
-branched_last : {P : List Path} {S S' : List Spot} {at place : ℕ} {p : Path} → IsBranched P S S' at place p
-    → IsSpot (P ++ p ∷ []) S' (record { front = p; orders = length P ∷ []; children = [] })
-branched_last {P} {S} {S'} {at} {place} {p} h =
-    let none : ¬ HasFront P p = λ f. no_front h.rest h.fresh (subst (HasFront P) h.path f) in
+-- the last new vertex, where the path ends
+branched_last : {P : List Path} {S S' : List Spot} {at position : ℕ} {p : Path} → IsBranched P S S' at position p
+    → IsSpot (P ++ p ∷ []) S' (record { prefix = p; orders = length P ∷ []; children = [] })
+branched_last {P} {S} {S'} {at} {position} {p} h =
+    let none : ¬ HasPrefix P p = λ f. no_prefix h.rest h.fresh (subst (HasPrefix P) h.path f) in
     record {
       orders = orders_push p refl (orders_none P p none);
       steps = All-nil (IsStep S' p);
@@ -115,17 +115,17 @@ branched_last {P} {S} {S'} {at} {place} {p} h =
       ];
     }
 
--- a new place before the last
-branched_inner : {P : List Path} {S S' : List Spot} {at place : ℕ} {p : Path} (h : IsBranched P S S' at place p) (j : ℕ) → j < length h.rest
-    → IsSpot (P ++ p ∷ []) S' (record { front = front_at S at ++ h.n ∷ take j h.rest; orders = []; children = (length S + j + 1) ∷ [] })
-branched_inner {P} {S} {S'} {at} {place} {p} h j l =
+-- a new vertex before the last
+branched_inner : {P : List Path} {S S' : List Spot} {at position : ℕ} {p : Path} (h : IsBranched P S S' at position p) (j : ℕ) → j < length h.rest
+    → IsSpot (P ++ p ∷ []) S' (record { prefix = prefix_at S at ++ h.n ∷ take j h.rest; orders = []; children = (length S + j + 1) ∷ [] })
+branched_inner {P} {S} {S'} {at} {position} {p} h j l =
     let long = h.long in
     let m = get_or h.rest j (index 0) in
-    let f = front_at S at ++ h.n ∷ take j h.rest in
-    let parts = split_rest (front_at S at) h.rest h.n j l in
+    let f = prefix_at S at ++ h.n ∷ take j h.rest in
+    let parts = split_rest (prefix_at S at) h.rest h.n j l in
     let whole : p ≡ f ++ m ∷ drop (j + 1) h.rest = h.path ∙ parts.0 in
-    let none : ¬ HasFront P f = no_front (take j h.rest) h.fresh in
-    let below : front_at S' (length S + j + 1) ≡ f ++ m ∷ [] = branched_front h (length S + j + 1) (j + 1) (omega arith) (omega arith) ∙ parts.1 in
+    let none : ¬ HasPrefix P f = no_prefix (take j h.rest) h.fresh in
+    let below : prefix_at S' (length S + j + 1) ≡ f ++ m ∷ [] = branched_prefix h (length S + j + 1) (j + 1) (omega arith) (omega arith) ∙ parts.1 in
     let new = step_new {S = S'} {f = f} {c = length S + j + 1} m (omega arith) below in
     record {
       orders = orders_old p (λ q. append_other f (drop (j + 1) h.rest) m (sym q ∙ whole)) (orders_none P f none);
@@ -139,33 +139,33 @@ branched_inner {P} {S} {S'} {at} {place} {p} h j l =
       ];
     }
 
--- it is the front of no place that was there
-branched_new : {P : List Path} {S S' : List Spot} {at place : ℕ} {p : Path} → IsSound P S → (h : IsBranched P S S' at place p) (i k : ℕ)
-    → i < length S → length S ≤ k → k < length S' → front_at S' i ≢ front_at S' k
+-- it is the prefix of no vertex that was there
+branched_new : {P : List Path} {S S' : List Spot} {at position : ℕ} {p : Path} → IsSound P S → (h : IsBranched P S S' at position p) (i k : ℕ)
+    → i < length S → length S ≤ k → k < length S' → prefix_at S' i ≢ prefix_at S' k
 branched_new {S = S} {at = at} sound h i k inside low high e =
     let long = h.long in
-    let w = sym ((branched_grows h).fronts i inside) ∙ (e ∙ branched_front h k (k - length S) (omega arith) (omega arith)) in
-    h.fresh (sound i inside (front_at S at) h.n (take (k - length S) h.rest) w)
+    let w = sym ((branched_grows h).prefixes i inside) ∙ (e ∙ branched_prefix h k (k - length S) (omega arith) (omega arith)) in
+    h.fresh (sound i inside (prefix_at S at) h.n (take (k - length S) h.rest) w)
 
--- nor of another new place
-branched_apart : {P : List Path} {S S' : List Spot} {at place : ℕ} {p : Path} → (h : IsBranched P S S' at place p) (i k : ℕ)
-    → length S ≤ i → i < length S' → length S ≤ k → k < length S' → front_at S' i ≡ front_at S' k → i ≡ k
-branched_apart {P} {S} {S'} {at} {place} {p} h i k li hi lk hk e =
+-- nor of another new vertex
+branched_apart : {P : List Path} {S S' : List Spot} {at position : ℕ} {p : Path} → (h : IsBranched P S S' at position p) (i k : ℕ)
+    → length S ≤ i → i < length S' → length S ≤ k → k < length S' → prefix_at S' i ≡ prefix_at S' k → i ≡ k
+branched_apart {P} {S} {S'} {at} {position} {p} h i k li hi lk hk e =
     let long = h.long in
-    let w = ap length (sym (branched_front h i (i - length S) (omega arith) (omega arith)) ∙ (e ∙ branched_front h k (k - length S) (omega arith) (omega arith))) in
-    let a = length-append (front_at S at) (h.n ∷ take (i - length S) h.rest) in
-    let b = length-append (front_at S at) (h.n ∷ take (k - length S) h.rest) in
+    let w = ap length (sym (branched_prefix h i (i - length S) (omega arith) (omega arith)) ∙ (e ∙ branched_prefix h k (k - length S) (omega arith) (omega arith))) in
+    let a = length-append (prefix_at S at) (h.n ∷ take (i - length S) h.rest) in
+    let b = length-append (prefix_at S at) (h.n ∷ take (k - length S) h.rest) in
     let c = length-take-le (i - length S) h.rest (omega arith) in
     let d = length-take-le (k - length S) h.rest (omega arith) in
     omega arith
 
-pub trie_branched : {P : List Path} {S S' : List Spot} {at place : ℕ} {p : Path} → IsTrie P S → IsSound P S → IsBranched P S S' at place p → IsTrie (P ++ p ∷ []) S'
-trie_branched {P} {S} {S'} {at} {place} {p} t sound h =
+pub trie_branched : {P : List Path} {S S' : List Spot} {at position : ℕ} {p : Path} → IsTrie P S → IsSound P S → IsBranched P S S' at position p → IsTrie (P ++ p ∷ []) S'
+trie_branched {P} {S} {S'} {at} {position} {p} t sound h =
     let g = branched_grows h in
     let long = h.long in
     record {
       some = let b = t.some in omega arith;
-      root = g.fronts 0 t.some ∙ t.root;
+      root = g.prefixes 0 t.some ∙ t.root;
       all = λ k inside. elim (cases_lt k (length S)) [
         | inl i ↦ elim (cases_eq k at) [
           | inl e ↦ subst (IsSpot (P ++ p ∷ []) S') (sym h.here ∙ ap (spot_at S') (sym e)) (branched_here t h)
@@ -179,7 +179,7 @@ trie_branched {P} {S} {S'} {at} {place} {p} t sound h =
       ];
       distinct = λ i j a b e. elim (cases_lt i (length S)) [
         | inl x ↦ elim (cases_lt j (length S)) [
-          | inl y ↦ t.distinct i j x y (sym (g.fronts i x) ∙ (e ∙ g.fronts j y))
+          | inl y ↦ t.distinct i j x y (sym (g.prefixes i x) ∙ (e ∙ g.prefixes j y))
           | inr y ↦ absurd (branched_new sound h i j x y b e)
         ]
         | inr x ↦ elim (cases_lt j (length S)) [

@@ -1,4 +1,4 @@
--- One more element of a list, at a place inside it.
+-- One more element of a list, at a position inside it.
 use Rattle.std.proofs.Common.{◌≡◌, ℕ, ◌+◌, ◌-◌, ◌<◌, ◌≤◌, List, [], ◌∷◌, ◌++◌, length, get_or, take, drop, map, All, AllPairs, Contains, insert, refl, sym, ap, ◌∙◌, subst, inl, inr, arith}
 use Rattle.std.proofs.lemmas.Bool.{cases_order}
 use Rattle.std.proofs.lemmas.List.{take-map, drop-map, map-append, take-append-drop}
@@ -17,18 +17,18 @@ Contains-insert_same xs i x = Contains-append_right (take i xs) (x ∷ drop i xs
 pub Contains-insert_other : {X : Type 0} (xs : List X) (i : ℕ) (x y : X) → Contains xs y → Contains (insert xs i x) y
 Contains-insert_other xs i x y h =
     elim (Contains-append_cases (take i xs) (drop i xs) y (subst (λ l. Contains l y) (sym (take-append-drop i xs)) h)) [
-      | inl front ↦ Contains-append_left (take i xs) (x ∷ drop i xs) y front
+      | inl prefix ↦ Contains-append_left (take i xs) (x ∷ drop i xs) y prefix
       | inr back ↦ Contains-append_right (take i xs) (x ∷ drop i xs) y (Contains-append_right (x ∷ []) (drop i xs) y back)
     ]
 
 -- the element at k is an earlier one, the new one, or a later one
-pub data PlacedAt {X : Type 0} (xs : List X) (i : ℕ) (x : X) (k : ℕ) (d : X) : Type 0 where
-  earlier : k < i → get_or (insert xs i x) k d ≡ get_or xs k d → PlacedAt xs i x k d
-  new : k ≡ i → get_or (insert xs i x) k d ≡ x → PlacedAt xs i x k d
-  later : i < k → get_or (insert xs i x) k d ≡ get_or xs (k - 1) d → PlacedAt xs i x k d
+pub data IsAtVertex {X : Type 0} (xs : List X) (i : ℕ) (x : X) (k : ℕ) (d : X) : Type 0 where
+  earlier : k < i → get_or (insert xs i x) k d ≡ get_or xs k d → IsAtVertex xs i x k d
+  new : k ≡ i → get_or (insert xs i x) k d ≡ x → IsAtVertex xs i x k d
+  later : i < k → get_or (insert xs i x) k d ≡ get_or xs (k - 1) d → IsAtVertex xs i x k d
 
-pub placed_at : {X : Type 0} (xs : List X) (i : ℕ) (x : X) (k : ℕ) (d : X) → i ≤ length xs → PlacedAt xs i x k d
-placed_at xs i x k d l =
+pub at_vertex : {X : Type 0} (xs : List X) (i : ℕ) (x : X) (k : ℕ) (d : X) → i ≤ length xs → IsAtVertex xs i x k d
+at_vertex xs i x k d l =
     elim (cases_order k i) [
       | inl e ↦ new e (ap (λ j. get_or (insert xs i x) j d) e ∙ get_or-insert_at xs i x d l)
       | inr (inl below) ↦ earlier below (get_or-insert_below xs i x d k below l)
@@ -40,21 +40,21 @@ placed_at xs i x k d l =
 -- an element goes between those that it follows and those that it precedes
 pub AllPairs-insert : {X : Type 0} (R : X → X → Type 0) (xs : List X) (i : ℕ) (x : X) → i ≤ length xs → AllPairs R xs
     → ((k : ℕ) (d : X) → k < i → R (get_or xs k d) x) → ((k : ℕ) (d : X) → i ≤ k → k < length xs → R x (get_or xs k d)) → AllPairs R (insert xs i x)
-AllPairs-insert {X} R xs i x l all before behind a b d ab bl =
+AllPairs-insert {X} R xs i x l all before after a b d ab bl =
     let long = length-insert xs i x l in
     let end : b < length xs + 1 = omega arith in
-    elim (placed_at xs i x a d l) [
-      | earlier ai ea ↦ elim (placed_at xs i x b d l) [
+    elim (at_vertex xs i x a d l) [
+      | earlier ai ea ↦ elim (at_vertex xs i x b d l) [
         | earlier bi eb ↦ rw (ea, eb) (all a b d ab (omega arith))
         | new bi eb ↦ rw (ea, eb) (before a d ai)
         | later bi eb ↦ rw (ea, eb) (all a (b - 1) d (omega arith) (omega arith))
       ]
-      | new ai ea ↦ elim (placed_at xs i x b d l) [
+      | new ai ea ↦ elim (at_vertex xs i x b d l) [
         | earlier bi eb ↦ absurd (omega arith)
         | new bi eb ↦ absurd (omega arith)
-        | later bi eb ↦ rw (ea, eb) (behind (b - 1) d (omega arith) (omega arith))
+        | later bi eb ↦ rw (ea, eb) (after (b - 1) d (omega arith) (omega arith))
       ]
-      | later ai ea ↦ elim (placed_at xs i x b d l) [
+      | later ai ea ↦ elim (at_vertex xs i x b d l) [
         | earlier bi eb ↦ absurd (omega arith)
         | new bi eb ↦ absurd (omega arith)
         | later bi eb ↦ rw (ea, eb) (all (a - 1) (b - 1) d (omega arith) (omega arith))

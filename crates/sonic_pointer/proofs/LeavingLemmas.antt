@@ -5,66 +5,66 @@ use Rattle.std.proofs.lemmas.Option.{slice_get_within, get_or_from_slice_get}
 use Rattle.sonic_text.specs.Paths.{Node, index, Path}
 use Rattle.sonic_pointer.specs.Nodes.{is_key}
 use Rattle.sonic_pointer.specs.Paths.{HasNext, IsMixed}
-use Rattle.sonic_pointer.specs.Tries.{spot_at, front_at, IsGap}
+use Rattle.sonic_pointer.specs.Tries.{spot_at, prefix_at, IsGap}
 use Rattle.sonic_pointer.specs.Shapes.{entries_of, shape_spots, shape_labels, AreKids, IsShape, HasOtherKind, IsLeaving}
 use Rattle.sonic_pointer.specs.declared.shape.Shape.{Shape}
 use Rattle.sonic_pointer.proofs.TreeLemmas.{left_parts, gap_fresh, kinds_same}
-use Rattle.sonic_pointer.proofs.PlaceLemmas.{spot_here, pure_ended, pure_left}
+use Rattle.sonic_pointer.proofs.VertexLemmas.{spot_here, pure_ended, pure_left}
 
 -- one node down
-pub step_down : (shape : Shape) (at i depth : ℕ) (p : Path) (kids : List ℕ) → AreKids shape at kids → front_at (shape_spots shape) at ≡ take depth p → depth < length p
+pub step_down : (shape : Shape) (at i depth : ℕ) (p : Path) (kids : List ℕ) → AreKids shape at kids → prefix_at (shape_spots shape) at ≡ take depth p → depth < length p
     → slice_get (shape_labels shape at) i ≡ Some (get_or p depth (index 0))
-    → (i < length kids) × (get_or kids i 0 < length (entries_of shape)) × (front_at (shape_spots shape) (get_or kids i 0) ≡ take (depth + 1) p)
-step_down shape at i depth p kids are front short found =
+    → (i < length kids) × (get_or kids i 0 < length (entries_of shape)) × (prefix_at (shape_spots shape) (get_or kids i 0) ≡ take (depth + 1) p)
+step_down shape at i depth p kids are prefix short found =
     let n = get_or p depth (index 0) in
     let l : i < length kids = omega (arith, slice_get_within (shape_labels shape at) i n found, are.count) in
     let label = sym (are.nodes i (index 0) l) ∙ get_or_from_slice_get (shape_labels shape at) i n (index 0) found in
-    let down = ap (λ m. front_at (shape_spots shape) at ++ m ∷ []) label ∙ (ap (λ f. f ++ n ∷ []) front ∙ sym (take_more p depth (index 0) short)) in
+    let down = ap (λ m. prefix_at (shape_spots shape) at ++ m ∷ []) label ∙ (ap (λ f. f ++ n ∷ []) prefix ∙ sym (take_more p depth (index 0) short)) in
     (l, are.below i l, (are.steps i l).is ∙ down)
 
 -- the path mixes
-pub mixed_here : (shape : Shape) (at depth : ℕ) (p : Path) (n : Node) → front_at (shape_spots shape) at ≡ take depth p → depth < length p → get_or p depth (index 0) ≡ n
+pub mixed_here : (shape : Shape) (at depth : ℕ) (p : Path) (n : Node) → prefix_at (shape_spots shape) at ≡ take depth p → depth < length p → get_or p depth (index 0) ≡ n
     → HasOtherKind shape at n → IsMixed shape.paths.now p
-mixed_here shape at depth p n front short e h = record {
-  front = take depth p;
+mixed_here shape at depth p n prefix short e h = record {
+  prefix = take depth p;
   node = get_or p depth (index 0);
   rest = drop (depth + 1) p;
   other = h.other;
   is = left_parts p depth short;
-  next = subst (λ f. HasNext shape.paths.now f h.other) front h.next;
+  next = subst (λ f. HasNext shape.paths.now f h.other) prefix h.next;
   kinds = λ k. h.kinds (k ∙ ap is_key e);
 }
 
 -- or leaves the tree
-pub leaving_here : (shape : Shape) (at depth place : ℕ) (p : Path) (n : Node) → IsShape shape → at < length (entries_of shape) → front_at (shape_spots shape) at ≡ take depth p → depth < length p
-    → get_or p depth (index 0) ≡ n → IsGap (shape_labels shape at) n place → ¬ HasOtherKind shape at n → IsLeaving shape.paths.now (entries_of shape) p (record { at = at; depth = depth; place = place })
-leaving_here shape at depth place p n tree inside front short e gap pure =
+pub leaving_here : (shape : Shape) (at depth position : ℕ) (p : Path) (n : Node) → IsShape shape → at < length (entries_of shape) → prefix_at (shape_spots shape) at ≡ take depth p → depth < length p
+    → get_or p depth (index 0) ≡ n → IsGap (shape_labels shape at) n position → ¬ HasOtherKind shape at n → IsLeaving shape.paths.now (entries_of shape) p (record { at = at; depth = depth; position = position })
+leaving_here shape at depth position p n tree inside prefix short e gap pure =
     let E = entries_of shape in
     let P = shape.paths.now in
-    let g = front_at (shape_spots shape) at in
+    let g = prefix_at (shape_spots shape) at in
     let fresh : ¬ HasNext P (take depth p) (get_or p depth (index 0)) = λ next.
-    gap_fresh P (shape_spots shape) (spot_at (shape_spots shape) at) n place (spot_here P E tree at inside) gap
-    (subst (HasNext P g) e (subst (λ f. HasNext P f (get_or p depth (index 0))) (sym front) next)) in
+    gap_fresh P (shape_spots shape) (spot_at (shape_spots shape) at) n position (spot_here P E tree at inside) gap
+    (subst (HasNext P g) e (subst (λ f. HasNext P f (get_or p depth (index 0))) (sym prefix) next)) in
     let kind : (m : Node) → HasNext P (take depth p) m → is_key m ≡ is_key (get_or p depth (index 0)) = λ m next.
     elim (kinds_same (is_key m) (is_key (get_or p depth (index 0)))) [
       | inl same ↦ same
-      | inr differ ↦ absurd (pure (record { other = m; next = subst (λ f. HasNext P f m) (sym front) next; kinds = λ k. differ (k ∙ ap is_key (sym e)) }))
+      | inr differ ↦ absurd (pure (record { other = m; next = subst (λ f. HasNext P f m) (sym prefix) next; kinds = λ k. differ (k ∙ ap is_key (sym e)) }))
     ] in
     record {
       inside = inside;
       deep = omega arith;
-      front = front;
-      gap = λ _. subst (λ x. IsGap (shape_labels shape at) x place) (sym e) gap;
-      unmixed = pure_left P E tree at inside p (take depth p) (get_or p depth (index 0)) (drop (depth + 1) p) front (left_parts p depth short) fresh kind;
+      prefix = prefix;
+      gap = λ _. subst (λ x. IsGap (shape_labels shape at) x position) (sym e) gap;
+      unmixed = pure_left P E tree at inside p (take depth p) (get_or p depth (index 0)) (drop (depth + 1) p) prefix (left_parts p depth short) fresh kind;
     }
 
 -- or ends in it
-pub ending_here : (shape : Shape) (at depth : ℕ) (p : Path) → IsShape shape → at < length (entries_of shape) → front_at (shape_spots shape) at ≡ take depth p → depth ≡ length p
-    → IsLeaving shape.paths.now (entries_of shape) p (record { at = at; depth = depth; place = 0 })
-ending_here shape at depth p tree inside front end = record {
+pub ending_here : (shape : Shape) (at depth : ℕ) (p : Path) → IsShape shape → at < length (entries_of shape) → prefix_at (shape_spots shape) at ≡ take depth p → depth ≡ length p
+    → IsLeaving shape.paths.now (entries_of shape) p (record { at = at; depth = depth; position = 0 })
+ending_here shape at depth p tree inside prefix end = record {
   inside = inside;
   deep = omega arith;
-  front = front;
+  prefix = prefix;
   gap = λ short. absurd (omega arith);
-  unmixed = pure_ended shape.paths.now (entries_of shape) tree at inside p (front ∙ take_all depth p (omega arith));
+  unmixed = pure_ended shape.paths.now (entries_of shape) tree at inside p (prefix ∙ take_all depth p (omega arith));
 }

@@ -3,7 +3,7 @@ mod InsertLemmas
 mod LeavingLemmas
 mod NodeLemmas
 mod PathLemmas
-mod PlaceLemmas
+mod VertexLemmas
 mod ShapeLemmas
 pub mod TreeLemmas
 mod TrieLemmas

@@ -33,19 +33,19 @@ node_cmp_same (key a) (index b) e = absurd (cc)
 node_cmp_same (index a) (key b) e = absurd (cc)
 node_cmp_same (index a) (index b) e = let same = nat_cmp-IsAntisymmetric a b e in cc
 
--- a node doesn't stand before itself
+-- a node doesn't come before itself
 pub before_other : (a b : Node) → IsBefore a b → a ≢ b
 before_other a b h e = let itself = node_cmp_itself b in let h' : node_cmp b b ≡ Less = rw e at h in absurd (cc)
 
--- the one that isn't less and isn't equal is behind
-pub behind_of : (a b : Node) → node_cmp a b ≡ Greater → IsBefore b a
-behind_of a b h = let back = node_cmp_back b a in rw (back, h)
+-- the one that isn't less and isn't equal is after
+pub after_of : (a b : Node) → node_cmp a b ≡ Greater → IsBefore b a
+after_of a b h = let back = node_cmp_back b a in rw (back, h)
 
--- in a sorted list, a node behind the element at m is behind all up to there
-pub behind_middle : (xs : List Node) (n v : Node) (m : ℕ) → AllPairs IsBefore xs → m < length xs → ((d : Node) → get_or xs m d ≡ v) → node_cmp n v ≡ Greater
+-- in a sorted list, a node after the element at m is after all up to there
+pub after_middle : (xs : List Node) (n v : Node) (m : ℕ) → AllPairs IsBefore xs → m < length xs → ((d : Node) → get_or xs m d ≡ v) → node_cmp n v ≡ Greater
     → (k : ℕ) (d : Node) → k < m + 1 → IsBefore (get_or xs k d) n
-behind_middle xs n v m sorted l is e k d below =
-    let last : IsBefore v n = behind_of n v e in
+after_middle xs n v m sorted l is e k d below =
+    let last : IsBefore v n = after_of n v e in
     elim (cases_eq k m) [
       | inl same ↦ rw (same, is d) last
       | inr other ↦ before_trans (get_or xs k d) v n (subst (IsBefore (get_or xs k d)) (is d) (sorted k m d (omega arith) l)) last

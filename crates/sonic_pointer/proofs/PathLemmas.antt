@@ -1,4 +1,4 @@
--- Paths with a common front, and what one more path adds to a list.
+-- Paths with a common prefix, and what one more path adds to a list.
 use Rattle.std.proofs.Common.{◌≡◌, ◌≢◌, ◌⊎◌, ℕ, suc, zero, ◌+◌, ◌<◌, List, [], ◌∷◌, ◌++◌, length, get_or, slice_get, Some, Contains, refl, sym, ap, ◌∙◌, subst, inl, inr, arith, append_assoc, append-nil}
 use Rattle.std.proofs.lemmas.List.Elements.{Contains-append_left, Contains-push, Contains-push_cases}
 use Rattle.std.proofs.lemmas.List.{get_or_push, length_push, get_or_append_left}
@@ -6,12 +6,12 @@ use Rattle.std.proofs.lemmas.Option.{slice_get_within, get_or_from_slice_get}
 use Rattle.sonic_text.specs.Paths.{Node, Path}
 use Rattle.sonic_pointer.specs.Paths.{HasNext, IsOrders}
 
--- some path begins with the nodes of the front
-pub record HasFront (paths : List Path) (front : Path) : Type 0 where
+-- some path begins with the nodes of the prefix
+pub record HasPrefix (paths : List Path) (prefix : Path) : Type 0 where
   pub rest : Path
-  pub path : Contains paths (front ++ rest)
+  pub path : Contains paths (prefix ++ rest)
 
--- one path with two fronts, each followed by a node: one front is longer, or they are equal
+-- one path with two prefixes, each followed by a node: one prefix is longer, or they are equal
 pub data Fork (g : Path) (n : Node) (f : Path) (m : Node) : Type 0 where
   longer : (mid : Path) → g ≡ f ++ m ∷ mid → Fork g n f m
   same : f ≡ g → m ≡ n → Fork g n f m
@@ -31,11 +31,11 @@ fork (x ∷ g) (y ∷ f) r s n m e =
     let tails : g ++ n ∷ r ≡ f ++ m ∷ s = cc in
     deeper heads (fork g f r s n m tails)
 
--- a front with further nodes is a front with the first of them
-pub next_of_front : {P : List Path} {f : Path} {m : Node} (mid : Path) → HasFront P (f ++ m ∷ mid) → HasNext P f m
-next_of_front {P} {f} {m} mid h = record { rest = mid ++ h.rest; path = subst (Contains P) (append_assoc f (m ∷ mid) h.rest) h.path }
+-- a prefix with further nodes is a prefix with the first of them
+pub next_of_prefix : {P : List Path} {f : Path} {m : Node} (mid : Path) → HasPrefix P (f ++ m ∷ mid) → HasNext P f m
+next_of_prefix {P} {f} {m} mid h = record { rest = mid ++ h.rest; path = subst (Contains P) (append_assoc f (m ∷ mid) h.rest) h.path }
 
--- a node that follows a front once a path is added did so before, or does so in that path
+-- a node that follows a prefix once a path is added did so before, or does so in that path
 pub next_cases : {P : List Path} {f : Path} {m : Node} (p : Path) → HasNext (P ++ p ∷ []) f m → HasNext P f m ⊎ ((r : Path) × (p ≡ f ++ m ∷ r))
 next_cases {P} {f} {m} p h =
     elim (Contains-push_cases P p (f ++ m ∷ h.rest) h.path) [
@@ -63,7 +63,7 @@ number_cases (q ∷ P) p f (suc k) e =
 pub path_of_number : (P : List Path) (f : Path) (k : ℕ) → slice_get P k ≡ Some f → Contains P f
 path_of_number P f k e = (k, slice_get_within P k f e, get_or_from_slice_get P k f f e)
 
--- the orders of a front that the new path isn't
+-- the orders of a prefix that the new path isn't
 pub orders_old : {P : List Path} {f : Path} {o : List ℕ} (p : Path) → p ≢ f → IsOrders P f o → IsOrders (P ++ p ∷ []) f o
 orders_old {P} {f} {o} p other h = record {
   rising = h.rising;
@@ -73,8 +73,8 @@ orders_old {P} {f} {o} p other h = record {
   );
 }
 
--- no path is the front
-pub orders_none : (P : List Path) (f : Path) → ¬ HasFront P f → IsOrders P f []
+-- no path is the prefix
+pub orders_none : (P : List Path) (f : Path) → ¬ HasPrefix P f → IsOrders P f []
 orders_none P f none = record {
   rising = λ k l. absurd (omega arith);
   exact = λ k. (
@@ -99,7 +99,7 @@ rising_push o n below rising k l =
           rw (a, b) (below (get_or o k 0) (Rattle.std.proofs.lemmas.List.Elements.Contains-get_or o k 0 (omega arith)))
     ]
 
--- the new path is the front
+-- the new path is the prefix
 pub orders_push : {P : List Path} {f : Path} {o : List ℕ} (p : Path) → p ≡ f → IsOrders P f o → IsOrders (P ++ p ∷ []) f (o ++ length P ∷ [])
 orders_push {P} {f} {o} p e h = record {
   rising = rising_push o (length P) (λ k inside. slice_get_within P k f ((h.exact k).0 inside)) h.rising;

@@ -7,21 +7,21 @@ use Rattle.std.proofs.lemmas.List.Elements.{All-weaker, All-set, All-append, All
 use Rattle.sonic_text.specs.Paths.{Node, index, Path}
 use Rattle.sonic_pointer.specs.Nodes.{is_key}
 use Rattle.sonic_pointer.specs.Paths.{HasNext, IsMixed, IsUnmixed, IsShort}
-use Rattle.sonic_pointer.specs.Tries.{Entry, Spot, entry_at, path_at, front_of, spot_of, spots_of, spot_at, front_at, labels, IsGap, IsSpot, IsInside, IsTree, IsLine, with_order, with_child}
+use Rattle.sonic_pointer.specs.Tries.{Entry, Spot, entry_at, path_at, prefix_of, spot_of, spots_of, spot_at, prefix_at, labels, IsGap, IsSpot, IsInside, IsTree, IsLine, with_order, with_child}
 use Rattle.sonic_pointer.proofs.PathLemmas.{next_cases}
 use Rattle.sonic_pointer.proofs.TrieLemmas.{IsSound, IsEnded, trie_ended, first_same}
 use Rattle.sonic_pointer.proofs.BranchLemmas.{IsBranched, trie_branched}
 use Rattle.sonic_pointer.proofs.NodeLemmas.{before_other}
 
 pub spot_at-of : (P : List Path) (E : List Entry) (k : ℕ) → k < length E → spot_at (spots_of P E) k ≡ spot_of P (entry_at E k)
-spot_at-of P E k l = get_or-map (spot_of P) E k (record { path = 0; depth = 0; orders = []; children = [] }) (record { front = []; orders = []; children = [] }) l
+spot_at-of P E k l = get_or-map (spot_of P) E k (record { path = 0; depth = 0; orders = []; children = [] }) (record { prefix = []; orders = []; children = [] }) l
 
 pub length-spots_of : (P : List Path) (E : List Entry) → length (spots_of P E) ≡ length E
 length-spots_of P E = length-map E (spot_of P)
 
--- a front that is kept lies in its path
-sound_front : (P : List Path) (e : Entry) (f : Path) (m : Node) (r : Path) → front_of P e ≡ f ++ m ∷ r → HasNext P f m
-sound_front P e f m r is = elim (cases_lt e.path (length P)) [
+-- a prefix that is kept lies in its path
+sound_prefix : (P : List Path) (e : Entry) (f : Path) (m : Node) (r : Path) → prefix_of P e ≡ f ++ m ∷ r → HasNext P f m
+sound_prefix P e f m r is = elim (cases_lt e.path (length P)) [
   | inl l ↦
       let whole : f ++ m ∷ (r ++ drop e.depth (path_at P e.path)) ≡ path_at P e.path =
       sym (append_assoc f (m ∷ r) (drop e.depth (path_at P e.path))) ∙ (ap (λ x. x ++ drop e.depth (path_at P e.path)) (sym is) ∙ take-append-drop e.depth (path_at P e.path)) in
@@ -34,9 +34,9 @@ sound_front P e f m r is = elim (cases_lt e.path (length P)) [
 pub sound_of : (P : List Path) (E : List Entry) → IsSound P (spots_of P E)
 sound_of P E k l f m r is =
     let within : k < length E = let n = length-spots_of P E in omega arith in
-    sound_front P (entry_at E k) f m r (sym (ap (λ (s : Spot). s.front) (spot_at-of P E k within)) ∙ is)
+    sound_prefix P (entry_at E k) f m r (sym (ap (λ (s : Spot). s.prefix) (spot_at-of P E k within)) ∙ is)
 
--- one more path changes no place that was there
+-- one more path changes no vertex that was there
 path_more : (P : List Path) (p : Path) (e : Entry) → IsInside P e → (e.depth ≡ 0) ⊎ (path_at (P ++ p ∷ []) e.path ≡ path_at P e.path)
 path_more P p e inside =
     elim (cases_lt e.path (length P)) [
@@ -49,12 +49,12 @@ inside_more P p e inside = elim (path_more P p e inside) [ inl z ↦ omega arith
 
 spot_more : (P : List Path) (p : Path) (e : Entry) → IsInside P e → spot_of (P ++ p ∷ []) e ≡ spot_of P e
 spot_more P p e inside =
-    let same : front_of (P ++ p ∷ []) e ≡ front_of P e =
+    let same : prefix_of (P ++ p ∷ []) e ≡ prefix_of P e =
     elim (path_more P p e inside) [
       | inl z ↦ ap (λ d. take d (path_at (P ++ p ∷ []) e.path)) z ∙ sym (ap (λ d. take d (path_at P e.path)) z)
       | inr same ↦ ap (take e.depth) same
     ] in
-    let make : Path → Spot = λ f. record { front = f; orders = e.orders; children = e.children } in
+    let make : Path → Spot = λ f. record { prefix = f; orders = e.orders; children = e.children } in
     ap make same
 
 -- two kinds are the same or not
@@ -64,7 +64,7 @@ kinds_same true false = inr (λ e. cc)
 kinds_same false true = inr (λ e. cc)
 kinds_same false false = inl refl
 
--- a path that mixes with none keeps each front to one kind
+-- a path that mixes with none keeps each prefix to one kind
 pub unmixed_more : {P : List Path} (p : Path) → IsUnmixed P → ¬ IsMixed P p → IsUnmixed (P ++ p ∷ [])
 unmixed_more {P} p old other f a b x y =
     elim (next_cases p x) [
@@ -82,10 +82,10 @@ unmixed_more {P} p old other f a b x y =
     one_kind f n m r e next =
         elim (kinds_same (is_key n) (is_key m)) [
           | inl same ↦ same
-          | inr differ ↦ absurd (other (record { front = f; node = m; rest = r; other = n; is = e; next = next; kinds = differ }))
+          | inr differ ↦ absurd (other (record { prefix = f; node = m; rest = r; other = n; is = e; next = next; kinds = differ }))
         ]
 
--- the places once the path is added, where the entry at `at` becomes x and a line follows
+-- the vertices once the path is added, where the entry at `at` becomes x and a line follows
 module _ (P : List Path) (E : List Entry) (p : Path) (at : ℕ) (x : Entry) (line : List Entry) (tree : IsTree P E) where
   others_of : (k : ℕ) → k < length E → k ≢ at → spot_at (spots_of (P ++ p ∷ []) (set E at x ++ line)) k ≡ spot_at (spots_of P E) k
   others_of k l other =
@@ -97,16 +97,16 @@ module _ (P : List Path) (E : List Entry) (p : Path) (at : ℕ) (x : Entry) (lin
       a ∙ (ap (spot_of (P ++ p ∷ [])) b ∙ (spot_more P p (entry_at E k) (tree.inside k d l) ∙ sym (spot_at-of P E k l)))
 
   here_of : at < length E → x.path ≡ (entry_at E at).path → x.depth ≡ (entry_at E at).depth
-      → spot_at (spots_of (P ++ p ∷ []) (set E at x ++ line)) at ≡ record { front = front_at (spots_of P E) at; orders = x.orders; children = x.children }
+      → spot_at (spots_of (P ++ p ∷ []) (set E at x ++ line)) at ≡ record { prefix = prefix_at (spots_of P E) at; orders = x.orders; children = x.children }
   here_of l ep ed =
       let n = length-set E at x in
       let m = length-append (set E at x) line in
       let a = spot_at-of (P ++ p ∷ []) (set E at x ++ line) at (omega arith) in
       let d : Entry = record { path = 0; depth = 0; orders = []; children = [] } in
       let b : entry_at (set E at x ++ line) at ≡ x = get_or_append_left (set E at x) line d at (omega arith) ∙ get_or-set_same E at x d l in
-      let same : front_of (P ++ p ∷ []) x ≡ front_of (P ++ p ∷ []) (entry_at E at) = ap (λ k. take k (path_at (P ++ p ∷ []) x.path)) ed ∙ ap (λ k. take (entry_at E at).depth (path_at (P ++ p ∷ []) k)) ep in
-      let old = ap (λ (s : Spot). s.front) (spot_more P p (entry_at E at) (tree.inside at d l) ∙ sym (spot_at-of P E at l)) in
-      let make : Path → Spot = λ f. record { front = f; orders = x.orders; children = x.children } in
+      let same : prefix_of (P ++ p ∷ []) x ≡ prefix_of (P ++ p ∷ []) (entry_at E at) = ap (λ k. take k (path_at (P ++ p ∷ []) x.path)) ed ∙ ap (λ k. take (entry_at E at).depth (path_at (P ++ p ∷ []) k)) ep in
+      let old = ap (λ (s : Spot). s.prefix) (spot_more P p (entry_at E at) (tree.inside at d l) ∙ sym (spot_at-of P E at l)) in
+      let make : Path → Spot = λ f. record { prefix = f; orders = x.orders; children = x.children } in
       a ∙ (ap (spot_of (P ++ p ∷ [])) b ∙ ap make (same ∙ old))
 
   inside_of : x.path ≡ (entry_at E at).path → x.depth ≡ (entry_at E at).depth → at < length E → All (IsInside (P ++ p ∷ [])) line
@@ -117,20 +117,20 @@ module _ (P : List Path) (E : List Entry) (p : Path) (at : ℕ) (x : Entry) (lin
       let same : IsInside (P ++ p ∷ []) x = rw (ep, ed) old in
       All-append (IsInside (P ++ p ∷ [])) (set E at x) line (All-set (IsInside (P ++ p ∷ [])) E at x same (All-weaker (IsInside P) (IsInside (P ++ p ∷ [])) (λ e i. inside_more P p e i) E tree.inside)) new
 
--- the path ends at a place that is there
-pub tree_ended : (P : List Path) (E : List Entry) (p : Path) (at : ℕ) → IsTree P E → IsShort p → at < length E → front_at (spots_of P E) at ≡ p → ¬ IsMixed P p
+-- the path ends at a vertex that is there
+pub tree_ended : (P : List Path) (E : List Entry) (p : Path) (at : ℕ) → IsTree P E → IsShort p → at < length E → prefix_at (spots_of P E) at ≡ p → ¬ IsMixed P p
     → IsTree (P ++ p ∷ []) (set E at (with_order (entry_at E at) (length P)))
-tree_ended P E p at tree small l front pure =
+tree_ended P E p at tree small l prefix pure =
     let x = with_order (entry_at E at) (length P) in
     let same : set E at x ++ [] ≡ set E at x = append-nil (set E at x) in
     let S = spots_of P E in
     let S' = spots_of (P ++ p ∷ []) (set E at x ++ []) in
     let old : (spot_at S at).children ≡ (entry_at E at).children = ap (λ (s : Spot). s.children) (spot_at-of P E at l) in
     let olds : (spot_at S at).orders ≡ (entry_at E at).orders = ap (λ (s : Spot). s.orders) (spot_at-of P E at l) in
-    let make : List ℕ → List ℕ → Spot = λ o c. record { front = front_at S at; orders = o ++ length P ∷ []; children = c } in
+    let make : List ℕ → List ℕ → Spot = λ o c. record { prefix = prefix_at S at; orders = o ++ length P ∷ []; children = c } in
     let ended : IsEnded P S S' at p = record {
       inside = let n = length-spots_of P E in omega arith;
-      path = sym front;
+      path = sym prefix;
       long = let n = length-spots_of P E in let m = length-spots_of (P ++ p ∷ []) (set E at x ++ []) in let k = length-append (set E at x) [] in let j = length-set E at x in omega arith;
       others = λ k i other. others_of P E p at x [] tree k (let n = length-spots_of P E in omega arith) other;
       here = here_of P E p at x [] tree l refl refl ∙ (ap (λ o. make o (entry_at E at).children) (sym olds) ∙ ap (make (spot_at S at).orders) (sym old));
@@ -142,20 +142,20 @@ tree_ended P E p at tree small l front pure =
       unmixed = unmixed_more p tree.unmixed pure;
     })
 
--- nodes behind a front
-take_behind : (g r : Path) (n : Node) (k j : ℕ) → k ≡ length g + suc j → take k (g ++ n ∷ r) ≡ g ++ n ∷ take j r
-take_behind [] r n k j e = let f : k ≡ suc j = omega arith in ap (λ i. take i (n ∷ r)) f
-take_behind (x ∷ g) r n k j e =
+-- nodes after a prefix
+take_after : (g r : Path) (n : Node) (k j : ℕ) → k ≡ length g + suc j → take k (g ++ n ∷ r) ≡ g ++ n ∷ take j r
+take_after [] r n k j e = let f : k ≡ suc j = omega arith in ap (λ i. take i (n ∷ r)) f
+take_after (x ∷ g) r n k j e =
     let f : k ≡ suc (length g + suc j) = omega arith in
-    ap (λ i. take i (x ∷ (g ++ n ∷ r))) f ∙ ap (λ l. x ∷ l) (take_behind g r n (length g + suc j) j refl)
+    ap (λ i. take i (x ∷ (g ++ n ∷ r))) f ∙ ap (λ l. x ∷ l) (take_after g r n (length g + suc j) j refl)
 
--- a node that follows no front of a path would stand in the gap
-pub gap_fresh : (P : List Path) (S : List Spot) (s : Spot) (n : Node) (place : ℕ) → IsSpot P S s → IsGap (labels S s) n place → ¬ HasNext P s.front n
-gap_fresh P S s n place spot gap next =
+-- a node that follows no prefix of a path would be in the gap
+pub gap_fresh : (P : List Path) (S : List Spot) (s : Spot) (n : Node) (position : ℕ) → IsSpot P S s → IsGap (labels S s) n position → ¬ HasNext P s.prefix n
+gap_fresh P S s n position spot gap next =
     let at = spot.complete n next in
-    elim (cases_lt at.0 place) [
+    elim (cases_lt at.0 position) [
       | inl l ↦ before_other _ _ (gap.before at.0 n l) at.2
-      | inr l ↦ before_other _ _ (gap.behind at.0 n l at.1) (sym at.2)
+      | inr l ↦ before_other _ _ (gap.after at.0 n l at.1) (sym at.2)
     ]
 
 -- what a path is made of, where it leaves a tree at this depth
@@ -163,7 +163,7 @@ module _ (p : Path) (depth : ℕ) (short : depth < length p) where
   pub left_parts : p ≡ take depth p ++ get_or p depth (index 0) ∷ drop (depth + 1) p
   left_parts = sym (take-append-drop depth p) ∙ ap (λ l. take depth p ++ l) (drop_more p depth (index 0) short)
 
--- a line of new places
+-- a line of new vertices
 module _ (P : List Path) (E : List Entry) (p : Path) (at : ℕ) (x : Entry) (depth : ℕ) (line : List Entry) (short : depth < length p) (is_line : IsLine (length P) (length E) depth (length p - depth) line) where
   new_entry : (k j : ℕ) → k ≡ length E + j → entry_at (set E at x ++ line) k ≡ entry_at line j
   new_entry k j e =
@@ -176,7 +176,7 @@ module _ (P : List Path) (E : List Entry) (p : Path) (at : ℕ) (x : Entry) (dep
 
   new_inner : (k j : ℕ) → k ≡ length E + j → j < length p - (depth + 1)
       → spot_at (spots_of (P ++ p ∷ []) (set E at x ++ line)) k
-      ≡ record { front = take depth p ++ get_or p depth (index 0) ∷ take j (drop (depth + 1) p); orders = []; children = (length E + j + 1) ∷ [] }
+      ≡ record { prefix = take depth p ++ get_or p depth (index 0) ∷ take j (drop (depth + 1) p); orders = []; children = (length E + j + 1) ∷ [] }
   new_inner k j e l =
       let n = length-append (set E at x) line in
       let m = length-set E at x in
@@ -184,12 +184,12 @@ module _ (P : List Path) (E : List Entry) (p : Path) (at : ℕ) (x : Entry) (dep
       let a = spot_at-of (P ++ p ∷ []) (set E at x ++ line) k (omega arith) in
       let b = new_entry k j e ∙ is_line.inner j (omega arith) in
       let g = length-take-le depth p (omega arith) in
-      let front : take (depth + j + 1) (path_at (P ++ p ∷ []) (length P)) ≡ take depth p ++ get_or p depth (index 0) ∷ take j (drop (depth + 1) p) =
-      ap (take (depth + j + 1)) (own_path ∙ left_parts p depth short) ∙ take_behind (take depth p) (drop (depth + 1) p) (get_or p depth (index 0)) (depth + j + 1) j (omega arith) in
-      let make : Path → Spot = λ f. record { front = f; orders = []; children = (length E + j + 1) ∷ [] } in
-      a ∙ (ap (spot_of (P ++ p ∷ [])) b ∙ ap make front)
+      let prefix : take (depth + j + 1) (path_at (P ++ p ∷ []) (length P)) ≡ take depth p ++ get_or p depth (index 0) ∷ take j (drop (depth + 1) p) =
+      ap (take (depth + j + 1)) (own_path ∙ left_parts p depth short) ∙ take_after (take depth p) (drop (depth + 1) p) (get_or p depth (index 0)) (depth + j + 1) j (omega arith) in
+      let make : Path → Spot = λ f. record { prefix = f; orders = []; children = (length E + j + 1) ∷ [] } in
+      a ∙ (ap (spot_of (P ++ p ∷ [])) b ∙ ap make prefix)
 
-  new_last : (k : ℕ) → k ≡ length E + (length p - (depth + 1)) → spot_at (spots_of (P ++ p ∷ []) (set E at x ++ line)) k ≡ record { front = p; orders = length P ∷ []; children = [] }
+  new_last : (k : ℕ) → k ≡ length E + (length p - (depth + 1)) → spot_at (spots_of (P ++ p ∷ []) (set E at x ++ line)) k ≡ record { prefix = p; orders = length P ∷ []; children = [] }
   new_last k e =
       let j = length p - (depth + 1) in
       let n = length-append (set E at x) line in
@@ -197,9 +197,9 @@ module _ (P : List Path) (E : List Entry) (p : Path) (at : ℕ) (x : Entry) (dep
       let long = is_line.long in
       let a = spot_at-of (P ++ p ∷ []) (set E at x ++ line) k (omega arith) in
       let b = new_entry k j e ∙ is_line.last j (omega arith) in
-      let front : take (depth + j + 1) (path_at (P ++ p ∷ []) (length P)) ≡ p = ap (take (depth + j + 1)) own_path ∙ take_all (depth + j + 1) p (omega arith) in
-      let make : Path → Spot = λ f. record { front = f; orders = length P ∷ []; children = [] } in
-      a ∙ (ap (spot_of (P ++ p ∷ [])) b ∙ ap make front)
+      let prefix : take (depth + j + 1) (path_at (P ++ p ∷ []) (length P)) ≡ p = ap (take (depth + j + 1)) own_path ∙ take_all (depth + j + 1) p (omega arith) in
+      let make : Path → Spot = λ f. record { prefix = f; orders = length P ∷ []; children = [] } in
+      a ∙ (ap (spot_of (P ++ p ∷ [])) b ∙ ap make prefix)
 
   line_inside : All (IsInside (P ++ p ∷ [])) line
   line_inside = All-from_get_or (IsInside (P ++ p ∷ [])) line (record { path = 0; depth = 0; orders = []; children = [] }) inside
@@ -214,35 +214,35 @@ module _ (P : List Path) (E : List Entry) (p : Path) (at : ℕ) (x : Entry) (dep
           ]
 
 -- the path leaves the tree
-pub tree_branched : (P : List Path) (E : List Entry) (p : Path) (at place depth : ℕ) (line : List Entry) → IsTree P E → IsShort p → at < length E → front_at (spots_of P E) at ≡ take depth p
-    → depth < length p → IsGap (labels (spots_of P E) (spot_at (spots_of P E) at)) (get_or p depth (index 0)) place → ¬ IsMixed P p
+pub tree_branched : (P : List Path) (E : List Entry) (p : Path) (at position depth : ℕ) (line : List Entry) → IsTree P E → IsShort p → at < length E → prefix_at (spots_of P E) at ≡ take depth p
+    → depth < length p → IsGap (labels (spots_of P E) (spot_at (spots_of P E) at)) (get_or p depth (index 0)) position → ¬ IsMixed P p
     → IsLine (length P) (length E) depth (length p - depth) line
-    → IsTree (P ++ p ∷ []) (set E at (with_child (entry_at E at) place (length E)) ++ line)
-tree_branched P E p at place depth line tree small l front short gap pure is_line =
-    let x = with_child (entry_at E at) place (length E) in
+    → IsTree (P ++ p ∷ []) (set E at (with_child (entry_at E at) position (length E)) ++ line)
+tree_branched P E p at position depth line tree small l prefix short gap pure is_line =
+    let x = with_child (entry_at E at) position (length E) in
     let S = spots_of P E in
     let S' = spots_of (P ++ p ∷ []) (set E at x ++ line) in
     let same : length S ≡ length E = length-spots_of P E in
     let old : (spot_at S at).children ≡ (entry_at E at).children = ap (λ (s : Spot). s.children) (spot_at-of P E at l) in
     let olds : (spot_at S at).orders ≡ (entry_at E at).orders = ap (λ (s : Spot). s.orders) (spot_at-of P E at l) in
-    let make : List ℕ → List ℕ → ℕ → Spot = λ o c k. record { front = front_at S at; orders = o; children = insert c place k } in
-    let make_inner : Path → ℕ → ℕ → Spot = λ f j k. record { front = f ++ get_or p depth (index 0) ∷ take j (drop (depth + 1) p); orders = []; children = (k + j + 1) ∷ [] } in
+    let make : List ℕ → List ℕ → ℕ → Spot = λ o c k. record { prefix = prefix_at S at; orders = o; children = insert c position k } in
+    let make_inner : Path → ℕ → ℕ → Spot = λ f j k. record { prefix = f ++ get_or p depth (index 0) ∷ take j (drop (depth + 1) p); orders = []; children = (k + j + 1) ∷ [] } in
     let r = length-drop (depth + 1) p in
-    let branched : IsBranched P S S' at place p = record {
+    let branched : IsBranched P S S' at position p = record {
       n = get_or p depth (index 0);
       rest = drop (depth + 1) p;
       inside = omega arith;
-      path = left_parts p depth short ∙ ap (λ f. f ++ get_or p depth (index 0) ∷ drop (depth + 1) p) (sym front);
-      fresh = gap_fresh P S (spot_at S at) (get_or p depth (index 0)) place (tree.trie.all at (omega arith)) gap;
+      path = left_parts p depth short ∙ ap (λ f. f ++ get_or p depth (index 0) ∷ drop (depth + 1) p) (sym prefix);
+      fresh = gap_fresh P S (spot_at S at) (get_or p depth (index 0)) position (tree.trie.all at (omega arith)) gap;
       fits = gap.fits;
       before = gap.before;
-      behind = gap.behind;
+      after = gap.after;
       long = let m = length-spots_of (P ++ p ∷ []) (set E at x ++ line) in let k = length-append (set E at x) line in let j = length-set E at x in let w = is_line.long in omega arith;
       others = λ k i other. others_of P E p at x line tree k (omega arith) other;
       here = here_of P E p at x line tree l refl refl
           ∙ (ap (λ o. make o (entry_at E at).children (length E)) (sym olds) ∙ (ap (λ c. make (spot_at S at).orders c (length E)) (sym old) ∙ ap (make (spot_at S at).orders (spot_at S at).children) (sym same)));
       inner = λ k j e i. new_inner P E p at x depth line short is_line k j (omega arith) (omega arith)
-          ∙ (ap (λ f. make_inner f j (length E)) (sym front) ∙ ap (make_inner (front_at S at) j) (sym same));
+          ∙ (ap (λ f. make_inner f j (length E)) (sym prefix) ∙ ap (make_inner (prefix_at S at) j) (sym same));
       last = λ k e. new_last P E p at x depth line short is_line k (omega arith);
     } in
     record {

@@ -1,4 +1,4 @@
--- Nodes of a path, as texts and trees have them, and the order that the children of a tree stand in.
+-- Nodes of a path, as texts and trees have them, and the order that the children of a tree are in.
 use Rattle.std.specs.Prelude.{Bool, true, false, List, map}
 use Rattle.std.specs.Ordering.{nat_cmp}
 use Rattle.std.specs.Cmp.Lexicographic.{slice_cmp}

@@ -1,4 +1,4 @@
--- What the copy of a path stands for.
+-- What the copy of a path denotes.
 use Rattle.std.specs.Prelude.{List, map, string_bytes}
 use Rattle.sonic_text.specs.Paths.{Node, key, index}
 use Rattle.sonic_pointer.specs.declared.owned.OwnedNode.{OwnedNode}

@@ -7,6 +7,6 @@ use Rattle.sonic_pointer.specs.declared.wanted.Wanted.{Wanted}
 use Rattle.sonic_pointer.specs.declared.wanted.Wanted.TheVariants as variant
 
 -- it is looked for
-abbrev pub Stands : Wanted → Node → Type 0
-Stands (variant.Node wanted) node = node ≡ node_of wanted
-Stands (variant.Text text start end) node = (b : List ℕ) × IsString strict text.now start end b × (node ≡ key b)
+abbrev pub IsLookedFor : Wanted → Node → Type 0
+IsLookedFor (variant.Node wanted) node = node ≡ node_of wanted
+IsLookedFor (variant.Text text start end) node = (b : List ℕ) × IsString strict text.now start end b × (node ≡ key b)

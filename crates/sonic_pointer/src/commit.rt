@@ -5,16 +5,16 @@ ghost use Rattle.sonic_pointer.specs.Tries.{entry_at, with_order, with_child, Is
 ghost use Rattle.sonic_pointer.specs.Shapes.{kept_entries, entries_of, IsLeaving, Branches};
 
 use crate::owned::OwnedPath;
-use crate::place::Place;
 use crate::shape::{Leaving, Shape};
+use crate::vertex::Vertex;
 use std::alloc::{AllocError, Global};
 
-// What a tree keeps: its paths, and a place for each prefix of them, the empty one's apart.
+// What a tree keeps: its paths, and a vertex for each prefix of them, the empty one's apart.
 #[derive(Debug, Drop)]
 pub(crate) struct Parts {
     pub(crate) paths: Vec<OwnedPath>,
-    pub(crate) root: Place,
-    pub(crate) places: Vec<Place>,
+    pub(crate) root: Vertex,
+    pub(crate) vertices: Vec<Vertex>,
 }
 
 impl Parts {
@@ -26,90 +26,90 @@ impl Parts {
         Shape {
             paths: self.paths.as_slice(),
             root: &self.root,
-            places: self.places.as_slice(),
+            vertices: self.vertices.as_slice(),
         }
     }
 }
 
-// The new places of a path with this length, below the depth where it leaves the tree.
+// The new vertices of a path with this length, below the depth where it leaves the tree.
 fn line(
     alloc: Global,
     number: usize,
     first: usize,
     depth: usize,
     len: usize,
-) -> Result<Vec<Place>, AllocError>
+) -> Result<Vec<Vertex>, AllocError>
     requires short { depth < len }
     requires fits { first + (len - depth) < 2 ^ 64 }
     ensures { IfOk result (λ made. IsLine number first depth (len - depth) made.items) }
 {
     let mut made = Vec::new(alloc);
     for j in 1..len - depth {
-        made.push(Place::with_child(alloc, number, depth + j, first + j)?)?;
+        made.push(Vertex::with_child(alloc, number, depth + j, first + j)?)?;
     }
-    made.push(Place::with_order(alloc, number, len)?)?;
+    made.push(Vertex::with_order(alloc, number, len)?)?;
     Ok(made)
 }
 
-// One more path ends at the place with this number.
+// One more path ends at the vertex with this number.
 fn add_order(
-    root: &mut Place,
-    places: &mut Vec<Place>,
+    root: &mut Vertex,
+    vertices: &mut Vec<Vertex>,
     at: usize,
     number: usize,
 ) -> Result<(), AllocError>
-    requires { at ≤ vec_len places.old }
-    ensures ok { OnOk result (root.new ∷ places.new.items
-        ≡ set (root.old ∷ places.old.items) at
-        (with_order (entry_at (root.old ∷ places.old.items) at) number)) }
-    ensures err { OnErr result (root.new ∷ places.new.items ≡ root.old ∷ places.old.items) }
+    requires { at ≤ vec_len vertices.old }
+    ensures ok { OnOk result (root.new ∷ vertices.new.items
+        ≡ set (root.old ∷ vertices.old.items) at
+        (with_order (entry_at (root.old ∷ vertices.old.items) at) number)) }
+    ensures err { OnErr result (root.new ∷ vertices.new.items ≡ root.old ∷ vertices.old.items) }
 {
     if at == 0 {
         return root.add_order(number);
     }
-    places[at - 1].add_order(number)
+    vertices[at - 1].add_order(number)
 }
 
-// The place with this number has one more child.
+// The vertex with this number has one more child.
 fn add_child(
-    root: &mut Place,
-    places: &mut Vec<Place>,
+    root: &mut Vertex,
+    vertices: &mut Vec<Vertex>,
     at: usize,
-    place: usize,
+    position: usize,
     child: usize,
 ) -> Result<(), AllocError>
-    requires inside { at ≤ vec_len places.old }
-    requires fits { place ≤ length (entry_at (root.old ∷ places.old.items) at).children }
-    ensures ok { OnOk result (root.new ∷ places.new.items
-        ≡ set (root.old ∷ places.old.items) at
-        (with_child (entry_at (root.old ∷ places.old.items) at) place child)) }
-    ensures err { OnErr result (root.new ∷ places.new.items ≡ root.old ∷ places.old.items) }
-    ensures len { vec_len places.new ≡ vec_len places.old }
-    ensures capacity { vec_capacity places.new ≡ vec_capacity places.old }
+    requires inside { at ≤ vec_len vertices.old }
+    requires fits { position ≤ length (entry_at (root.old ∷ vertices.old.items) at).children }
+    ensures ok { OnOk result (root.new ∷ vertices.new.items
+        ≡ set (root.old ∷ vertices.old.items) at
+        (with_child (entry_at (root.old ∷ vertices.old.items) at) position child)) }
+    ensures err { OnErr result (root.new ∷ vertices.new.items ≡ root.old ∷ vertices.old.items) }
+    ensures len { vec_len vertices.new ≡ vec_len vertices.old }
+    ensures capacity { vec_capacity vertices.new ≡ vec_capacity vertices.old }
 {
     if at == 0 {
-        return root.add_child(place, child);
+        return root.add_child(position, child);
     }
-    places[at - 1].add_child(place, child)
+    vertices[at - 1].add_child(position, child)
 }
 
-// The path ends at a place that is there.
+// The path ends at a vertex that is there.
 fn end_path(parts: &mut Parts, at: usize, path: OwnedPath) -> Result<(), AllocError>
-    requires { at ≤ vec_len parts.old.places }
+    requires { at ≤ vec_len parts.old.vertices }
     ensures paths { OnOk result (parts.new.paths.items ≡ parts.old.paths.items ++ path ∷ []) }
-    ensures places { OnOk result (kept_entries parts.new ≡ set (kept_entries parts.old) at
+    ensures vertices { OnOk result (kept_entries parts.new ≡ set (kept_entries parts.old) at
         (with_order (entry_at (kept_entries parts.old) at) (length parts.old.paths.items))) }
     ensures same_paths { OnErr result (parts.new.paths.items ≡ parts.old.paths.items) }
-    ensures same_places { OnErr result (kept_entries parts.new ≡ kept_entries parts.old) }
+    ensures same_vertices { OnErr result (kept_entries parts.new ≡ kept_entries parts.old) }
 {
     let number = parts.paths.len();
     parts.paths.reserve(1)?;
-    add_order(&mut parts.root, &mut parts.places, at, number)?;
+    add_order(&mut parts.root, &mut parts.vertices, at, number)?;
     parts.paths.push_reserved(path);
     Ok(())
 }
 
-// The path leaves the tree after a place, and new places follow.
+// The path leaves the tree after a vertex, and new vertices follow.
 fn branch_path(
     alloc: Global,
     parts: &mut Parts,
@@ -117,25 +117,29 @@ fn branch_path(
     len: usize,
     path: OwnedPath,
 ) -> Result<(), AllocError>
-    requires inside { leaving.at ≤ vec_len parts.old.places }
-    requires fits { leaving.place
+    requires inside { leaving.at ≤ vec_len parts.old.vertices }
+    requires fits { leaving.position
         ≤ length (entry_at (kept_entries parts.old) leaving.at).children }
     requires short { leaving.depth < len }
     ensures paths { OnOk result (parts.new.paths.items ≡ parts.old.paths.items ++ path ∷ []) }
-    ensures places { OnOk result (Branches parts.old.paths.items (kept_entries parts.old)
+    ensures vertices { OnOk result (Branches parts.old.paths.items (kept_entries parts.old)
         (kept_entries parts.new) leaving len) }
     ensures same_paths { OnErr result (parts.new.paths.items ≡ parts.old.paths.items) }
-    ensures same_places { OnErr result (kept_entries parts.new ≡ kept_entries parts.old) }
+    ensures same_vertices { OnErr result (kept_entries parts.new ≡ kept_entries parts.old) }
 {
     let number = parts.paths.len();
-    let first = parts.places.len() + 1;
+    let first = parts.vertices.len() + 1;
     parts.paths.reserve(1)?;
-    let Leaving { at, depth, place } = leaving;
-    parts.places.reserve(len - depth)?;
+    let Leaving {
+        at,
+        depth,
+        position,
+    } = leaving;
+    parts.vertices.reserve(len - depth)?;
     let mut added = line(alloc, number, first, depth, len)?;
-    add_child(&mut parts.root, &mut parts.places, at, place, first)?;
+    add_child(&mut parts.root, &mut parts.vertices, at, position, first)?;
     parts.paths.push_reserved(path);
-    parts.places.append(&mut added)
+    parts.vertices.append(&mut added)
 }
 
 // Appends the path, which leaves the tree here; out of memory, nothing changes.

@@ -4,7 +4,7 @@ use std::alloc::AllocError;
 /// Why a tree of paths refuses one.
 #[derive(Clone, Copy, PartialEq, Eq, Debug)]
 pub enum PathError {
-    /// An earlier path has an equal front, and then a node of the other kind.
+    /// An earlier path has an equal prefix, and then a node of the other kind.
     Mixed,
     /// The path has more than [`MAX_NODES`](crate::MAX_NODES) nodes.
     TooLong,

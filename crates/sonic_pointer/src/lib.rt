@@ -1,7 +1,7 @@
 //! Paths of keys and indexes, and trees that hold a list of them.
 #![tactic(auto)]
 
-// What follows a front.
+// What follows a prefix.
 mod branch;
 // A path more in a tree: all memory is taken before anything changes.
 mod commit;
@@ -13,8 +13,8 @@ mod macros;
 mod node;
 // Copies of paths.
 mod owned;
-// The places of a tree.
-mod place;
+// The vertices of a tree.
+mod vertex;
 // A tree as its calls read it.
 mod shape;
 // Worked examples of trees, and trees with many siblings.
@@ -22,7 +22,7 @@ mod shape;
 mod tests;
 // Trees of paths.
 mod tree;
-// Places of a tree, as callers see them.
+// Vertices of a tree, as callers see them.
 mod view;
 // A node that is looked for.
 mod wanted;

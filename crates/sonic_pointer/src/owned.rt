@@ -13,7 +13,7 @@ enum OwnedNode {
     Index(usize),
 }
 
-// A path that owns its keys, seen as the nodes that it stands for.
+// A path that owns its keys, seen as the nodes that it denotes.
 #[derive(Debug, Drop)]
 pub(crate) struct OwnedPath {
     nodes: Vec<OwnedNode>,

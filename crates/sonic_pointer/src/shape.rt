@@ -3,12 +3,12 @@ ghost use Rattle.std.specs.Prelude.{◌≡◌, ◌<◌, ◌↔◌, IsTrue, IfOk,
 ghost use Rattle.sonic_text.specs.Paths.{Node, Path};
 ghost use Rattle.sonic_pointer.specs.Nodes.{node_of, path_of};
 ghost use Rattle.sonic_pointer.specs.Paths.{HasNext, IsMixed};
-ghost use Rattle.sonic_pointer.specs.Tries.{entry_at, front_at, label_at, IsStep, IsGap};
+ghost use Rattle.sonic_pointer.specs.Tries.{entry_at, prefix_at, label_at, IsStep, IsGap};
 
 use crate::fault::PathError;
 use crate::node::PointerNode;
 use crate::owned::OwnedPath;
-use crate::place::Place;
+use crate::vertex::Vertex;
 use crate::wanted::Wanted;
 use std::cmp::Ordering;
 
@@ -16,64 +16,64 @@ use std::cmp::Ordering;
 #[derive(Clone, Copy)]
 pub(crate) struct Shape<'t> {
     pub(crate) paths: &'t [OwnedPath],
-    pub(crate) root: &'t Place,
-    pub(crate) places: &'t [Place],
+    pub(crate) root: &'t Vertex,
+    pub(crate) vertices: &'t [Vertex],
 }
 
-// Where a path leaves a tree: behind the place `at`, whose front is the first `depth` nodes of
-// the path, and whose children would have the next node at `place`.
+// Where a path leaves a tree: after the vertex `at`, whose prefix is the first `depth` nodes of
+// the path, and whose children would have the next node at `position`.
 #[derive(Clone, Copy)]
 pub(crate) struct Leaving {
     pub(crate) at: usize,
     pub(crate) depth: usize,
-    pub(crate) place: usize,
+    pub(crate) position: usize,
 }
 
 impl<'t> Shape<'t> {
-    ghost use Rattle.sonic_pointer.specs.Wanted.{Stands};
+    ghost use Rattle.sonic_pointer.specs.Wanted.{IsLookedFor};
     ghost use Rattle.sonic_pointer.specs.Shapes.{entries_of, IsShape, shape_spots, shape_labels, AreKids, HasOtherKind, IsLeaving};
 
-    // The place with this number, 0 for the root.
-    pub(crate) fn place(&self, at: usize) -> &'t Place
+    // The vertex with this number, 0 for the root.
+    pub(crate) fn position(&self, at: usize) -> &'t Vertex
         requires { at < length (entries_of self.now) }
         ensures { result.now ≡ entry_at (entries_of self.now) at }
     {
         if at == 0 {
             return self.root;
         }
-        let places: &'t [Place] = self.places;
-        &places[at - 1]
+        let vertices: &'t [Vertex] = self.vertices;
+        &vertices[at - 1]
     }
 
     // The node by which a child follows its parent.
     pub(crate) fn label(&self, at: usize) -> PointerNode<'t>
         requires shape { IsShape self.now }
-        requires step { (front : Path) × IsStep (shape_spots self.now) front at }
+        requires step { (prefix : Path) × IsStep (shape_spots self.now) prefix at }
         ensures { node_of result ≡ label_at (shape_spots self.now) at }
     {
-        let place = self.place(at);
+        let position = self.position(at);
         let paths: &'t [OwnedPath] = self.paths;
-        paths[place.path()].node(place.depth() - 1)
+        paths[position.path()].node(position.depth() - 1)
     }
 
-    // The numbers of the children of the place with this number.
+    // The numbers of the children of the vertex with this number.
     pub(crate) fn children(&self, at: usize) -> &'t [usize]
         requires shape { IsShape self.now }
         requires inside { at < length (entries_of self.now) }
         ensures { AreKids self.now at result.now }
     {
-        let place: &'t Place = self.place(at);
-        place.children()
+        let position: &'t Vertex = self.position(at);
+        position.children()
     }
 
-    // The node of the first child of the place with this number.
+    // The node of the first child of the vertex with this number.
     pub(crate) fn first(&self, at: usize) -> Option<PointerNode<'t>>
         requires shape { IsShape self.now }
         requires inside { at < length (entries_of self.now) }
         ensures some { IfSome result (λ node.
-            HasNext self.now.paths.now (front_at (shape_spots self.now) at) (node_of node)) }
+            HasNext self.now.paths.now (prefix_at (shape_spots self.now) at) (node_of node)) }
         ensures none { IfNone result ((node : Node)
-            → ¬ HasNext self.now.paths.now (front_at (shape_spots self.now) at) node) }
+            → ¬ HasNext self.now.paths.now (prefix_at (shape_spots self.now) at) node) }
     {
         match self.children(at).first() {
             None => None,
@@ -85,10 +85,10 @@ impl<'t> Shape<'t> {
     pub(crate) fn find(&self, at: usize, wanted: &Wanted<'_>) -> Result<usize, usize>
         requires shape { IsShape self.now }
         requires inside { at < length (entries_of self.now) }
-        requires known { (node : Node) × Stands wanted.now node }
-        ensures found { IfOk result (λ i. (node : Node) → Stands wanted.now node
+        requires known { (node : Node) × IsLookedFor wanted.now node }
+        ensures found { IfOk result (λ i. (node : Node) → IsLookedFor wanted.now node
             → slice_get (shape_labels self.now at) i ≡ Some node) }
-        ensures absent { IfErr result (λ i. (node : Node) → Stands wanted.now node
+        ensures absent { IfErr result (λ i. (node : Node) → IsLookedFor wanted.now node
             → IsGap (shape_labels self.now at) node i) }
     {
         let children = self.children(at);
@@ -105,7 +105,7 @@ impl<'t> Shape<'t> {
         Err(low)
     }
 
-    // Whether some node of the other kind follows the place.
+    // Whether some node of the other kind follows the vertex.
     fn mixes(&self, at: usize, node: PointerNode<'_>) -> bool
         requires shape { IsShape self.now }
         requires inside { at < length (entries_of self.now) }
@@ -130,13 +130,17 @@ impl<'t> Shape<'t> {
             match self.find(at, &Wanted::Node(*node)) {
                 Ok(i) => at = self.children(at)[i],
                 Err(_) if self.mixes(at, *node) => return Err(PathError::Mixed),
-                Err(place) => return Ok(Leaving { at, depth, place }),
+                Err(position) => return Ok(Leaving {
+                    at,
+                    depth,
+                    position,
+                }),
             }
         }
         Ok(Leaving {
             at,
             depth: path.len(),
-            place: 0,
+            position: 0,
         })
     }
 }

@@ -1,5 +1,5 @@
 // What no clause says: that the calls answer the worked examples of their documents, and that
-// trees with many keys under one front are quick to make and to search.
+// trees with many keys under one prefix are quick to make and to search.
 use crate::{Branch, PathError, PointerNode, PointerTree, TreeView, pointer};
 use sonic_input::FastStr;
 use sonic_text::string_end;
@@ -49,7 +49,7 @@ fn number_of(view: &TreeView<'_>, text: &[u8]) -> Option<usize> {
     }
 }
 
-// The place behind a path.
+// The vertex after a path.
 fn at<'t>(tree: &'t PointerTree, path: &[PointerNode<'_>]) -> Option<TreeView<'t>> {
     let mut view = tree.view();
     for node in path {
@@ -82,7 +82,7 @@ fn check(
             assert_eq!(rt; view.branch(), branch, "{path:?}");
             assert_eq!(rt; view.count(), count, "{path:?}");
         }
-        None => panic!(rt; "no place {path:?}"),
+        None => panic!(rt; "no position {path:?}"),
     }
 }
 

@@ -8,7 +8,7 @@ use crate::commit::{Parts, keep};
 use crate::fault::PathError;
 use crate::node::PointerNode;
 use crate::owned::OwnedPath;
-use crate::place::Place;
+use crate::vertex::Vertex;
 use crate::view::TreeView;
 use std::alloc::Global;
 use std::marker::Model;
@@ -53,15 +53,15 @@ impl PointerTree {
     {
         let parts = Parts {
             paths: Vec::new(alloc),
-            root: Place::new(alloc, 0, 0),
-            places: Vec::new(alloc),
+            root: Vertex::new(alloc, 0, 0),
+            vertices: Vec::new(alloc),
         };
         PointerTree { parts }
     }
 
     /// Appends the path, whose number is the size so far.
     ///
-    /// It is refused, first, with more than `MAX_NODES` nodes. Then the nodes that follow one front
+    /// It is refused, first, with more than `MAX_NODES` nodes. Then the nodes that follow one prefix
     /// have to be of one kind: after `["a", 1]` the path `["a", "b"]` is `Mixed`, and `["a"]`
     /// isn't. A refused path changes nothing.
     pub fn add_path(&mut self, alloc: Global, path: &[PointerNode<'_>]) -> Result<(), PathError>
@@ -87,10 +87,10 @@ impl PointerTree {
         self.parts.paths.len()
     }
 
-    /// The place of the empty front.
+    /// The place of the empty prefix.
     pub fn view(&self) -> TreeView<'_>
         ensures paths { result.paths ≡ self.now }
-        ensures front { result.front ≡ [] }
+        ensures prefix { result.prefix ≡ [] }
         ensures unmixed { IsUnmixed self.now }
         ensures short { All IsShort self.now }
     {

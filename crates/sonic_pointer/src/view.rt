@@ -1,4 +1,4 @@
-// Places of a tree.
+// Vertices of a tree.
 ghost use Rattle.std.specs.Prelude.{◌≡◌, ◌<◌, ◌∷◌, ◌++◌, ℕ, List, [], Some, IfSome, IfNone, length, slice_get};
 ghost use Rattle.sonic_text.specs.Strings.{IsString, strict};
 ghost use Rattle.sonic_text.specs.Paths.{Node, key, index};
@@ -8,14 +8,14 @@ ghost use Rattle.sonic_pointer.specs.Views.{IsBranch};
 
 use crate::branch::Branch;
 use crate::node::PointerNode;
-use crate::place::Place;
 use crate::shape::Shape;
+use crate::vertex::Vertex;
 use crate::wanted::Wanted;
 use std::marker::Model;
 
-/// A front of the paths in a tree, with the nodes that follow it.
+/// A prefix of the paths in a tree, with the nodes that follow it.
 ///
-/// A clause sees the tree's paths, the front and its children, the nodes that follow the front
+/// A clause sees the tree's paths, the prefix and its children, the nodes that follow the prefix
 /// in some path. No call takes memory.
 ///
 /// ```text
@@ -48,29 +48,29 @@ impl<'t> Model for TreeView<'t> {
 
 impl<'t> TreeView<'t> {
     ghost use Rattle.sonic_pointer.specs.Shapes.{IsShape};
-    ghost use Rattle.sonic_pointer.specs.Wanted.{Stands};
+    ghost use Rattle.sonic_pointer.specs.Wanted.{IsLookedFor};
 
     pub(crate) fn of_root(shape: Shape<'t>) -> TreeView<'t>
         requires { IsShape shape }
         ensures paths { result.paths ≡ shape.entry.paths.now }
-        ensures front { result.front ≡ [] }
+        ensures prefix { result.prefix ≡ [] }
     {
         TreeView { shape, at: 0 }
     }
 
     /// The numbers of the paths that end here, rising: those of all equal paths.
     pub fn orders(&self) -> &'t [usize]
-        ensures { IsOrders self.now.paths self.now.front result.now }
+        ensures { IsOrders self.now.paths self.now.prefix result.now }
     {
-        let place: &'t Place = self.shape.place(self.at);
-        place.orders()
+        let position: &'t Vertex = self.shape.position(self.at);
+        position.orders()
     }
 
     /// What follows here.
     ///
     /// After the paths `["a", 1]` and `["a"]` it is `Keys` for the root and `Indexes` for `["a"]`.
     pub fn branch(&self) -> Branch
-        ensures { IsBranch self.now.paths self.now.front result }
+        ensures { IsBranch self.now.paths self.now.prefix result }
     {
         match self.shape.first(self.at) {
             None => Branch::Leaf,
@@ -82,17 +82,17 @@ impl<'t> TreeView<'t> {
     /// How many different nodes follow here.
     pub fn count(&self) -> usize
         ensures count { result ≡ length self.now.children }
-        ensures children { IsChildren self.now.paths self.now.front self.now.children }
+        ensures children { IsChildren self.now.paths self.now.prefix self.now.children }
     {
         self.shape.children(self.at).len()
     }
 
-    /// One of the nodes that follow, with its place.
+    /// One of the nodes that follow, with its vertex.
     pub fn child(&self, i: usize) -> (PointerNode<'t>, TreeView<'t>)
         requires { i < length self.now.children }
         ensures node { slice_get self.now.children i ≡ Some (node_of result.0) }
         ensures paths { result.1.paths ≡ self.now.paths }
-        ensures front { result.1.front ≡ self.now.front ++ node_of result.0 ∷ [] }
+        ensures prefix { result.1.prefix ≡ self.now.prefix ++ node_of result.0 ∷ [] }
     {
         let at = self.shape.children(self.at)[i];
         let node = self.shape.label(at);
@@ -105,11 +105,11 @@ impl<'t> TreeView<'t> {
 
     // The number of the child that is looked for, or `None`.
     fn number_of(&self, wanted: &Wanted<'_>) -> Option<usize>
-        requires { (node : Node) × Stands wanted.now node }
-        ensures some { IfSome result (λ i. (node : Node) → Stands wanted.now node
+        requires { (node : Node) × IsLookedFor wanted.now node }
+        ensures some { IfSome result (λ i. (node : Node) → IsLookedFor wanted.now node
             → slice_get self.now.children i ≡ Some node) }
-        ensures none { IfNone result ((node : Node) → Stands wanted.now node
-            → ¬ HasNext self.now.paths self.now.front node) }
+        ensures none { IfNone result ((node : Node) → IsLookedFor wanted.now node
+            → ¬ HasNext self.now.paths self.now.prefix node) }
     {
         match self.shape.find(self.at, wanted) {
             Ok(i) => Some(i),
@@ -118,7 +118,7 @@ impl<'t> TreeView<'t> {
     }
 
     /// The number of the child whose key the string from `start` to `end`, both quotes included,
-    /// stands for, or `None`.
+    /// denotes, or `None`.
     ///
     /// Both strings `"a"` and `"\u0061"` find the key `a`.
     pub fn of_key(&self, text: &[u8], start: usize, end: usize) -> Option<usize>
@@ -126,7 +126,7 @@ impl<'t> TreeView<'t> {
         ensures some { IfSome result (λ i. (b : List ℕ) → IsString strict text.now start end b
             → slice_get self.now.children i ≡ Some (key b)) }
         ensures none { IfNone result ((b : List ℕ) → IsString strict text.now start end b
-            → ¬ HasNext self.now.paths self.now.front (key b)) }
+            → ¬ HasNext self.now.paths self.now.prefix (key b)) }
     {
         self.number_of(&Wanted::Text { text, start, end })
     }
@@ -134,7 +134,7 @@ impl<'t> TreeView<'t> {
     /// The number of the child that is this index, or `None`.
     pub fn of_index(&self, number: usize) -> Option<usize>
         ensures some { IfSome result (λ i. slice_get self.now.children i ≡ Some (index number)) }
-        ensures none { IfNone result (¬ HasNext self.now.paths self.now.front (index number)) }
+        ensures none { IfNone result (¬ HasNext self.now.paths self.now.prefix (index number)) }
     {
         self.number_of(&Wanted::Node(PointerNode::Index(number)))
     }

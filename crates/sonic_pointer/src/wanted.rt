@@ -8,12 +8,12 @@ use crate::node::PointerNode;
 use sonic_text::compare_key;
 use std::cmp::Ordering;
 
-// What the children of a place are searched for.
+// What the children of a vertex are searched for.
 #[derive(Clone, Copy)]
 pub(crate) enum Wanted<'a> {
     // This node.
     Node(PointerNode<'a>),
-    // The key that the string from `start` to `end` stands for.
+    // The key that the string from `start` to `end` denotes.
     Text {
         text: &'a [u8],
         start: usize,
@@ -48,11 +48,11 @@ fn compare_text(text: &[u8], start: usize, end: usize, node: PointerNode<'_>) ->
 }
 
 impl<'a> Wanted<'a> {
-    ghost use Rattle.sonic_pointer.specs.Wanted.{Stands};
+    ghost use Rattle.sonic_pointer.specs.Wanted.{IsLookedFor};
 
     pub(crate) fn compare(&self, node: PointerNode<'_>) -> Ordering
-        requires { (wanted : Node) × Stands self.now wanted }
-        ensures { (wanted : Node) → Stands self.now wanted
+        requires { (wanted : Node) × IsLookedFor self.now wanted }
+        ensures { (wanted : Node) → IsLookedFor self.now wanted
             → result ≡ node_cmp wanted (node_of node.entry) }
     {
         match self {

@@ -12,11 +12,11 @@ use Rattle.std.specs.Str.{IsUtf8}
 use Rattle.sonic_text.specs.Places.{byte, digits_end}
 use Rattle.sonic_text.specs.Numbers.{after_minus, after_sign, IsInt, IsFraction, IsExponent, IsE, IsNumber}
 
--- from i to j stand ASCII bytes alone
+-- from i to j are ASCII bytes alone
 abbrev pub AreAscii : List ℕ → ℕ → ℕ → Type 0
 AreAscii t i j = (p : ℕ) → i ≤ p → p < j → byte t p < 128
 
--- what stands one behind the other stands together
+-- what is one after the other is together
 joined : (t : List ℕ) (i j k : ℕ) → AreAscii t i j → AreAscii t j k → AreAscii t i k
 joined t i j k a b p l h = elim (cases_lt p j) [ inl m ↦ a p l m | inr m ↦ b p m h ]
 

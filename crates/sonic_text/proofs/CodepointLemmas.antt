@@ -1,4 +1,4 @@
--- The bytes of a code point in UTF-8, by its range, and what a buffer holds behind writes to its front.
+-- The bytes of a code point in UTF-8, by its range, and what a buffer holds after writes to its prefix.
 use Rattle.std.proofs.Common.{◌≡◌, ℕ, ◌+◌, ◌/◌, ◌%◌, ◌<◌, ◌≤◌, List, [], ◌∷◌, length, take, set, refl, arith}
 use Rattle.std.proofs.lemmas.Bool.{lt-ltb, le-ltb}
 use Rattle.std.specs.Char.{encode_utf8}

@@ -1,4 +1,4 @@
--- The first wrong byte behind a backslash.
+-- The first wrong byte after a backslash.
 use Rattle.std.proofs.Common.{◌≡◌, ◌≢◌, ◌⊎◌, ℕ, ◌+◌, ◌-◌, ◌<◌, ◌≤◌, ◌==◌, ◌&&◌, not, Bool, true, false, inl, inr, List, arith, refl}
 use Rattle.std.proofs.lemmas.Bool.{cases_lt, cases_eq}
 use Rattle.std.proofs.lemmas.Bool.Decides.{nat_tests}
@@ -11,11 +11,11 @@ use Rattle.sonic_text.specs.Places.{byte, bad}
 use Rattle.sonic_text.specs.Strings.{hex_digit, hex_within, is_low_byte, escaped, escape_fault, IsHex4, IsHigh, IsEscapeFault}
 use Rattle.sonic_text.proofs.HexDigitLemmas.{hex_small, hex_of, hex_none, Digits, digits_of, high_digits}
 
--- the first n - 1 bytes behind the backslash at k are right
+-- the first n - 1 bytes after the backslash at k are right
 abbrev pub Right : Bool → List ℕ → ℕ → ℕ → Type 0
 Right m t k n = (d : ℕ) → 0 < d → d < n → escape_fault m t k d ≡ None
 
--- the first byte behind the backslash
+-- the first byte after the backslash
 pub right_none : (m : Bool) (t : List ℕ) (k : ℕ) → Right m t k 1
 right_none m t k d l h = absurd (omega arith)
 
@@ -26,14 +26,14 @@ right_more m t k n h e d l g = elim (cases_lt d n) [ inl f ↦ h d l f | inr f �
 -- the first wrong byte
 pub fault_at : {m : Bool} {t : List ℕ} {k n : ℕ} {s : Stop} {code : ErrorCode} → Right m t k n → 0 < n → n < 12 → escape_fault m t k n ≡ Some code
     → s ≡ bad t (k + n) code → IsEscapeFault m t k s
-fault_at {n = n} {code = code} h l g w e = record { n = n; code = code; behind = (l, g); right = h; wrong = w; stop = e }
+fault_at {n = n} {code = code} h l g w e = record { n = n; code = code; after = (l, g); right = h; wrong = w; stop = e }
 
--- a letter that may stand alone behind a backslash
+-- a letter that may be alone after a backslash
 pub letter_right : (m : Bool) (t : List ℕ) (k : ℕ) {c : ℕ} → escaped (byte t (k + 1)) ≡ Some c → escape_fault m t k 1 ≡ None
 unfolding escape_fault
 letter_right m t k e = rw e refl
 
--- is an ASCII byte and no u, and stands for an ASCII byte
+-- is an ASCII byte and no u, and denotes an ASCII byte
 pub escaped_letter : (b c : ℕ) → escaped b ≡ Some c → (b ≢ 0) × (b ≢ 117) × (b < 128) × (c < 128)
 unfolding escaped
 escaped_letter b c h = grind (arith, nat_tests)
@@ -45,7 +45,7 @@ short_right m t k e n =
     let l = escaped_letter _ _ e in
     elim (cases_eq n 1) [ inl q ↦ rw (q, e) refl | inr q ↦ grind (arith, nat_tests) ]
 
--- a letter that may not stand behind a backslash
+-- a letter that may not follow a backslash
 wrong_letter : (m : Bool) (t : List ℕ) (k : ℕ) → escaped (byte t (k + 1)) ≡ None → byte t (k + 1) ≢ 117 → escape_fault m t k 1 ≡ Some InvalidEscape
 unfolding escape_fault
 wrong_letter m t k e u = let f : (byte t (k + 1) == 117) ≡ false = grind (arith, nat_tests) in rw (e, f) refl
@@ -78,9 +78,9 @@ unfolding hex_within
 no_wrong true x y z e f w = refl
 no_wrong false x y z e f w = let v = w refl in rw (e, f) (grind (arith, nat_tests))
 
--- behind a backslash and a u
+-- after a backslash and a u
 module _ (m : Bool) (t : List ℕ) (k : ℕ) (u : byte t (k + 1) ≡ 117) where
-  -- behind the digits of a first half
+  -- after the digits of a first half
   later_fault : (n : ℕ) → 6 ≤ n → escape_fault m t k n
       ≡ (if not m && hex_within 13 13 (byte t (k + 2)) && hex_within 8 11 (byte t (k + 3)) && not (is_low_byte (n - 6) (byte t (k + n)))
       then Some InvalidSurrogateUnicodeCodePoint else None)
@@ -156,7 +156,7 @@ module _ (m : Bool) (t : List ℕ) (k : ℕ) (u : byte t (k + 1) ≡ 117) where
   right_six : {a b c d : ℕ} → Digits t k a b c d → (m ≡ false → a ≡ 13 → b < 12) → Right m t k 6
   right_six h l = right_more m t k 5 (right_five h.first h.second l h.third) (digit_right 5 (inr (inr refl)) h.fourth)
 
-  -- a byte behind the digits is right, where it fits behind a first half
+  -- a byte after the digits is right, where it fits after a first half
   later_right : {a b c d : ℕ} → Digits t k a b c d → (n : ℕ) → 6 ≤ n
       → (m ≡ false → a ≡ 13 → 8 ≤ b → b < 12 → is_low_byte (n - 6) (byte t (k + n)) ≡ true) → escape_fault m t k n ≡ None
   later_right h n l w = rw (later_fault n l, no_wrong m (byte t (k + 2)) (byte t (k + 3)) (is_low_byte (n - 6) (byte t (k + n))) h.first h.second w) refl
@@ -171,7 +171,7 @@ module _ (m : Bool) (t : List ℕ) (k : ℕ) (u : byte t (k + 1) ≡ 117) where
         later_right h n f (λ s x y z. rw e at (w s x y z (n - 6) (omega arith)))
   ]
 
-  -- in a strict reader a byte is wrong behind a first half
+  -- in a strict reader a byte is wrong after a first half
   pub half_missing : {n : ℕ} → m ≡ false → IsHex4 t (k + 2) n → IsHigh n → (j : ℕ) → j < 6
       → ((d : ℕ) → d < j → is_low_byte d (byte t (k + 6 + d)) ≡ true) → is_low_byte j (byte t (k + 6 + j)) ≡ false
       → IsEscapeFault m t k (bad t (k + 6 + j) InvalidSurrogateUnicodeCodePoint)

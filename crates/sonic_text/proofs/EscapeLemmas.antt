@@ -1,4 +1,4 @@
--- Behind a backslash stands a char of a string, or a first wrong byte, and never both.
+-- After a backslash is a char of a string, or a first wrong byte, and never both.
 use Rattle.std.proofs.Common.{◌≡◌, ◌⊎◌, ℕ, zero, suc, ◌+◌, ◌<◌, ◌≤◌, Bool, true, false, inl, inr, List, arith, refl}
 use Rattle.std.proofs.lemmas.Bool.{cases_Bool, cases_lt, cases_eq, cases_order}
 use Rattle.std.specs.Prelude.{is_some, Some, None}
@@ -11,7 +11,7 @@ use Rattle.sonic_text.specs.Strings.IsChar.{unescaped, short_escape, unicode_esc
 use Rattle.sonic_text.proofs.HexDigitLemmas.{escape_one, Digits, digits_of, hex4_of, high_digits, digits_high, low_digits, digits_low, low_right, low_all}
 use Rattle.sonic_text.proofs.EscapeFaultLemmas.{Right, escaped_letter, short_right, letter_fault, right_two, right_four, right_five, digit_missing, second_missing, second_half, half_missing, all_right}
 
--- an escape stands for one char
+-- an escape denotes one char
 unicode_one : (m : Bool) (t : List ℕ) (p n : ℕ) {q r : ℕ} {b c : List ℕ} → IsUnicodeChar m t p n q b → IsUnicodeChar m t p n r c → (q ≡ r) × (b ≡ c)
 unicode_one m t p n (scalar h l e f) (scalar x y g i) = (cc, cc)
 unicode_one m t p n (scalar h l e f) (pair x y z g i) = absurd (h x)
@@ -30,7 +30,7 @@ unicode_one m t p n (lone_low s h e f) (pair x y z g i) = absurd (omega arith)
 unicode_one m t p n (lone_low s h e f) (lone_high o x y g i) = absurd (omega arith)
 unicode_one m t p n (lone_low s h e f) (lone_low o x g i) = (cc, cc)
 
--- one char stands at a place
+-- one char is at a place
 pub char_one : {m : Bool} {t : List ℕ} {p q r : ℕ} {b c : List ℕ} → IsChar m t p q b → IsChar m t p r c → (q ≡ r) × (b ≡ c)
 char_one (unescaped h e f) (unescaped x g i) = (cc, cc)
 char_one (unescaped h e f) (short_escape x y g i) = absurd (h.2 x)
@@ -55,7 +55,7 @@ char_longer (unescaped h e f) = omega arith
 char_longer (short_escape h k e f) = omega arith
 char_longer (unicode_escape h k) = omega (arith, unicode_longer k)
 
--- behind a whole escape nothing is wrong
+-- after a whole escape nothing is wrong
 unicode_right : (m : Bool) (t : List ℕ) (p n : ℕ) {q : ℕ} {b : List ℕ} → IsEscape t p n → IsUnicodeChar m t p n q b → Right m t p 12
 unicode_right m t p n h (scalar x y e f) =
     let g = digits_of h.2 in
@@ -67,15 +67,15 @@ unicode_right m t p n h (pair x y z e f) =
 unicode_right m t p n h (lone_high v x y e f) = all_right m t p h.1 (digits_of h.2) (λ s o. absurd (cc)) 6 (λ s o l w d k. absurd (cc))
 unicode_right m t p n h (lone_low v x e f) = all_right m t p h.1 (digits_of h.2) (λ s o. absurd (cc)) 6 (λ s o l w d k. absurd (cc))
 
--- a char that stands somewhere has no wrong byte
+-- a char that is somewhere has no wrong byte
 pub char_never : {m : Bool} {t : List ℕ} {p q : ℕ} {b : List ℕ} {s : Stop} → byte t p ≡ 92 → IsChar m t p q b → IsEscapeFault m t p s → ⊥
 char_never o (unescaped h e f) g = h.2 o
 char_never {m} {t} {p} o (short_escape h k e f) g = let r = short_right m t p k g.n in let w = g.wrong in absurd (cc)
-char_never {m} {t} {p} o (unicode_escape {n = n} h k) g = let r = unicode_right m t p n h k g.n g.behind.0 g.behind.1 in let w = g.wrong in absurd (cc)
+char_never {m} {t} {p} o (unicode_escape {n = n} h k) g = let r = unicode_right m t p n h k g.n g.after.0 g.after.1 in let w = g.wrong in absurd (cc)
 
 -- the first wrong byte is right in no other fault
 not_before : {m : Bool} {t : List ℕ} {p : ℕ} {s r : Stop} (f : IsEscapeFault m t p s) (g : IsEscapeFault m t p r) → f.n < g.n → ⊥
-not_before f g l = let e = g.right f.n f.behind.0 l in let w = f.wrong in absurd (cc)
+not_before f g l = let e = g.right f.n f.after.0 l in let w = f.wrong in absurd (cc)
 
 -- one byte is the first wrong one
 pub escape_fault_one : {m : Bool} {t : List ℕ} {p : ℕ} {s r : Stop} → IsEscapeFault m t p s → IsEscapeFault m t p r → s ≡ r
@@ -95,19 +95,19 @@ known : (o : Option ℕ) → (o ≡ None) ⊎ ((a : ℕ) × (o ≡ Some a))
 known None = inl refl
 known (Some a) = inr (a, refl)
 
--- a letter that stands for a char behind a backslash
+-- a letter that denotes a char after a backslash
 pub short_char : {m : Bool} {t : List ℕ} {k : ℕ} → is_some (escaped (byte t (k + 1))) ≡ true → byte t k ≡ 92 → (q : ℕ) → q ≡ k + 2 → (b : List ℕ) × IsChar m t k q b
 short_char {t = t} {k} h o q f = elim (known (escaped (byte t (k + 1)))) [
   | inl e ↦ absurd (let g = rw e at h in cc)
   | inr (c, e) ↦ (_, short_escape o e f refl)
 ]
 
--- a second half alone stands for a char in a lossy reader
+-- a second half alone denotes a char in a lossy reader
 low_char : (m : Bool) {t : List ℕ} {k n : ℕ} → IsEscape t k n → IsLow n → (m ≡ false → ¬ IsLow n) → (q : ℕ) → q ≡ k + 6 → (b : List ℕ) × IsChar m t k q b
 low_char true h x y q e = (_, unicode_escape h (lone_low refl x e refl))
 low_char false h x y q e = absurd (y refl x)
 
--- an escape that is no first half stands for a char, in a strict reader if it is no second half either
+-- an escape that is no first half denotes a char, in a strict reader if it is no second half either
 pub plain_char : {m : Bool} {t : List ℕ} {k n : ℕ} → IsEscape t k n → ¬ IsHigh n → (m ≡ false → ¬ IsLow n) → (q : ℕ) → q ≡ k + 6 → (b : List ℕ) × IsChar m t k q b
 plain_char {m} {n = n} h x y q e = elim (cases_lt n 0xDC00) [
   | inl l ↦ (_, unicode_escape h (scalar x (λ w. omega arith) e refl))
@@ -117,19 +117,19 @@ plain_char {m} {n = n} h x y q e = elim (cases_lt n 0xDC00) [
   ]
 ]
 
--- the escapes of both halves stand for a char
+-- the escapes of both halves denote a char
 pub paired_char : {m : Bool} {t : List ℕ} {k n : ℕ} → IsEscape t k n → IsHigh n → ((d : ℕ) → d < 6 → is_low_byte d (byte t (k + 6 + d)) ≡ true)
     → (q : ℕ) → q ≡ k + 12 → (b : List ℕ) × IsChar m t k q b
 paired_char {t = t} {k} h x w q e = let (l, y, z) = low_all t (k + 6) w in (_, unicode_escape h (pair x y z e refl))
 
--- the escape of a first half that no second one follows stands for a char in a lossy reader
+-- the escape of a first half that no second one follows denotes a char in a lossy reader
 pub lone_char : {m : Bool} {t : List ℕ} {k n : ℕ} → m ≡ true → IsEscape t k n → IsHigh n → (j : ℕ) → j < 6 → is_low_byte j (byte t (k + 6 + j)) ≡ false
     → (q : ℕ) → q ≡ k + 6 → (b : List ℕ) × IsChar m t k q b
 lone_char {t = t} {k} s h x j o w q e =
     let no : ¬ IsLowEscape t (k + 6) = λ (l, y, z). (let v = low_right t (k + 6) y z j o in absurd (cc)) in
     (_, unicode_escape h (lone_high s x no e refl))
 
--- what is due behind a backslash: a char, or a first wrong byte
+-- what is expected after a backslash: a char, or a first wrong byte
 abbrev pub Outcome : Bool → List ℕ → ℕ → Type 0
 Outcome m t k = ((q : ℕ) × ((b : List ℕ) × IsChar m t k q b)) ⊎ ((s : Stop) × IsEscapeFault m t k s)
 
@@ -144,13 +144,13 @@ first_false P (suc n) = elim (first_false P n) [
   ]
 ]
 
--- behind a first half without a second one
+-- after a first half without a second one
 lone_some : (m : Bool) {t : List ℕ} {k n : ℕ} → IsEscape t k n → IsHigh n → (j : ℕ) → j < 6 → ((d : ℕ) → d < j → is_low_byte d (byte t (k + 6 + d)) ≡ true)
     → is_low_byte j (byte t (k + 6 + j)) ≡ false → Outcome m t k
 lone_some true {t} {k} h x j l w e = inl (k + 6, lone_char refl h x j l e (k + 6) refl)
 lone_some false {t} {k} h x j l w e = inr (_, half_missing false t k h.1 refl h.2 x j l w e)
 
--- behind four digits
+-- after four digits
 number_some : (m : Bool) {t : List ℕ} {k n : ℕ} → IsEscape t k n → (m ≡ false → ¬ IsLow n) → Outcome m t k
 number_some m {t} {k} {n} h x = elim (cases_lt n 0xD800) [
   | inl l ↦ inl (k + 6, plain_char h (λ w. omega arith) x (k + 6) refl)
@@ -171,7 +171,7 @@ half_or_not false a b = elim (cases_eq a 13) [
   | inl e ↦ elim (cases_lt b 12) [ inl l ↦ inr (λ s o. l) | inr l ↦ inl (refl, e, l) ]
 ]
 
--- behind a u
+-- after a u
 digits_some : (m : Bool) (t : List ℕ) (k : ℕ) → byte t k ≡ 92 → byte t (k + 1) ≡ 117 → Outcome m t k
 digits_some m t k o u = elim (known (hex_digit (byte t (k + 2)))) [
   | inl e ↦ inr (_, digit_missing m t k u 2 (inl refl) (right_two m t k u) e)
@@ -192,7 +192,7 @@ digits_some m t k o u = elim (known (hex_digit (byte t (k + 2)))) [
   ]
 ]
 
--- behind a backslash stands a char or a first wrong byte
+-- after a backslash is a char or a first wrong byte
 pub escape_some : (m : Bool) (t : List ℕ) (k : ℕ) → byte t k ≡ 92 → Outcome m t k
 escape_some m t k o = elim (known (escaped (byte t (k + 1)))) [
   | inr (c, e) ↦ inl (_, (_, short_escape o e refl refl))

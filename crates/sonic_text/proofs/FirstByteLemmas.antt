@@ -39,7 +39,7 @@ sort_of b =
     else if b == 45 || nat_le 48 b && nat_le b 57 then a_number
     else none
 
--- the first byte tells the sort
+-- the first byte says the sort
 pub begins_one : (k : Sort) (b : ℕ) → Begins k b → sort_of b ≡ k
 begins_one none b h = grind (arith, nat_tests)
 begins_one a_null b e = rw e

@@ -7,7 +7,7 @@ use Rattle.sonic_text.specs.Places.{byte}
 use Rattle.sonic_text.specs.Strings.{hex_digit, hex_within, is_low_byte, IsHex4, IsEscape, IsHigh, IsLow, IsLowEscape}
 use Rattle.sonic_text.proofs.Places.{byte_within}
 
--- a digit stands for less than 16
+-- a digit denotes less than 16
 pub hex_small : (b a : ℕ) → hex_digit b ≡ Some a → a < 16
 unfolding hex_digit
 hex_small b a h = grind (arith, nat_tests)
@@ -47,7 +47,7 @@ pub hex_in : (low high b : ℕ) → hex_within low high b ≡ true → (a : ℕ)
 unfolding hex_within
 hex_in low high b h = within (hex_digit b) low high h
 
--- the four digits behind the two bytes at k
+-- the four digits after the two bytes at k
 pub record Digits (t : List ℕ) (k a b c d : ℕ) : Type 0 where
   pub first : hex_digit (byte t (k + 2)) ≡ Some a
   pub second : hex_digit (byte t (k + 3)) ≡ Some b
@@ -74,7 +74,7 @@ hex4_of {t} {k} {a} {b} {c} {d} h =
 pub hex4_one : {t : List ℕ} {p n l : ℕ} → IsHex4 t p n → IsHex4 t p l → n ≡ l
 hex4_one h g = cc
 
--- they stand before the end
+-- they come before the end
 pub hex4_within : {t : List ℕ} {p n : ℕ} → IsHex4 t p n → p + 4 ≤ length t
 hex4_within {t} {p} h =
     let some = hex_some (byte t (p + 3)) h.d h.fourth in
@@ -123,7 +123,7 @@ six P a b c d e f (suc (suc (suc (suc zero)))) l = e
 six P a b c d e f (suc (suc (suc (suc (suc zero))))) l = f
 six P a b c d e f (suc (suc (suc (suc (suc (suc n)))))) l = absurd (omega arith)
 
--- the byte 0 stands at none of the six places of an escape of a second half
+-- the byte 0 is at none of the six places of an escape of a second half
 pub low_some : (n b : ℕ) → is_low_byte n b ≡ true → 0 < b
 unfolding is_low_byte hex_within hex_digit
 low_some n b h = grind (arith, nat_tests)

@@ -1,4 +1,4 @@
--- What stands in a container: its items within the text, one behind the other, before its end and its fault.
+-- What is in a container: its items within the text, one after the other, before its end and its fault.
 use Rattle.std.proofs.Common.{refl, ◌≡◌, ◌≢◌, ◌⊎◌, inl, inr, ℕ, ◌+◌, ◌<◌, ◌≤◌, arith}
 use Rattle.std.proofs.Common.{Result, Ok, Err, MatchResult}
 use Rattle.std.proofs.lemmas.Bool.{cases_eq, cases_order}
@@ -17,32 +17,32 @@ use Rattle.sonic_text.proofs.Within.{value_within, items_within, head_within}
 use Rattle.sonic_text.proofs.Stops.{bad_from, key_fault_from, fault_from}
 use Rattle.sonic_text.proofs.Values.{ContainerOutcome, no_item, at_last, container_outcome}
 
--- behind a key that isn't there no further item fits
+-- after a key that isn't there no further item fits
 pub not_past_key : {m : Bool} {t : List ℕ} {kind : Kind} {i n p h g : ℕ} {s : Stop} → kind ≡ Object → ItemsFit m t kind i n h → n < p → IsKeyFault m t h s
     → ¬ ItemsFit m t kind i p g
 not_past_key k is l f fs =
     let x = items_before fs l in
     head_never_both k (rw (items_one x.before is) at x.head) f
 
--- the value of the item that is due at h, where a later one fits, is its own, with a comma behind it
-pub comma_behind : {m : Bool} {t : List ℕ} {kind : Kind} {i n p h g v : ℕ} {l : Option (List ℕ)} → ItemsFit m t kind i n h → n < p → ItemHead m t kind h v l
+-- the value of the item that is expected at h, where a later one fits, is its own, with a comma after it
+pub comma_after : {m : Bool} {t : List ℕ} {kind : Kind} {i n p h g v : ℕ} {l : Option (List ℕ)} → ItemsFit m t kind i n h → n < p → ItemHead m t kind h v l
     → ItemsFit m t kind i p g → (e : ℕ) × IsValue m t v e × (byte t (after_space t e) ≡ 44)
-comma_behind {m} {t} {kind} {h = h} {v = v} is l y fs =
+comma_after {m} {t} {kind} {h = h} {v = v} is l y fs =
     let x = items_before fs l in
     let head : ItemHead m t kind h x.v x.key = rw (items_one x.before is) at x.head in
-    let due : x.v ≡ v = (head_one head y).0 in
-    let value : IsValue m t v x.e = rw due at x.value in
+    let value_start : x.v ≡ v = (head_one head y).0 in
+    let value : IsValue m t v x.e = rw value_start at x.value in
     (x.e, value, x.comma)
 
--- nor behind the fault of an item's value
+-- nor after the fault of an item's value
 pub not_past_value : {m : Bool} {t : List ℕ} {kind : Kind} {i n p h g v : ℕ} {l : Option (List ℕ)} {s : Stop} → ItemsFit m t kind i n h → n < p
     → ItemHead m t kind h v l → IsFault m t v s → ¬ ItemsFit m t kind i p g
-not_past_value is l y f fs = let x = comma_behind is l y fs in value_never_both x.1 f
+not_past_value is l y f fs = let x = comma_after is l y fs in value_never_both x.1 f
 
--- nor behind a byte that fits behind no item
+-- nor after a byte that fits after no item
 pub not_past_byte : {m : Bool} {t : List ℕ} {kind : Kind} {i n p h g v e : ℕ} {l : Option (List ℕ)} → ItemsFit m t kind i n h → n < p
     → ItemHead m t kind h v l → IsValue m t v e → byte t (after_space t e) ≢ 44 → ¬ ItemsFit m t kind i p g
-not_past_byte is l y w c fs = let x = comma_behind is l y fs in c (rw (value_end_one x.1 w) at x.2)
+not_past_byte is l y w c fs = let x = comma_after is l y fs in c (rw (value_end_one x.1 w) at x.2)
 
 -- an item ends before a later one begins
 pub items_after : {m : Bool} {t : List ℕ} {kind : Kind} {i n p h g v e : ℕ} {l : Option (List ℕ)} → ItemsFit m t kind i n h → ItemHead m t kind h v l
@@ -52,8 +52,8 @@ items_after {m} {t} {kind} {i} {n = n} {h = h} {v = v} is y x (next_item {p = k}
   | inl j ↦
       let gs : ItemsFit m t kind i n a = rw j fs in
       let head : ItemHead m t kind h w c = rw (items_one gs is) at z in
-      let due : w ≡ v = (head_one head y).0 in
-      let s : IsValue m t v f = rw due at r in
+      let value_start : w ≡ v = (head_one head y).0 in
+      let s : IsValue m t v f = rw value_start at r in
       let u = value_end_one x s in
       omega (arith, after_space_later t f, after_space_later t (after_space t f + 1))
   | inr (inl less) ↦
@@ -119,7 +119,7 @@ pub record LastFit (m : Bool) (t : List ℕ) (kind : Kind) (i : ℕ) : Type 0 wh
   pub fit : ItemsFit m t kind i n h
   pub last : (p g : ℕ) → n < p → ¬ ItemsFit m t kind i p g
 
--- no item is due in a container of this kind at i
+-- no item is expected in a container of this kind at i
 abbrev pub NoneFit : Bool → List ℕ → Kind → ℕ → Type 0
 NoneFit m t kind i = (n h : ℕ) → ¬ ItemsFit m t kind i n h
 
@@ -131,7 +131,7 @@ last_of {kind = kind} (at_last {n} {h} is (at_value (Ok e) y x (inl a))) =
     inl (record { n = n; h = h; fit = is; last = λ p g l. not_past_byte is l y x (λ d. closing_no_comma kind (omega (arith, a.0))) })
 last_of (at_last {n} {h} is (at_value (Ok e) y x (inr a))) = inl (record { n = n; h = h; fit = is; last = λ p g l. not_past_byte is l y x a.0.0 })
 
--- items fit up to a last one, or none is due
+-- items fit up to a last one, or none is expected
 pub last_fit : (m : Bool) (t : List ℕ) (kind : Kind) (i : ℕ) → LastFit m t kind i ⊎ NoneFit m t kind i
 last_fit m t kind i = elim (cases_eq (byte t i) (opening kind)) [
   | inr other ↦ inr (λ n h is. other (items_open is))

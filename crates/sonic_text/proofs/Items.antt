@@ -1,4 +1,4 @@
--- Keys and heads of items, and how the item that is due last in a container decides its outcome.
+-- Keys and heads of items, and how the item that is expected last in a container decides its outcome.
 use Rattle.std.proofs.Common.{◌≡◌, ◌≢◌, ◌⊎◌, ℕ, ◌+◌, ◌<◌, ◌≤◌, inl, inr, arith, refl, ap}
 use Rattle.std.proofs.Common.{Result, Ok, Err, MatchResult}
 use Rattle.std.proofs.lemmas.Bool.{cases_eq}
@@ -15,17 +15,17 @@ use Rattle.sonic_text.specs.Faults.IsKeyFault.{no_quote, key_fault, no_colon}
 use Rattle.sonic_text.proofs.Places.{after_space_later}
 use Rattle.sonic_text.proofs.Strings.{string_longer, string_one, string_never_both, string_fault_one, string_some}
 
--- a member's value is due behind the place where its key begins
+-- a member's value is expected after the place where its key begins
 pub key-longer : {m : Bool} {t : List ℕ} {k v : ℕ} {b : List ℕ} → IsKey m t k v b → k < v
 key-longer {t = t} {k = k} h =
     let l : k < h.end = string_longer h.string in
     omega (arith, after_space_later t h.end, after_space_later t (after_space t h.end + 1))
 
--- a key leads to one place and stands for one list of bytes
+-- a key leads to one place and denotes one list of bytes
 pub key_one : {m : Bool} {t : List ℕ} {k v w : ℕ} {b c : List ℕ} → IsKey m t k v b → IsKey m t k w c → (v ≡ w) × (b ≡ c)
-key_one h g = let (e, f) = string_one h.string g.string in (rw (h.due, g.due, e) refl, f)
+key_one h g = let (e, f) = string_one h.string g.string in (rw (h.value_start, g.value_start, e) refl, f)
 
--- a key that stands somewhere has no fault there
+-- a key that is somewhere has no fault there
 pub key_never_both : {m : Bool} {t : List ℕ} {k v : ℕ} {b : List ℕ} {s : Stop} → IsKey m t k v b → IsKeyFault m t k s → ⊥
 key_never_both h (no_quote d e) = d h.string.opens
 key_never_both h (key_fault o f) = string_never_both h.string f
@@ -49,29 +49,29 @@ key_fault_one {t = t} (no_colon {e} x c q) (no_colon {e = i} y d p) =
     let f : bad t (after_space t e) ExpectedColon ≡ bad t (after_space t i) ExpectedColon = rw n refl in
     cc
 
--- a key stands at k, or it doesn't for some reason
+-- a key is at k, or isn't, for some reason
 abbrev pub KeyOutcome : Bool → List ℕ → ℕ → Type 0
 KeyOutcome m t k = ((v : ℕ) × ((b : List ℕ) × IsKey m t k v b)) ⊎ ((s : Stop) × IsKeyFault m t k s)
 
--- a key that is due has an outcome
+-- a key that is expected has an outcome
 pub key_some : (m : Bool) (t : List ℕ) (k : ℕ) → KeyOutcome m t k
 key_some m t k = elim (cases_eq (byte t k) 34) [
   | inr d ↦ inr (_, no_quote d refl)
   | inl o ↦ elim (string_some m t k o) [
     | inr (s, f) ↦ inr (s, key_fault o f)
     | inl (e, (b, x)) ↦ elim (cases_eq (byte t (after_space t e)) 58) [
-      | inl c ↦ inl (_, (b, record { end = e; string = x; colon = c; due = refl }))
+      | inl c ↦ inl (_, (b, record { end = e; string = x; colon = c; value_start = refl }))
       | inr c ↦ inr (_, no_colon x c refl)
     ]
   ]
 ]
 
--- an item's value is due at or behind the place where the item is
+-- an item's value is expected at or after the place where the item is
 pub head-later : {m : Bool} {t : List ℕ} {kind : Kind} {h v : ℕ} {l : Option (List ℕ)} → ItemHead m t kind h v l → h ≤ v
 head-later (no_head e) = omega arith
 head-later (key_head y) = let l = key-longer y in omega arith
 
--- it is due at one place, behind one key
+-- it is expected at one place, after one key
 pub head_one : {m : Bool} {t : List ℕ} {kind : Kind} {h v w : ℕ} {l k : Option (List ℕ)} → ItemHead m t kind h v l → ItemHead m t kind h w k
     → (v ≡ w) × (l ≡ k)
 head_one (no_head e) (no_head f) = (cc, refl)
@@ -82,7 +82,7 @@ pub head_never_both : {m : Bool} {t : List ℕ} {kind : Kind} {h v : ℕ} {l : O
 head_never_both k (no_head e) f = cc
 head_never_both k (key_head y) f = key_never_both y f
 
--- the item's value is due somewhere, or a key is missing
+-- the item's value is expected somewhere, or a key is missing
 pub head_some : (m : Bool) (t : List ℕ) (kind : Kind) (h : ℕ) → ((v : ℕ) × (l : Option (List ℕ)) × ItemHead m t kind h v l) ⊎ ((s : Stop) × (kind ≡ Object) × IsKeyFault m t h s)
 head_some m t Array h = inl (h, None, no_head refl)
 head_some m t Object h = elim (key_some m t h) [ inl (v, (b, y)) ↦ inl (v, Some b, key_head y) | inr (s, f) ↦ inr (s, refl, f) ]
@@ -94,7 +94,7 @@ opening_one Object Object e = refl
 opening_one Array Object e = absurd (omega arith)
 opening_one Object Array e = absurd (omega arith)
 
--- no bracket is 0, as behind the end of a text
+-- no bracket is 0, as after the end of a text
 pub opening_not_end : (kind : Kind) → opening kind ≢ 0
 opening_not_end Array e = omega arith
 opening_not_end Object e = omega arith
@@ -114,17 +114,17 @@ pub closing_no_comma : (kind : Kind) → closing kind ≢ 44
 closing_no_comma Array e = omega arith
 closing_no_comma Object e = omega arith
 
--- a value that is due ends here, or it isn't there for this reason
+-- a value that is expected ends here, or it isn't there for this reason
 abbrev pub Outcome : Bool → List ℕ → ℕ → Result ℕ Stop → Type 0
 Outcome m t i r = MatchResult r (IsValue m t i) (IsFault m t i)
 
--- a value that is due at i has at most one outcome
+-- a value that is expected at i has at most one outcome
 abbrev pub OneAt : Bool → List ℕ → ℕ → Type 0
 OneAt m t i = (r q : Result ℕ Stop) → Outcome m t i r → Outcome m t i q → r ≡ q
 
--- each value that is due behind i has at most one outcome
-abbrev pub OneBehind : Bool → List ℕ → ℕ → Type 0
-OneBehind m t i = (v : ℕ) → i < v → OneAt m t v
+-- each value that is expected after i has at most one outcome
+abbrev pub OneAfter : Bool → List ℕ → ℕ → Type 0
+OneAfter m t i = (v : ℕ) → i < v → OneAt m t v
 
 -- the outcome of a container of this kind, if the last value in it has the first one
 abbrev pub After : List ℕ → Kind → Result ℕ Stop → Result ℕ Stop → Type 0
@@ -133,7 +133,7 @@ After t kind (Ok e) r =
     (byte t (after_space t e) ≡ closing kind) × (r ≡ Ok (after_space t e + 1))
     ⊎ NothingFits t e (closing kind) × (r ≡ Err (bad t (after_space t e) (code_after_item kind)))
 
--- the last item of a container of this kind is due at h, and the container has this outcome
+-- the last item of a container of this kind is expected at h, and the container has this outcome
 pub data LastItem (m : Bool) (t : List ℕ) (kind : Kind) (h : ℕ) (r : Result ℕ Stop) : Type 0 where
   at_key : {s : Stop} → kind ≡ Object → IsKeyFault m t h s → r ≡ Err s → LastItem m t kind h r
   at_value : {v : ℕ} {l : Option (List ℕ)} (last : Result ℕ Stop) → ItemHead m t kind h v l → Outcome m t v last → After t kind last r → LastItem m t kind h r
@@ -146,8 +146,8 @@ after_one t kind (Ok e) r q (inl a) (inr b) = absurd (b.0.1 a.0)
 after_one t kind (Ok e) r q (inr a) (inl b) = absurd (a.0.1 b.0)
 after_one t kind (Ok e) r q (inr a) (inr b) = cc
 
--- a container has one outcome, where its last item is due at one place
-pub last_one : {m : Bool} {t : List ℕ} {kind : Kind} {i h : ℕ} {r q : Result ℕ Stop} → OneBehind m t i → i < h → LastItem m t kind h r
+-- a container has one outcome, where its last item is expected at one place
+pub last_one : {m : Bool} {t : List ℕ} {kind : Kind} {i h : ℕ} {r q : Result ℕ Stop} → OneAfter m t i → i < h → LastItem m t kind h r
     → LastItem m t kind h q → r ≡ q
 last_one one l (at_key k f d) (at_key o g e) = let p = key_fault_one f g in cc
 last_one one l (at_key k f d) (at_value o y x a) = absurd (head_never_both k y f)
@@ -159,8 +159,8 @@ last_one {m} {t} {kind} {i} {r = r} {q} one l (at_value {v} c y x a) (at_value {
     let g : After t kind c q = rw p at b in
     after_one t kind c r q a g
 
--- no item with a comma behind it is the last
-pub last_no_comma : {m : Bool} {t : List ℕ} {kind : Kind} {i h v e : ℕ} {l : Option (List ℕ)} {r : Result ℕ Stop} → OneBehind m t i → i < h → LastItem m t kind h r
+-- no item with a comma after it is the last
+pub last_no_comma : {m : Bool} {t : List ℕ} {kind : Kind} {i h v e : ℕ} {l : Option (List ℕ)} {r : Result ℕ Stop} → OneAfter m t i → i < h → LastItem m t kind h r
     → ItemHead m t kind h v l → IsValue m t v e → byte t (after_space t e) ≢ 44
 last_no_comma one l (at_key k f d) y x c = head_never_both k y f
 last_no_comma {m} {t} {kind} {i} {v = v} {e} {r} one l (at_value {v = w} o z u a) y x c =

@@ -17,7 +17,7 @@ key_more key d n k l e r =
     let a : take (n + k) key ≡ take n key ++ d = rw (← l) e in
     rw a r
 
--- a common front decides nothing
+-- a common prefix decides nothing
 cmp_common : (c u v : List ℕ) → slice_cmp nat_cmp (c ++ u) (c ++ v) ≡ slice_cmp nat_cmp u v
 cmp_common [] u v = refl
 cmp_common (x ∷ c) u v = ap (λ o. ordering_then o (slice_cmp nat_cmp (c ++ u) (c ++ v))) (tied_itself nat_cmp_total x) ∙ cmp_common c u v
@@ -42,9 +42,9 @@ cmp_piece key piece rest n differs =
     ap (λ l. slice_cmp nat_cmp l key) (append_assoc (take n key) piece rest)
     ∙ (ap (slice_cmp nat_cmp (take n key ++ (piece ++ rest))) (sym whole) ∙ (cmp_common (take n key) (piece ++ rest) (drop n key) ∙ cmp_decided piece (drop n key) rest other))
 
--- a front of the key is equal to it, or less
-pub cmp_front : (key : List ℕ) (n : ℕ) → n ≤ length key → nat_cmp n (length key) ≡ slice_cmp nat_cmp (take n key) key
-cmp_front key n l =
+-- a prefix of the key is equal to it, or less
+pub cmp_prefix : (key : List ℕ) (n : ℕ) → n ≤ length key → nat_cmp n (length key) ≡ slice_cmp nat_cmp (take n key) key
+cmp_prefix key n l =
     let whole : take n key ++ drop n key ≡ key = take-append-drop n key in
     let parts : slice_cmp nat_cmp (take n key) key ≡ slice_cmp nat_cmp [] (drop n key) =
     ap (λ u. slice_cmp nat_cmp u key) (sym (append-nil (take n key))) ∙ (ap (slice_cmp nat_cmp (take n key ++ [])) (sym whole) ∙ cmp_common (take n key) [] (drop n key)) in

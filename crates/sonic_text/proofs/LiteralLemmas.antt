@@ -1,4 +1,4 @@
--- A word stands at a place, or it doesn't for one reason.
+-- A word is at a place, or isn't, for one reason.
 use Rattle.std.proofs.Common.{◌≡◌, ◌≢◌, ◌⊎◌, ℕ, zero, suc, ◌+◌, ◌<◌, ◌≤◌, inl, inr, length, arith, refl}
 use Rattle.std.proofs.lemmas.Bool.{cases_lt, cases_eq, cases_order}
 use Rattle.std.specs.Prelude.{List}
@@ -7,11 +7,11 @@ use Rattle.sonic_text.specs.declared.stop.Stop.{Stop}
 use Rattle.sonic_text.specs.Places.{byte, bad}
 use Rattle.sonic_text.specs.Literals.{Letters, IsLiteral, IsLiteralFault}
 
--- where the letter behind n others is missing or differs, no more letters fit
+-- where the letter after n others is missing or differs, no more letters fit
 letters_no_more : (word t : List ℕ) (i n m : ℕ) → n < m → (i + n < length t → byte t (i + n) ≢ byte word n) → Letters word t i m → ⊥
 letters_no_more word t i n m l d h = d (omega arith) (h.1 n l)
 
--- a word that stands somewhere has no fault there
+-- a word that is somewhere has no fault there
 pub literal_never_both : (word t : List ℕ) (i : ℕ) {j : ℕ} {s : Stop} → IsLiteral word t i j → IsLiteralFault word t i s → ⊥
 literal_never_both word t i h f = letters_no_more word t i f.n (length word) f.shorter f.differs h.0
 
@@ -34,7 +34,7 @@ literal_fault_one {t = t} {i} f g =
 one_more : (word t : List ℕ) (i n : ℕ) → Letters word t i n → i + n < length t → byte t (i + n) ≡ byte word n → Letters word t i (suc n)
 one_more word t i n h l e = (omega arith, λ k m. elim (cases_lt k n) [ inl o ↦ h.1 k o | inr o ↦ let q : k ≡ n = omega arith in rw q e ])
 
--- a word of which n letters fit stands there, or has a fault
+-- a word of which n letters fit is there, or has a fault
 literal_from : (word t : List ℕ) (i : ℕ) (m n : ℕ) → n + m ≡ length word → Letters word t i n
     → ((j : ℕ) × IsLiteral word t i j) ⊎ ((s : Stop) × IsLiteralFault word t i s)
 literal_from word t i zero n e h =
@@ -50,7 +50,7 @@ literal_from word t i (suc m) n e h = elim (cases_lt (i + n) (length t)) [
   ]
 ]
 
--- each word stands at a place of a text or has a fault there
+-- each word is at a place of a text or has a fault there
 pub literal_some : (word t : List ℕ) (i : ℕ) → i ≤ length t → ((j : ℕ) × IsLiteral word t i j) ⊎ ((s : Stop) × IsLiteralFault word t i s)
 literal_some word t i l =
     let e : 0 + length word ≡ length word = omega arith in

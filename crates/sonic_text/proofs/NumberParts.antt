@@ -1,4 +1,4 @@
--- A number that stands in a text stands in each part of it that holds it.
+-- A number in a text is in each part of it that holds it.
 use Rattle.std.proofs.Common.{◌≡◌, ◌∙◌, ℕ, ◌+◌, ◌-◌, ◌<◌, ◌≤◌, inl, inr, List, length, arith}
 use Rattle.std.proofs.lemmas.Bool.Decides.{nat_tests}
 use Rattle.sonic_text.specs.Places.{byte}

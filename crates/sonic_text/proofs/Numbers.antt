@@ -1,4 +1,4 @@
--- A number stands at a place, or it doesn't for one reason.
+-- A number is at a place, or isn't, for one reason.
 use Rattle.std.proofs.Common.{◌≡◌, ◌⊎◌, ℕ, ◌+◌, ◌<◌, ◌≤◌, inl, inr, arith, refl}
 use Rattle.std.proofs.Common.{Result, Ok, Err, MatchResult}
 use Rattle.std.proofs.lemmas.Bool.{cases_lt, cases_eq}
@@ -25,12 +25,12 @@ e_or_not b = elim (cases_eq b 101) [
   | inr e ↦ elim (cases_eq b 69) [ inl f ↦ inl (inr f) | inr f ↦ inr (λ h. grind arith) ]
 ]
 
--- a fraction or an exponent: all digits from d on, at least one, after a mark, or nothing where no mark is
+-- a fraction or an exponent: all digits from d on, at least one, after a dot or an e, or nothing where there is none
 abbrev pub Tail : List ℕ → Type 0 → ℕ → ℕ → ℕ → Type 0
-Tail t Marks d i j = Marks × IsDigit (byte t d) × (j ≡ digits_end t d) ⊎ ¬ Marks × (j ≡ i)
+Tail t Starts d i j = Starts × IsDigit (byte t d) × (j ≡ digits_end t d) ⊎ ¬ Starts × (j ≡ i)
 
 abbrev TailFault : List ℕ → Type 0 → ℕ → Stop → Type 0
-TailFault t Marks d s = Marks × ¬ IsDigit (byte t d) × (s ≡ bad t d InvalidNumber)
+TailFault t Starts d s = Starts × ¬ IsDigit (byte t d) × (s ≡ bad t d InvalidNumber)
 
 -- an integer has one outcome
 int_one : (t : List ℕ) (i : ℕ) (r q : Result ℕ Stop) → MatchResult r (IsInt t i) (IsIntFault t i) → MatchResult q (IsInt t i) (IsIntFault t i) → r ≡ q
@@ -40,12 +40,12 @@ int_one t i (Err s) (Ok j) h g = absurd (grind arith)
 int_one t i (Err s) (Err z) h g = let e : s ≡ z = grind arith in cc
 
 -- so has what comes after it
-tail_one : (t : List ℕ) (Marks : Type 0) (d i : ℕ) (r q : Result ℕ Stop) → MatchResult r (Tail t Marks d i) (TailFault t Marks d)
-    → MatchResult q (Tail t Marks d i) (TailFault t Marks d) → r ≡ q
-tail_one t Marks d i (Ok j) (Ok k) h g = let e : j ≡ k = grind arith in cc
-tail_one t Marks d i (Ok j) (Err s) h g = absurd (grind arith)
-tail_one t Marks d i (Err s) (Ok j) h g = absurd (grind arith)
-tail_one t Marks d i (Err s) (Err z) h g = let e : s ≡ z = grind arith in cc
+tail_one : (t : List ℕ) (Starts : Type 0) (d i : ℕ) (r q : Result ℕ Stop) → MatchResult r (Tail t Starts d i) (TailFault t Starts d)
+    → MatchResult q (Tail t Starts d i) (TailFault t Starts d) → r ≡ q
+tail_one t Starts d i (Ok j) (Ok k) h g = let e : j ≡ k = grind arith in cc
+tail_one t Starts d i (Ok j) (Err s) h g = absurd (grind arith)
+tail_one t Starts d i (Err s) (Ok j) h g = absurd (grind arith)
+tail_one t Starts d i (Err s) (Err z) h g = let e : s ≡ z = grind arith in cc
 
 -- the outcome of two parts, of which the second begins where the first ends
 abbrev Then : (Result ℕ Stop → Type 0) → (ℕ → Result ℕ Stop → Type 0) → Result ℕ Stop → Type 0
@@ -82,7 +82,7 @@ number_outcome_one t i r q h g =
 pub number_one : {t : List ℕ} {i j k : ℕ} → IsNumber t i j → IsNumber t i k → j ≡ k
 number_one {t} {i} {j} {k} h g = let e = number_outcome_one t i (Ok j) (Ok k) h g in cc
 
--- an integer stands at a place or has a fault there
+-- an integer is at a place or has a fault there
 int_some : (t : List ℕ) (i : ℕ) → ((j : ℕ) × IsInt t i j) ⊎ ((s : Stop) × IsIntFault t i s)
 int_some t i = elim (digit_or_not (byte t i)) [
   | inr h ↦ inr (_, inl (h, refl))
@@ -95,10 +95,10 @@ int_some t i = elim (digit_or_not (byte t i)) [
   ]
 ]
 
--- what comes after it has an outcome, by its mark
-tail_some : (t : List ℕ) (Marks : Type 0) (d i : ℕ) → Marks ⊎ ¬ Marks → ((j : ℕ) × Tail t Marks d i j) ⊎ ((s : Stop) × TailFault t Marks d s)
-tail_some t Marks d i (inr e) = inl (i, inr (e, refl))
-tail_some t Marks d i (inl e) = elim (digit_or_not (byte t d)) [ inl h ↦ inl (_, inl (e, h, refl)) | inr h ↦ inr (_, (e, h, refl)) ]
+-- what comes after it has an outcome, by its first byte
+tail_some : (t : List ℕ) (Starts : Type 0) (d i : ℕ) → Starts ⊎ ¬ Starts → ((j : ℕ) × Tail t Starts d i j) ⊎ ((s : Stop) × TailFault t Starts d s)
+tail_some t Starts d i (inr e) = inl (i, inr (e, refl))
+tail_some t Starts d i (inl e) = elim (digit_or_not (byte t d)) [ inl h ↦ inl (_, inl (e, h, refl)) | inr h ↦ inr (_, (e, h, refl)) ]
 
 -- a minus sign leads on
 pub after_minus_later : (t : List ℕ) (i : ℕ) → i ≤ after_minus t i
@@ -139,7 +139,7 @@ number_begins {t} {i} {j} h = elim (cases_eq (byte t i) 45) [
       inr (grind arith)
 ]
 
--- a number stands at a place or has a fault there
+-- a number is at a place or has a fault there
 pub number_some : (t : List ℕ) (i : ℕ) → ((j : ℕ) × IsNumber t i j) ⊎ ((s : Stop) × IsNumberFault t i s)
 number_some t i = elim (int_some t (after_minus t i)) [
   | inr (s, f) ↦ inr (s, in_int f)

@@ -1,4 +1,4 @@
--- A value that is due has an outcome.
+-- A value that is expected has an outcome.
 use Rattle.std.proofs.Common.{◌≡◌, ◌⊎◌, ℕ, zero, suc, ◌+◌, ◌<◌, ◌≤◌, inl, inr, length, arith, refl, codes}
 use Rattle.std.proofs.lemmas.Bool.{cases_eq}
 use Rattle.std.specs.Prelude.{Bool, List}
@@ -20,23 +20,23 @@ use Rattle.sonic_text.proofs.Items.{head_some, opening_not_end}
 use Rattle.sonic_text.proofs.Strings.{string_some}
 use Rattle.sonic_text.proofs.Values.{head-later, value-longer, items-later}
 
--- a value that is due ends somewhere, or it isn't there for some reason
+-- a value that is expected ends somewhere, or it isn't there for some reason
 abbrev pub SomeOutcome : Bool → List ℕ → ℕ → Type 0
 SomeOutcome m t i = ((j : ℕ) × IsValue m t i j) ⊎ ((s : Stop) × IsFault m t i s)
 
--- each value that is due behind i has an outcome
-abbrev SomeBehind : Bool → List ℕ → ℕ → Type 0
-SomeBehind m t i = (w : ℕ) → i < w → SomeOutcome m t w
+-- each value that is expected after i has an outcome
+abbrev SomeAfter : Bool → List ℕ → ℕ → Type 0
+SomeAfter m t i = (w : ℕ) → i < w → SomeOutcome m t w
 
--- behind e stands this bracket, or a comma, with the next place behind it, or neither fits
-data Behind (t : List ℕ) (e bracket : ℕ) : Type 0 where
-  closed : byte t (after_space t e) ≡ bracket → Behind t e bracket
-  leads_on : (w : ℕ) → byte t (after_space t e) ≡ 44 → w ≡ after_space t (after_space t e + 1) → e < length t → e < w → Behind t e bracket
-  neither : NothingFits t e bracket → Behind t e bracket
+-- after e is this bracket, or a comma, with the next place after it, or neither fits
+data After (t : List ℕ) (e bracket : ℕ) : Type 0 where
+  closed : byte t (after_space t e) ≡ bracket → After t e bracket
+  leads_on : (w : ℕ) → byte t (after_space t e) ≡ 44 → w ≡ after_space t (after_space t e + 1) → e < length t → e < w → After t e bracket
+  neither : NothingFits t e bracket → After t e bracket
 
--- what stands behind a value
-behind : (t : List ℕ) (e bracket : ℕ) → Behind t e bracket
-behind t e bracket = elim (cases_eq (byte t (after_space t e)) bracket) [
+-- what follows a value
+after : (t : List ℕ) (e bracket : ℕ) → After t e bracket
+after t e bracket = elim (cases_eq (byte t (after_space t e)) bracket) [
   | inl c ↦ closed c
   | inr c ↦ elim (cases_eq (byte t (after_space t e)) 44) [
     | inr d ↦ neither (d, c)
@@ -48,8 +48,8 @@ behind t e bracket = elim (cases_eq (byte t (after_space t e)) bracket) [
   ]
 ]
 
--- a container has an outcome, if the values behind its next item have one, and if it has one where a comma leads on
-item_step : (m : Bool) (t : List ℕ) (kind : Kind) (i n h : ℕ) → SomeBehind m t i → ItemsFit m t kind i n h
+-- a container has an outcome, if the values after its next item have one, and if it has one where a comma leads on
+item_step : (m : Bool) (t : List ℕ) (kind : Kind) (i n h : ℕ) → SomeAfter m t i → ItemsFit m t kind i n h
     → ((p g : ℕ) → h < length t → h < g → ItemsFit m t kind i p g → SomeOutcome m t i) → SomeOutcome m t i
 item_step m t kind i n h some is next = elim (head_some m t kind h) [
   | inr (s, k, f) ↦ let ks : ItemsFit m t Object i n h = rw (← k) is in inr (s, in_key ks f)
@@ -57,7 +57,7 @@ item_step m t kind i n h some is next = elim (head_some m t kind h) [
       let l : h ≤ v = head-later y in
       elim (some v (omega (arith, items-later is))) [
         | inr (s, f) ↦ inr (s, in_value is y f)
-        | inl (e, x) ↦ elim (behind t e (closing kind)) [
+        | inl (e, x) ↦ elim (after t e (closing kind)) [
           | closed c ↦ inl (after_space t e + 1, filled is y x c refl)
           | neither c ↦ inr (_, after_item is y x c refl)
           | leads_on w c q d o ↦ (let r : v < e = value-longer x in next (n + 1) w (omega arith) (omega arith) (next_item is y x c q refl))
@@ -66,12 +66,12 @@ item_step m t kind i n h some is next = elim (head_some m t kind h) [
 ]
 
 -- a container of which n items fit has an outcome, by the number of places from the next item on
-items_from : (m : Bool) (t : List ℕ) (kind : Kind) (i fuel n h : ℕ) → SomeBehind m t i → ItemsFit m t kind i n h → length t < h + fuel → SomeOutcome m t i
+items_from : (m : Bool) (t : List ℕ) (kind : Kind) (i fuel n h : ℕ) → SomeAfter m t i → ItemsFit m t kind i n h → length t < h + fuel → SomeOutcome m t i
 items_from m t kind i zero n h some is l = item_step m t kind i n h some is (λ p w o d fs. absurd (omega arith))
 items_from m t kind i (suc fuel) n h some is l = item_step m t kind i n h some is (λ p w o d fs. items_from m t kind i fuel p w some fs (omega arith))
 
--- a container has an outcome, if the values behind its beginning have one
-container_some : (m : Bool) (t : List ℕ) (kind : Kind) (i : ℕ) → SomeBehind m t i → byte t i ≡ opening kind → SomeOutcome m t i
+-- a container has an outcome, if the values after its beginning have one
+container_some : (m : Bool) (t : List ℕ) (kind : Kind) (i : ℕ) → SomeAfter m t i → byte t i ≡ opening kind → SomeOutcome m t i
 container_some m t kind i some b = elim (cases_eq (byte t (after_space t (i + 1))) (closing kind)) [
   | inl c ↦ inl (after_space t (i + 1) + 1, empty kind b c refl)
   | inr c ↦ items_from m t kind i (suc (length t)) 0 (after_space t (i + 1)) some (first_item b refl c refl) (omega arith)
@@ -93,8 +93,8 @@ number_outcome m t i b = elim (number_some t i) [ inl h ↦ inl (h.0, number h.1
 string_outcome : (m : Bool) (t : List ℕ) (i : ℕ) → byte t i ≡ 34 → SomeOutcome m t i
 string_outcome m t i b = elim (string_some m t i b) [ inl h ↦ inl (h.0, string h.1.1) | inr f ↦ inr (f.0, string_fault b f.1) ]
 
--- a value of some sort has an outcome, if the values behind it have one
-sort_some : (k : Sort) (m : Bool) (t : List ℕ) (i : ℕ) → Begins k (byte t i) → (i < length t → SomeBehind m t i) → SomeOutcome m t i
+-- a value of some sort has an outcome, if the values after it have one
+sort_some : (k : Sort) (m : Bool) (t : List ℕ) (i : ℕ) → Begins k (byte t i) → (i < length t → SomeAfter m t i) → SomeOutcome m t i
 sort_some none m t i b some = inr (_, no_value b refl)
 sort_some a_null m t i b some =
     word_some (codes "null") m t i (byte_within t i (λ e. omega arith)) (λ j h. null_literal h) (λ s f. null_fault b f)
@@ -106,8 +106,8 @@ sort_some a_number m t i b some = number_outcome m t i b
 sort_some a_string m t i b some = string_outcome m t i b
 sort_some (a_container kind) m t i b some = container_some m t kind i (some (byte_within t i (λ e. opening_not_end kind (omega arith)))) b
 
--- a value has an outcome, if the values behind it have one
-some_here : (m : Bool) (t : List ℕ) (i : ℕ) → (i < length t → SomeBehind m t i) → SomeOutcome m t i
+-- a value has an outcome, if the values after it have one
+some_here : (m : Bool) (t : List ℕ) (i : ℕ) → (i < length t → SomeAfter m t i) → SomeOutcome m t i
 some_here m t i some = sort_some (sort_of (byte t i)) m t i (begins_of (sort_of (byte t i)) (byte t i) refl) some
 
 -- a value has an outcome, by the number of places from i on
@@ -115,6 +115,6 @@ some_from : (n : ℕ) (m : Bool) (t : List ℕ) (i : ℕ) → length t < i + n �
 some_from zero m t i l = some_here m t i (λ h. absurd (omega arith))
 some_from (suc n) m t i l = some_here m t i (λ o w h. some_from n m t w (omega arith))
 
--- a value that is due has an outcome
+-- a value that is expected has an outcome
 pub value_some_outcome : (m : Bool) (t : List ℕ) (i : ℕ) → SomeOutcome m t i
 value_some_outcome m t i = some_from (suc (length t)) m t i (omega arith)

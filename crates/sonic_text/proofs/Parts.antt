@@ -7,7 +7,7 @@ use Rattle.std.specs.Prelude.{slice_range}
 use Rattle.std.specs.List.{prefix_len}
 use Rattle.std.specs.Char.{is_ascii_digit}
 use Rattle.sonic_text.specs.Places.{byte, is_space, after_space, digits_end, IsDigit}
-use Rattle.sonic_text.proofs.Places.{byte_behind}
+use Rattle.sonic_text.proofs.Places.{byte_after}
 
 -- u is a part of t that begins at d: a byte of u is that of t, and bytes that pass a test run as long, if they do so within the part
 pub record IsPart (t u : List ℕ) (d : ℕ) : Type 0 where
@@ -44,18 +44,18 @@ module _ {t u : List ℕ} {d : ℕ} (part : IsPart t u d) where
   pub byte_part : (p q : ℕ) → p ≡ d + q → q < length u → byte u q ≡ byte t p
   byte_part p q e l = rw e (part.bytes q l)
 
-  -- where another byte than b stands in the text, one stands in the part, or its end
+  -- where another byte than b is in the text, one is in the part, or its end
   pub other_part : (b p q : ℕ) → 0 ≢ b → p ≡ d + q → byte t p ≢ b → byte u q ≢ b
   other_part b p q z e n g = elim (cases_lt q (length u)) [
     | inl l ↦ n (sym (byte_part p q e l) ∙ g)
-    | inr l ↦ z (sym (byte_behind u q l) ∙ g)
+    | inr l ↦ z (sym (byte_after u q l) ∙ g)
   ]
 
-  -- where no digit stands in the text, none stands in the part
+  -- where no digit is in the text, none is in the part
   pub no_digit_part : (p q : ℕ) → p ≡ d + q → ¬ IsDigit (byte t p) → ¬ IsDigit (byte u q)
   no_digit_part p q e n g = elim (cases_lt q (length u)) [
     | inl l ↦ n (rw (byte_part p q e l) at g)
-    | inr l ↦ omega (arith, byte_behind u q l, g)
+    | inr l ↦ omega (arith, byte_after u q l, g)
   ]
 
   -- white space from a place of the part on leads as far

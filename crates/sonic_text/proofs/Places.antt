@@ -1,4 +1,4 @@
--- Places of a text: how far white space and digits lead, and where a byte stands.
+-- Places of a text: how far white space and digits lead, and where a byte is.
 use Rattle.std.proofs.Common.{◌≡◌, ◌≢◌, ℕ, ◌<◌, ◌≤◌, true, inl, inr, length, arith}
 use Rattle.std.proofs.lemmas.Bool.{cases_lt}
 use Rattle.std.proofs.lemmas.Bool.Decides.{nat_tests}
@@ -12,19 +12,19 @@ use Rattle.sonic_text.specs.Places.{byte, after_space, digits_end, IsDigit}
 pub after_space_later : (t : List ℕ) (i : ℕ) → i ≤ after_space t i
 after_space_later t i = omega arith
 
--- behind the end the byte is 0
-pub byte_behind : (t : List ℕ) (p : ℕ) → length t ≤ p → byte t p ≡ 0
-byte_behind t p l = get_or_past t p 0 l
+-- after the end the byte is 0
+pub byte_after : (t : List ℕ) (p : ℕ) → length t ≤ p → byte t p ≡ 0
+byte_after t p l = get_or_past t p 0 l
 
--- a byte that isn't 0 stands before the end
+-- a byte that isn't 0 comes before the end
 pub byte_within : (t : List ℕ) (p : ℕ) → byte t p ≢ 0 → p < length t
-byte_within t p h = elim (cases_lt p (length t)) [ inl l ↦ l | inr l ↦ absurd (h (byte_behind t p l)) ]
+byte_within t p h = elim (cases_lt p (length t)) [ inl l ↦ l | inr l ↦ absurd (h (byte_after t p l)) ]
 
 -- the number of a digit is that of an ASCII digit
 digit_passes : (b : ℕ) → IsDigit b → is_ascii_digit b ≡ true
 digit_passes b h = grind (arith, nat_tests)
 
--- digits end behind a digit
+-- digits end after a digit
 pub digits_end_later : (t : List ℕ) (i : ℕ) → IsDigit (byte t i) → i < digits_end t i
 digits_end_later t i h =
     let l : i < length t = byte_within t i (λ e. grind arith) in

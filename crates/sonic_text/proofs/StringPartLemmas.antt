@@ -1,4 +1,4 @@
--- A string that stands in a text stands in each part of it that holds it, for the same bytes.
+-- A string in a text is in each part of it that holds it, for the same bytes.
 use Rattle.std.proofs.Common.{◌≡◌, ◌∙◌, ℕ, ◌+◌, ◌-◌, ◌<◌, ◌≤◌, Bool, List, length, arith, refl, sym}
 use Rattle.sonic_text.specs.Places.{byte}
 use Rattle.sonic_text.specs.Strings.{IsEscape, IsUnicodeChar, IsChar, AreChars, IsString}

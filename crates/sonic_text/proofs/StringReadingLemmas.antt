@@ -1,4 +1,4 @@
--- The chars of a string are read one by one, from the first on: which char stands at a place that was reached, and what was read at the end.
+-- The chars of a string are read one by one, from the first on: which char is at a place that was reached, and what was read at the end.
 use Rattle.std.proofs.Common.{◌≡◌, ◌≢◌, ◌⊎◌, ℕ, zero, suc, ◌+◌, ◌-◌, ◌<◌, ◌≤◌, Bool, inl, inr, List, [], ◌∷◌, ◌++◌, length, arith, refl, sym, ◌∙◌}
 use Rattle.std.proofs.lemmas.Bool.{cases_lt}
 use Rattle.std.proofs.lemmas.List.{append_assoc, append-nil}
@@ -15,7 +15,7 @@ use Rattle.sonic_text.proofs.EscapeFaultLemmas.{escaped_letter}
 use Rattle.sonic_text.proofs.EscapeLemmas.{char_longer}
 use Rattle.sonic_text.proofs.Strings.{chars_later}
 
--- the first of some chars, and those behind it
+-- the first of some chars, and those after it
 record IsFirst (m : Bool) (t : List ℕ) (i k : ℕ) (b : List ℕ) : Type 0 where
   q : ℕ
   d : List ℕ
@@ -34,7 +34,7 @@ chars_first {m} {t} {i} {k} {b} (AreChars.one_more {p = p} {b = f} {c = g} us u 
   | inr h ↦ inr (record { q = h.q; d = h.d; e = h.e ++ g; char = h.char; rest = AreChars.one_more h.rest u refl; both = x ∙ (rw h.both (append_assoc h.d h.e g)) })
 ]
 
--- in the string from start to end, which stands for b, the chars before p stand for c
+-- in the string from start to end, which denotes b, the chars before p denote c
 pub record IsReached (m : Bool) (t : List ℕ) (start end p : ℕ) (b c : List ℕ) : Type 0 where
   pub close : ℕ
   pub rest : List ℕ
@@ -45,24 +45,24 @@ pub record IsReached (m : Bool) (t : List ℕ) (start end p : ℕ) (b c : List �
   pub closes : byte t close ≡ 34
   pub ends : end ≡ close + 1
 
--- behind the opening quote
+-- after the opening quote
 pub reached_start : {m : Bool} {t : List ℕ} {start end : ℕ} {b : List ℕ} → IsString m t start end b → IsReached m t start end (start + 1) b []
 reached_start {b = b} s = record { close = s.close; rest = b; opens = s.opens; read = AreChars.no_char refl refl; left = s.chars; both = refl; closes = s.closes; ends = s.end }
 
--- the closing quote stands at p or behind it, and before the end of the text
+-- the closing quote is at p or after it, and before the end of the text
 pub reached_before : {m : Bool} {t : List ℕ} {start end p : ℕ} {b c : List ℕ} → IsReached m t start end p b c → (p < end) × (end ≤ length t)
 reached_before {t = t} r =
     let l : r.close < length t = byte_within t r.close (λ e. cc (e, r.closes)) in
     (omega (arith, chars_later r.left, r.ends), omega (arith, r.ends))
 
--- the char at a place that was reached, and the place behind it
+-- the char at a place that was reached, and the place after it
 pub record IsNext (m : Bool) (t : List ℕ) (start end p : ℕ) (b c : List ℕ) : Type 0 where
   pub q : ℕ
   pub d : List ℕ
   pub char : IsChar m t p q d
   pub next : IsReached m t start end q b (c ++ d)
 
--- before the closing quote a char stands at each place that was reached
+-- before the closing quote a char is at each place that was reached
 pub reached_char : {m : Bool} {t : List ℕ} {start end p : ℕ} {b c : List ℕ} → IsReached m t start end p b c → p + 1 ≢ end → IsNext m t start end p b c
 reached_char {c = c} r n = elim (chars_first r.left) [
   | inl none ↦ absurd (n (omega (arith, none.0, r.ends)))
@@ -90,7 +90,7 @@ reached_all {c = c} r n = elim (chars_first r.left) [
   | inr f ↦ absurd (omega (arith, chars_later f.rest, char_longer f.char, r.ends))
 ]
 
--- and the string stands for that
+-- and the string denotes that
 pub reached_string : {m : Bool} {t : List ℕ} {start end p : ℕ} {b c : List ℕ} → IsReached m t start end p b c → p + 1 ≡ end → IsString m t start end c
 reached_string {p = p} r n =
     let e : r.close ≡ p = omega (arith, r.ends) in
@@ -102,7 +102,7 @@ char_plain e (IsChar.unescaped u x y) = (x, y)
 char_plain e (IsChar.short_escape o l x y) = absurd (e o)
 char_plain e (IsChar.unicode_escape u x) = absurd (e u.0)
 
--- bytes before the closing quote of which none is a backslash stand for themselves
+-- bytes before the closing quote of which none is a backslash denote themselves
 pub reached_run : {m : Bool} {t : List ℕ} {start end p : ℕ} {b c : List ℕ} (n r : ℕ) → r ≡ p + n → r < end → ((k : ℕ) → p ≤ k → k < r → byte t k ≢ 92)
     → IsReached m t start end p b c → IsReached m t start end r b (c ++ slice_range t p r)
 reached_run {t = t} {p = p} {c = c} zero r e l h s =
@@ -131,7 +131,7 @@ reached_escape {m} {t} {start} {end} {p} {b} {c} n x one o s =
     let y : IsReached m t start end n b (c ++ x) = rw (← w.0, ← w.1) v.next in
     (omega (arith, char_longer v.char, w.0), y)
 
--- an escape stands before the end of the text
+-- an escape comes before the end of the text
 pub escape_within : (t : List ℕ) (p n : ℕ) → IsEscape t p n → p + 6 ≤ length t
 escape_within t p n e = omega (arith, hex4_within e.2)
 
@@ -148,13 +148,13 @@ unicode_single l u s (IsUnicodeChar.pair {l = k} h g o e x) = absurd (s h (k, g,
 unicode_single l u s (IsUnicodeChar.lone_high m h n e x) = (e, x ∙ replacement_bytes)
 unicode_single l u s (IsUnicodeChar.lone_low m h e x) = (e, x ∙ replacement_bytes)
 
--- behind a backslash that begins a char stands a letter
+-- after a backslash that begins a char is a letter
 pub escape_letter : {m : Bool} {t : List ℕ} {p q : ℕ} {b : List ℕ} → byte t p ≡ 92 → IsChar m t p q b → p + 1 < length t
 escape_letter e (IsChar.unescaped u x y) = absurd (u.2 e)
 escape_letter {t = t} {p} e (IsChar.short_escape {c = c} o l x y) = byte_within t (p + 1) (escaped_letter _ c l).0
 escape_letter {t = t} {p} e (IsChar.unicode_escape {n = n} u x) = omega (arith, escape_within t p n u)
 
--- and if it is a u, four digits behind it
+-- and if it is a u, four digits after it
 pub record IsUnicode (m : Bool) (t : List ℕ) (p q : ℕ) (b : List ℕ) : Type 0 where
   pub n : ℕ
   pub escape : IsEscape t p n
@@ -165,7 +165,7 @@ escape_unicode e f (IsChar.unescaped u x y) = absurd (u.2 e)
 escape_unicode e f (IsChar.short_escape {c = c} o l x y) = absurd ((escaped_letter _ c l).1 f)
 escape_unicode e f (IsChar.unicode_escape {n = n} u x) = record { n = n; escape = u; char = x }
 
--- and if it is another letter, it stands for one byte
+-- and if it is another letter, it denotes one byte
 pub escape_short : {m : Bool} {t : List ℕ} {p q : ℕ} {b : List ℕ} → byte t p ≡ 92 → byte t (p + 1) ≢ 117 → IsChar m t p q b
     → (q ≡ p + 2) × (b ≡ encode_utf8 (unwrap_or (escaped (byte t (p + 1))) 0))
 escape_short e f (IsChar.unescaped u x y) = absurd (u.2 e)

@@ -1,4 +1,4 @@
--- A string stands at a quote, or it doesn't for one reason, and never both.
+-- A string is at a quote, or isn't, for one reason, and never both.
 use Rattle.std.proofs.Common.{◌≡◌, ◌⊎◌, ℕ, zero, suc, ◌+◌, ◌<◌, ◌≤◌, Bool, inl, inr, List, [], ◌++◌, length, append_assoc, append-nil, arith, refl}
 use Rattle.std.proofs.lemmas.Bool.{cases_lt, cases_eq}
 use Rattle.sonic_error.specs.declared.code.ErrorCode.TheVariants.{ControlCharacterWhileParsingString}
@@ -8,7 +8,7 @@ use Rattle.sonic_text.specs.Strings.{IsChar, AreChars, IsString, IsEscapeFault, 
 use Rattle.sonic_text.specs.Strings.IsChar.{unescaped, short_escape, unicode_escape}
 use Rattle.sonic_text.specs.Strings.AreChars.{no_char, one_more}
 use Rattle.sonic_text.specs.Strings.IsStringFault.{control_char, in_escape}
-use Rattle.sonic_text.proofs.Places.{byte_behind}
+use Rattle.sonic_text.proofs.Places.{byte_after}
 use Rattle.sonic_text.proofs.EscapeLemmas.{char_one, char_longer, char_never, escape_fault_one, escape_some}
 
 -- chars, read from the left
@@ -26,7 +26,7 @@ chain_of : {m : Bool} {t : List ℕ} {i k : ℕ} {b : List ℕ} → AreChars m t
 chain_of (no_char e f) = done e f
 chain_of (one_more h c e) = snoc (chain_of h) c e
 
--- no char stands at this place
+-- no char is at this place
 abbrev Stuck : Bool → List ℕ → ℕ → Type 0
 Stuck m t k = (q : ℕ) (b : List ℕ) → IsChar m t k q b → ⊥
 
@@ -52,7 +52,7 @@ stuck_control o q b (unescaped h e f) = absurd (omega arith)
 stuck_control o q b (short_escape h k e f) = absurd (omega arith)
 stuck_control o q b (unicode_escape h k) = absurd (omega arith)
 
--- nor where a byte behind the backslash is wrong
+-- nor where a byte after the backslash is wrong
 stuck_escape : {m : Bool} {t : List ℕ} {k : ℕ} {s : Stop} → byte t k ≡ 92 → IsEscapeFault m t k s → Stuck m t k
 stuck_escape o f q b h = char_never o h f
 
@@ -65,13 +65,13 @@ chars_later (one_more h c e) = let l = chars_later h in let n = char_longer c in
 pub string_longer : {m : Bool} {t : List ℕ} {i j : ℕ} {b : List ℕ} → IsString m t i j b → i < j
 string_longer h = let l = chars_later h.chars in let e = h.end in omega arith
 
--- a string has one end and stands for one text
+-- a string has one end and denotes one text
 pub string_one : {m : Bool} {t : List ℕ} {i j k : ℕ} {b c : List ℕ} → IsString m t i j b → IsString m t i k c → (j ≡ k) × (b ≡ c)
 string_one h g =
     let (e, f) = one_end (chain_of h.chars) (chain_of g.chars) (stuck_quote h.closes) (stuck_quote g.closes) in
     (cc (h.end, g.end), f)
 
--- a string that stands somewhere has no fault there
+-- a string that is somewhere has no fault there
 pub string_never_both : {m : Bool} {t : List ℕ} {i j : ℕ} {b : List ℕ} {s : Stop} → IsString m t i j b → IsStringFault m t i s → ⊥
 string_never_both {t = t} h (control_char {k} g l e) =
     let q = one_end (chain_of h.chars) (chain_of g) (stuck_quote h.closes) (stuck_control l) in
@@ -100,14 +100,14 @@ string_fault_one (in_escape {k} h l e) (in_escape {k = n} g o f) =
     let q = one_end (chain_of h) (chain_of g) (stuck_escape l e) (stuck_escape o f) in
     escape_fault_one (rw q.0 at e) f
 
--- what is due at a quote: a string, or a fault
+-- what is expected at a quote: a string, or a fault
 abbrev pub StringOutcome : Bool → List ℕ → ℕ → Type 0
 StringOutcome m t i = ((j : ℕ) × ((b : List ℕ) × IsString m t i j b)) ⊎ ((s : Stop) × IsStringFault m t i s)
 
--- behind some chars of a string
+-- after some chars of a string
 some_from : (m : Bool) (t : List ℕ) (i : ℕ) → byte t i ≡ 34 → (n k : ℕ) {b : List ℕ} → length t < k + n → AreChars m t (i + 1) k b → StringOutcome m t i
 some_from m t i o zero k l h =
-    let e = byte_behind t k (omega arith) in
+    let e = byte_after t k (omega arith) in
     inr (_, control_char h (omega arith) refl)
 some_from m t i o (suc n) k {b} l h = elim (cases_lt (byte t k) 32) [
   | inl f ↦ inr (_, control_char h f refl)
@@ -123,6 +123,6 @@ some_from m t i o (suc n) k {b} l h = elim (cases_lt (byte t k) 32) [
   ]
 ]
 
--- at a quote stands a string or a fault
+-- at a quote is a string or a fault
 pub string_some : (m : Bool) (t : List ℕ) (i : ℕ) → byte t i ≡ 34 → StringOutcome m t i
 string_some m t i o = some_from m t i o (suc (length t)) (i + 1) (omega arith) (no_char refl refl)

@@ -1,4 +1,4 @@
--- A value that stands somewhere means one tree.
+-- A value that is somewhere means one tree.
 use Rattle.std.proofs.Common.{◌≡◌, ◌≢◌, ◌∙◌, ℕ, ◌+◌, arith, refl, sym, ap, codes}
 use Rattle.std.specs.Prelude.{true, false, List, Option, slice_range}
 use Rattle.sonic_text.specs.declared.kind.Kind.{Kind}
@@ -78,19 +78,19 @@ means_view {t} {i} {j} (means_filled {kind} {xs = xs} b q d is) =
     let ys : ItemsMean t kind (after_space t (i + 1)) j xs = rw (← q) is in
     (a_container kind, b, some_items e ys refl)
 
--- the first byte tells which
+-- the first byte says which
 view_at : (sort : Sort) {t : List ℕ} {i j : ℕ} {x : Tree} → Begins sort (byte t i) → Means t i j x → View sort t i x
 view_at sort {t} {i} {x = x} b h =
     let v = means_view h in
     let e : v.0 ≡ sort = sym (begins_one v.0 (byte t i) v.1) ∙ begins_one sort (byte t i) b in
     rw e at v.2
 
--- at one place stands one head
+-- at one place is one head
 same_head : {t : List ℕ} {kind : Kind} {h g v w : ℕ} {l k : Option (List ℕ)} → h ≡ g → ItemHead strict t kind h v l → ItemHead strict t kind g w k
     → (v ≡ w) × (l ≡ k)
 same_head {t} {kind} {h} {w = w} {k = k} e y z = let x : ItemHead strict t kind h w k = rw e z in head_one y x
 
--- and the value behind it has one end
+-- and the value after it has one end
 same_end : {t : List ℕ} {kind : Kind} {h g v w e f : ℕ} {l k : Option (List ℕ)} {x y : Tree} → h ≡ g → ItemHead strict t kind h v l → Means t v e x
     → ItemHead strict t kind g w k → Means t w f y → e ≡ f
 same_end {t} {v = v} {f = f} {y = b} e y x u r =

@@ -1,4 +1,4 @@
--- A value that stands in a text stands in each part of it that holds it, and so does a string with a backslash.
+-- A value in a text is in each part of it that holds it, and so does a string with a backslash.
 use Rattle.std.proofs.Common.{◌≡◌, ◌∙◌, ◌↔◌, ℕ, ◌+◌, ◌-◌, ◌<◌, ◌≤◌, Bool, List, length, arith, refl, sym, codes}
 use Rattle.std.specs.Prelude.{slice_range, Option}
 use Rattle.sonic_text.specs.declared.kind.Kind.{Kind}
@@ -24,16 +24,16 @@ module _ {t u : List ℕ} {d : ℕ} (part : IsPart t u d) where
       let n = h.1 in
       ((omega arith, λ k m. byte_part part (i + k) (x + k) (omega arith) (omega arith) ∙ h.0.1 k m), omega arith)
 
-  -- the byte behind white space that follows i, before the place z
-  behind_part : (b i x z : ℕ) → i ≡ d + x → after_space t i < z → z ≤ d + length u → byte t (after_space t i) ≡ b
+  -- the byte after white space that follows i, before the place z
+  after_part : (b i x z : ℕ) → i ≡ d + x → after_space t i < z → z ≤ d + length u → byte t (after_space t i) ≡ b
       → (after_space t i ≡ d + after_space u x) × (byte u (after_space u x) ≡ b)
-  behind_part b i x z e l m h =
+  after_part b i x z e l m h =
       let s : after_space t i ≡ d + after_space u x = space_part part i x e (omega arith) in
       (s, byte_part part (after_space t i) (after_space u x) s (omega arith) ∙ h)
 
-  -- what is due behind a byte and white space
-  due_part : (i x v y : ℕ) → i ≡ d + x → v ≡ d + y → y ≤ length u → v ≡ after_space t (i + 1) → y ≡ after_space u (x + 1)
-  due_part i x v y e f l h = let s = space_part part (i + 1) (x + 1) (omega arith) (omega arith) in omega arith
+  -- what is expected after a byte and white space
+  value_start_part : (i x v y : ℕ) → i ≡ d + x → v ≡ d + y → y ≤ length u → v ≡ after_space t (i + 1) → y ≡ after_space u (x + 1)
+  value_start_part i x v y e f l h = let s = space_part part (i + 1) (x + 1) (omega arith) (omega arith) in omega arith
 
   -- a key
   pub key_part : {m : Bool} {i j : ℕ} {b : List ℕ} (x y : ℕ) → i ≡ d + x → j ≡ d + y → y ≤ length u → IsKey m t i j b → IsKey m u x y b
@@ -41,17 +41,17 @@ module _ {t u : List ℕ} {d : ℕ} (part : IsPart t u d) where
       let n : i < h.end = string_longer h.string in
       let a = after_space_later t h.end in
       let c = after_space_later t (after_space t h.end + 1) in
-      let q = h.due in
+      let q = h.value_start in
       let z = h.end - d in
-      let g = behind_part 58 h.end z j (omega arith) (omega arith) (omega arith) h.colon in
+      let g = after_part 58 h.end z j (omega arith) (omega arith) (omega arith) h.colon in
       record {
         end = z;
         string = string_part part x z e (omega arith) (omega arith) h.string;
         colon = g.1;
-        due = due_part (after_space t h.end) (after_space u z) j y g.0 f l q;
+        value_start = value_start_part (after_space t h.end) (after_space u z) j y g.0 f l q;
       }
 
-  -- what stands before an item's value
+  -- what comes before an item's value
   pub head_part : {m : Bool} {kind : Kind} {i j : ℕ} {l : Option (List ℕ)} (x y : ℕ) → i ≡ d + x → j ≡ d + y → y ≤ length u → ItemHead m t kind i j l
       → ItemHead m u kind x y l
   head_part x y e f l (no_head h) = no_head (omega arith)
@@ -67,14 +67,14 @@ module _ {t u : List ℕ} {d : ℕ} (part : IsPart t u d) where
     value_part x y e f l (string h) = string (string_part part x y e f l h)
     value_part {i = i} {j} x y e f l (empty kind b c q) =
         let a = after_space_later t (i + 1) in
-        let g = behind_part (closing kind) (i + 1) (x + 1) j (omega arith) (omega arith) (omega arith) c in
+        let g = after_part (closing kind) (i + 1) (x + 1) j (omega arith) (omega arith) (omega arith) c in
         empty kind (byte_part part i x e (omega arith) ∙ b) g.1 (omega arith)
     value_part {i = i} {j} x y e f l (filled {kind} {h = k} {v = v} {e = w} is z h c q) =
         let n = items-later is in
         let r = head-later z in
         let o = value-longer h in
         let a = after_space_later t w in
-        let g = behind_part (closing kind) w (w - d) j (omega arith) (omega arith) (omega arith) c in
+        let g = after_part (closing kind) w (w - d) j (omega arith) (omega arith) (omega arith) c in
         let b = head_part (k - d) (v - d) (omega arith) (omega arith) (omega arith) z in
         let s = value_part (v - d) (w - d) (omega arith) (omega arith) (omega arith) h in
         filled (items_part x (k - d) e (omega arith) (omega arith) is) b s g.1 (omega arith)
@@ -83,7 +83,7 @@ module _ {t u : List ℕ} {d : ℕ} (part : IsPart t u d) where
     pub items_part : {m : Bool} {kind : Kind} {i n j : ℕ} (x y : ℕ) → i ≡ d + x → j ≡ d + y → y ≤ length u → ItemsFit m t kind i n j → ItemsFit m u kind x n y
     items_part {kind = kind} {i = i} {j = j} x y e f l (first_item b q o s) =
         let a = after_space_later t (i + 1) in
-        first_item (byte_part part i x e (omega arith) ∙ b) (due_part i x j y e f l q)
+        first_item (byte_part part i x e (omega arith) ∙ b) (value_start_part i x j y e f l q)
         (other_part part (closing kind) j y (λ z. closing_not_end kind (omega arith)) f o) s
     items_part {i = i} {j = j} x y e f l (next_item {u = k} {v = v} {e = w} is z h c q s) =
         let n = items-later is in
@@ -91,12 +91,12 @@ module _ {t u : List ℕ} {d : ℕ} (part : IsPart t u d) where
         let o = value-longer h in
         let a = after_space_later t w in
         let r = after_space_later t (after_space t w + 1) in
-        let g = behind_part 44 w (w - d) j (omega arith) (omega arith) (omega arith) c in
+        let g = after_part 44 w (w - d) j (omega arith) (omega arith) (omega arith) c in
         let b = head_part (k - d) (v - d) (omega arith) (omega arith) (omega arith) z in
         let c = value_part (v - d) (w - d) (omega arith) (omega arith) (omega arith) h in
-        next_item (items_part x (k - d) e (omega arith) (omega arith) is) b c g.1 (due_part (after_space t w) (after_space u (w - d)) j y g.0 f l q) s
+        next_item (items_part x (k - d) e (omega arith) (omega arith) is) b c g.1 (value_start_part (after_space t w) (after_space u (w - d)) j y g.0 f l q) s
 
--- a value stands in its own text, from the beginning to the end
+-- a value is in its own text, from the beginning to the end
 pub value_of_part : {m : Bool} {t : List ℕ} {i j : ℕ} → IsValue m t i j → j ≤ length t → IsValue m (slice_range t i j) 0 (length (slice_range t i j))
 value_of_part {t = t} {i} {j} h l =
     let n = value-longer h in

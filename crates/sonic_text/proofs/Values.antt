@@ -1,4 +1,4 @@
--- Values and items lead on, and a value that is due has at most one outcome.
+-- Values and items lead on, and a value that is expected has at most one outcome.
 use Rattle.std.proofs.Common.{◌≡◌, ◌≢◌, ℕ, zero, suc, ◌+◌, ◌<◌, inl, inr, sym, ◌∙◌, length, arith, refl, add-zero, codes}
 use Rattle.std.proofs.Common.{Result, Ok, Err, MatchResult}
 use Rattle.std.proofs.lemmas.Bool.{cases_order}
@@ -16,7 +16,7 @@ use Rattle.sonic_text.specs.Values.ItemsFit.{first_item, next_item}
 use Rattle.sonic_text.specs.Faults.{IsFault}
 use Rattle.sonic_text.specs.Faults.IsFault.{no_value, null_fault, true_fault, false_fault, number_fault, string_fault, in_key, in_value, after_item}
 use Rattle.sonic_text.proofs.FirstByteLemmas.{Sort, none, a_null, a_true, a_false, a_number, a_string, a_container, Begins, begins_one}
-use Rattle.sonic_text.proofs.Items.{Outcome, OneAt, OneBehind, LastItem, at_key, at_value, last_one, last_no_comma, opening_not_end, opening_one}
+use Rattle.sonic_text.proofs.Items.{Outcome, OneAt, OneAfter, LastItem, at_key, at_value, last_one, last_no_comma, opening_not_end, opening_one}
 use Rattle.sonic_text.proofs.Places.{after_space_later, byte_within}
 use Rattle.sonic_text.proofs.LiteralLemmas.{literal_never_both, literal_fault_one}
 use Rattle.sonic_text.proofs.Numbers.{number_longer, number_begins, number_outcome_one}
@@ -24,7 +24,7 @@ use Rattle.sonic_text.proofs.Strings.{string_longer, string_one, string_never_bo
 pub use Rattle.sonic_text.proofs.Items.{key-longer, key_one, head-later, head_one}
 
 mutual
-  -- a value ends behind the place where it begins
+  -- a value ends after the place where it begins
   pub value-longer : {m : Bool} {t : List ℕ} {i j : ℕ} → IsValue m t i j → i < j
   value-longer (null_literal h) = omega arith
   value-longer (true_literal h) = omega arith
@@ -49,12 +49,12 @@ items_open (next_item is y x c q p) = items_open is
 pub items_kind : {m : Bool} {t : List ℕ} {a b : Kind} {i n p h g : ℕ} → ItemsFit m t a i n h → ItemsFit m t b i p g → a ≡ b
 items_kind {a = a} {b} is fs = opening_one a b (let e = items_open is in let f = items_open fs in omega arith)
 
--- no closing bracket stands where the first item is due
+-- no closing bracket is where the first item is expected
 pub items_not_empty : {m : Bool} {t : List ℕ} {kind : Kind} {i n h : ℕ} → ItemsFit m t kind i n h → byte t (after_space t (i + 1)) ≢ closing kind
 items_not_empty (first_item b q d e) = rw q at d
 items_not_empty (next_item is y x c q p) = items_not_empty is
 
--- in the container at i the item behind the first n is due at h, its value stands from v to e, and a comma follows
+-- in the container at i the item after the first n is expected at h, its value is from v to e, and a comma follows
 pub record IsItem (m : Bool) (t : List ℕ) (kind : Kind) (i n : ℕ) : Type 0 where
   pub h : ℕ
   pub v : ℕ
@@ -74,16 +74,16 @@ items_before {m} {t} {kind} {i} {p} (next_item {p = k} {u} {v} {e} {l = b} is y 
   | inr (inr z) ↦ absurd (omega arith)
 ]
 
--- n items lead to one place, if the values behind i have one outcome
-items_same : {m : Bool} {t : List ℕ} {kind : Kind} {i n p h g : ℕ} → OneBehind m t i → n ≡ p → ItemsFit m t kind i n h → ItemsFit m t kind i p g → h ≡ g
+-- n items lead to one place, if the values after i have one outcome
+items_same : {m : Bool} {t : List ℕ} {kind : Kind} {i n p h g : ℕ} → OneAfter m t i → n ≡ p → ItemsFit m t kind i n h → ItemsFit m t kind i p g → h ≡ g
 items_same one e (first_item b q d o) (first_item c p f g) = cc
 items_same one e (first_item b q d o) (next_item is y x c p f) = absurd (omega arith)
 items_same one e (next_item is y x c p f) (first_item b q d o) = absurd (omega arith)
 items_same {m} {t} {kind} {i} one e (next_item {u} {v} {e = a} is y x c q o) (next_item {u = w} {v = z} {e = b} {l = j} fs k r d p g) =
     let same : u ≡ w = items_same one (omega arith) is fs in
     let head : ItemHead m t kind u z j = rw same k in
-    let due : v ≡ z = (head_one y head).0 in
-    let s : IsValue m t v b = rw due r in
+    let value_start : v ≡ z = (head_one y head).0 in
+    let s : IsValue m t v b = rw value_start r in
     let l : i < v = omega (arith, items-later is, head-later y) in
     let ends : ◌≡◌ {A = Result ℕ Stop} (Ok a) (Ok b) = one v l (Ok a) (Ok b) x s in
     let f : a ≡ b = cc in
@@ -95,7 +95,7 @@ pub data ContainerOutcome (m : Bool) (t : List ℕ) (kind : Kind) (i : ℕ) (r :
   at_last : {n h : ℕ} → ItemsFit m t kind i n h → LastItem m t kind h r → ContainerOutcome m t kind i r
 
 -- where more items fit, none of them is the last
-last_too_early : {m : Bool} {t : List ℕ} {kind : Kind} {i n p h g : ℕ} {r : Result ℕ Stop} → OneBehind m t i → n < p → ItemsFit m t kind i n h
+last_too_early : {m : Bool} {t : List ℕ} {kind : Kind} {i n p h g : ℕ} {r : Result ℕ Stop} → OneAfter m t i → n < p → ItemsFit m t kind i n h
     → LastItem m t kind h r → ItemsFit m t kind i p g → ⊥
 last_too_early {m} {t} {kind} {h = h} one l is a fs =
     let b = items_before fs l in
@@ -103,8 +103,8 @@ last_too_early {m} {t} {kind} {h = h} one l is a fs =
     let y : ItemHead m t kind h b.v b.key = rw e at b.head in
     last_no_comma one (items-later is) a y b.value b.comma
 
--- a container has one outcome, if the values behind its beginning have one
-container_one : {m : Bool} {t : List ℕ} {kind : Kind} {i : ℕ} {r q : Result ℕ Stop} → OneBehind m t i → ContainerOutcome m t kind i r
+-- a container has one outcome, if the values after its beginning have one
+container_one : {m : Bool} {t : List ℕ} {kind : Kind} {i : ℕ} {r q : Result ℕ Stop} → OneAfter m t i → ContainerOutcome m t kind i r
     → ContainerOutcome m t kind i q → r ≡ q
 container_one one (no_item b e) (no_item c f) = cc
 container_one one (no_item b e) (at_last fs z) = absurd (items_not_empty fs b)
@@ -118,7 +118,7 @@ container_one {m} {t} {kind} {q = q} one (at_last {n} {h} is a) (at_last {n = p}
   | inr (inr l) ↦ absurd (last_too_early one l fs b is)
 ]
 
--- a string stands from i to j, for some bytes
+-- a string is from i to j, for some bytes
 abbrev StringEnds : Bool → List ℕ → ℕ → ℕ → Type 0
 StringEnds m t i j = (b : List ℕ) × IsString m t i j b
 
@@ -138,7 +138,7 @@ record Viewed (m : Bool) (t : List ℕ) (i : ℕ) (r : Result ℕ Stop) : Type 0
   begins : Begins sort (byte t i)
   view : View sort m t i r
 
--- a word that stands at i begins there with its first letter
+-- a word at i begins there with its first letter
 pub first_letter : (word t : List ℕ) (i : ℕ) {j : ℕ} → 0 < length word → IsLiteral word t i j → byte t i ≡ byte word 0
 first_letter word t i l h = rw add-zero at (h.0.1 0 l)
 
@@ -179,8 +179,8 @@ word_one : (word t : List ℕ) (i : ℕ) (r q : Result ℕ Stop) → MatchResult
 word_one word t i r q =
     match_one (IsLiteral word t i) (IsLiteralFault word t i) r q (λ j k h g. cc (h.1, g.1)) (λ s z. literal_fault_one) (λ j s. literal_never_both word t i)
 
--- a value of one sort has one outcome, if the values behind it have one
-view_one : (k : Sort) (m : Bool) (t : List ℕ) (i : ℕ) (r q : Result ℕ Stop) → Begins k (byte t i) → (i < length t → OneBehind m t i)
+-- a value of one sort has one outcome, if the values after it have one
+view_one : (k : Sort) (m : Bool) (t : List ℕ) (i : ℕ) (r q : Result ℕ Stop) → Begins k (byte t i) → (i < length t → OneAfter m t i)
     → View k m t i r → View k m t i q → r ≡ q
 view_one none m t i r q b one h g = cc
 view_one a_null m t i r q b one h g = word_one (codes "null") t i r q h g
@@ -191,8 +191,8 @@ view_one a_string m t i r q b one h g =
     match_one (StringEnds m t i) (IsStringFault m t i) r q (λ j k x y. (string_one x.1 y.1).0) (λ s z. string_fault_one) (λ j s x. string_never_both x.1) h g
 view_one (a_container kind) m t i r q b one h g = container_one (one (byte_within t i (λ e. opening_not_end kind (omega arith)))) h g
 
--- a value has at most one outcome, if the values behind it have one
-one_here : (m : Bool) (t : List ℕ) (i : ℕ) → (i < length t → OneBehind m t i) → OneAt m t i
+-- a value has at most one outcome, if the values after it have one
+one_here : (m : Bool) (t : List ℕ) (i : ℕ) → (i < length t → OneAfter m t i) → OneAt m t i
 one_here m t i one r q x y =
     let a = outcome_view m t i r x in
     let b = outcome_view m t i q y in
@@ -205,7 +205,7 @@ one_from : (n : ℕ) (m : Bool) (t : List ℕ) (i : ℕ) → length t < i + n �
 one_from zero m t i l = one_here m t i (λ h. absurd (omega arith))
 one_from (suc n) m t i l = one_here m t i (λ h v o. one_from n m t v (omega arith))
 
--- where a container's bracket stands, the outcome is one of a container of that kind
+-- where a container's bracket is, the outcome is one of a container of that kind
 pub container_outcome : {m : Bool} {t : List ℕ} {kind : Kind} {i : ℕ} (r : Result ℕ Stop) → byte t i ≡ opening kind → Outcome m t i r
     → ContainerOutcome m t kind i r
 container_outcome {m} {t} {kind} {i} r b x =
@@ -213,7 +213,7 @@ container_outcome {m} {t} {kind} {i} r b x =
     let e : a.sort ≡ a_container kind = sym (begins_one a.sort (byte t i) a.begins) ∙ begins_one (a_container kind) (byte t i) b in
     rw e at a.view
 
--- a value that is due has at most one outcome
+-- a value that is expected has at most one outcome
 pub outcome_one : (m : Bool) (t : List ℕ) (i : ℕ) (r q : Result ℕ Stop) → Outcome m t i r → Outcome m t i q → r ≡ q
 outcome_one m t i = one_from (suc (length t)) m t i (omega arith)
 
@@ -225,7 +225,7 @@ value_end_one {m} {t} {i} {j} {k} x y = let e = outcome_one m t i (Ok j) (Ok k) 
 pub value_fault_one : {m : Bool} {t : List ℕ} {i : ℕ} {s r : Stop} → IsFault m t i s → IsFault m t i r → s ≡ r
 value_fault_one {m} {t} {i} {s} {r} f g = let e = outcome_one m t i (Err s) (Err r) f g in cc
 
--- a value that stands somewhere has no fault there
+-- a value that is somewhere has no fault there
 pub value_never_both : {m : Bool} {t : List ℕ} {i j : ℕ} {s : Stop} → IsValue m t i j → IsFault m t i s → ⊥
 value_never_both {m} {t} {i} {j} {s} x f = let e = outcome_one m t i (Ok j) (Err s) x f in cc
 

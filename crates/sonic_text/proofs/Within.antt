@@ -30,11 +30,11 @@ int_within t i j (inr h) =
     omega (arith, h.2, digits_within t i (omega arith))
 
 -- a fraction or an exponent
-tail_within : (t : List ℕ) (Marks : Type 0) (d i j : ℕ) → Tail t Marks d i j → i ≤ length t → j ≤ length t
-tail_within t Marks d i j (inl h) l =
+tail_within : (t : List ℕ) (Starts : Type 0) (d i j : ℕ) → Tail t Starts d i j → i ≤ length t → j ≤ length t
+tail_within t Starts d i j (inl h) l =
     let m = byte_within t d (λ z. omega (arith, h.1, z)) in
     omega (arith, h.2, digits_within t d (omega arith))
-tail_within t Marks d i j (inr h) l = omega (arith, h.1)
+tail_within t Starts d i j (inr h) l = omega (arith, h.1)
 
 -- a number
 number_within : (t : List ℕ) (i j : ℕ) → IsNumber t i j → j ≤ length t
@@ -43,7 +43,7 @@ number_within t i j h =
     let f = tail_within t (byte t h.int_end ≡ 46) (h.int_end + 1) h.int_end h.fraction_end h.fraction w in
     tail_within t (IsE (byte t h.fraction_end)) (after_sign t (h.fraction_end + 1)) h.fraction_end j h.exponent f
 
--- what ends behind a byte that isn't 0 ends within the text
+-- what ends after a byte that isn't 0 ends within the text
 byte_ends : (t : List ℕ) (q j : ℕ) → byte t q ≢ 0 → j ≡ q + 1 → j ≤ length t
 byte_ends t q j b e = let l = byte_within t q b in omega arith
 
@@ -57,18 +57,18 @@ value_within {t = t} {j = j} (string h) = byte_ends t h.close j (λ z. let c = h
 value_within {t = t} {i} {j} (empty kind b c q) = byte_ends t (after_space t (i + 1)) j (λ z. closing_not_end kind (omega (arith, c, z))) q
 value_within {t = t} {j = j} (filled {kind} {e = e} is y x c q) = byte_ends t (after_space t e) j (λ z. closing_not_end kind (omega (arith, c, z))) q
 
--- what is due behind white space that follows a byte that isn't 0 is due within the text
-due_within : (t : List ℕ) (q v : ℕ) → byte t q ≢ 0 → v ≡ after_space t (q + 1) → v ≤ length t
-due_within t q v b e = let l = byte_within t q b in omega (arith, after_space_within t (q + 1) (omega arith))
+-- what is expected after white space that follows a byte that isn't 0 is expected within the text
+value_start_within : (t : List ℕ) (q v : ℕ) → byte t q ≢ 0 → v ≡ after_space t (q + 1) → v ≤ length t
+value_start_within t q v b e = let l = byte_within t q b in omega (arith, after_space_within t (q + 1) (omega arith))
 
 -- an item
 pub items_within : {m : Bool} {t : List ℕ} {kind : Kind} {i n h : ℕ} → ItemsFit m t kind i n h → h ≤ length t
-items_within {t = t} {kind} {i} {h = h} (first_item b q d e) = due_within t i h (λ z. opening_not_end kind (omega arith)) q
-items_within {t = t} {h = h} (next_item {e = e} is y x c q o) = due_within t (after_space t e) h (λ z. omega (arith, c, z)) q
+items_within {t = t} {kind} {i} {h = h} (first_item b q d e) = value_start_within t i h (λ z. opening_not_end kind (omega arith)) q
+items_within {t = t} {h = h} (next_item {e = e} is y x c q o) = value_start_within t (after_space t e) h (λ z. omega (arith, c, z)) q
 
 -- a member's value
 pub key_within : {m : Bool} {t : List ℕ} {k v : ℕ} {b : List ℕ} → IsKey m t k v b → v ≤ length t
-key_within {t = t} {v = v} h = due_within t (after_space t h.end) v (λ z. let c = h.colon in omega arith) h.due
+key_within {t = t} {v = v} h = value_start_within t (after_space t h.end) v (λ z. let c = h.colon in omega arith) h.value_start
 
 -- an item's value
 pub head_within : {m : Bool} {t : List ℕ} {kind : Kind} {h v : ℕ} {l : Option (List ℕ)} → ItemHead m t kind h v l → h ≤ length t → v ≤ length t

@@ -6,7 +6,7 @@ use Rattle.sonic_text.specs.Strings.{strict}
 use Rattle.sonic_text.specs.Values.{IsValue}
 use Rattle.sonic_text.specs.Faults.{IsFault}
 
--- a value begins the text behind white space, and ends at j
+-- a value begins the text after white space, and ends at j
 abbrev pub IsWhole : List ℕ → ℕ → Type 0
 IsWhole t j = IsValue strict t (after_space t 0) j
 

@@ -1,4 +1,4 @@
--- Where and why a value that is due isn't there: the first byte that fits no value, as all before it does.
+-- Where and why a value that is expected isn't there: the first byte that fits no value, as all before it does.
 use Rattle.std.specs.Prelude.{◌≡◌, ◌≢◌, ℕ, ◌⊎◌, Bool, List, Option, codes}
 use Rattle.sonic_error.specs.declared.code.ErrorCode.{ErrorCode}
 use Rattle.sonic_error.specs.declared.code.ErrorCode.TheVariants.{ExpectedArrayCommaOrEnd, ExpectedColon, ExpectedObjectCommaOrEnd, ExpectObjectKeyOrEnd, InvalidJsonValue}
@@ -15,7 +15,7 @@ use Rattle.sonic_text.specs.Values.{closing, ItemHead, IsValue, ItemsFit}
 abbrev pub BeginsNone : ℕ → Type 0
 BeginsNone b = (b ≢ 91) × (b ≢ 123) × (b ≢ 34) × (b ≢ 45) × ¬ (IsDigit b) × (b ≢ 110) × (b ≢ 116) × (b ≢ 102)
 
--- behind e stands neither a comma nor this bracket
+-- after e is neither a comma nor this bracket
 abbrev pub NothingFits : List ℕ → ℕ → ℕ → Type 0
 NothingFits t e bracket = (byte t (after_space t e) ≢ 44) × (byte t (after_space t e) ≢ bracket)
 
@@ -24,13 +24,13 @@ abbrev pub code_after_item : Kind → ErrorCode
 code_after_item Array = ExpectedArrayCommaOrEnd
 code_after_item Object = ExpectedObjectCommaOrEnd
 
--- a key is due at k and isn't there, for this reason, or no colon stands behind it
+-- a key is expected at k and isn't there, for this reason, or no colon follows it
 pub data IsKeyFault (m : Bool) (t : List ℕ) (k : ℕ) (s : Stop) : Type 0 where
   no_quote : byte t k ≢ 34 → s ≡ bad t k ExpectObjectKeyOrEnd → IsKeyFault m t k s
   key_fault : byte t k ≡ 34 → IsStringFault m t k s → IsKeyFault m t k s
   no_colon : {e : ℕ} {b : List ℕ} → IsString m t k e b → byte t (after_space t e) ≢ 58 → s ≡ bad t (after_space t e) ExpectedColon → IsKeyFault m t k s
 
--- a value is due at i and isn't there, for this reason
+-- a value is expected at i and isn't there, for this reason
 pub data IsFault (m : Bool) (t : List ℕ) : ℕ → Stop → Type 0 where
   no_value : {i : ℕ} {s : Stop} → BeginsNone (byte t i) → s ≡ bad t i InvalidJsonValue → IsFault m t i s
   null_fault : {i : ℕ} {s : Stop} → byte t i ≡ 110 → IsLiteralFault (codes "null") t i s → IsFault m t i s

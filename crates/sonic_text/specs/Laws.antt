@@ -1,4 +1,4 @@
--- What is due at a place has one outcome.
+-- What is expected at a place has one outcome.
 use Rattle.std.specs.Prelude.{◌≡◌, ℕ, ◌⊎◌}
 use Rattle.sonic_text.specs.declared.stop.Stop.{Stop}
 

@@ -4,15 +4,15 @@ use Rattle.sonic_error.specs.declared.code.ErrorCode.TheVariants.{InvalidLiteral
 use Rattle.sonic_text.specs.declared.stop.Stop.{Stop}
 use Rattle.sonic_text.specs.Places.{byte, bad}
 
--- the first n letters of the word stand at i
+-- the first n letters of the word are at i
 abbrev pub Letters : List ℕ → List ℕ → ℕ → ℕ → Type 0
 Letters word t i n = (i + n ≤ length t) × ((k : ℕ) → k < n → byte t (i + k) ≡ byte word k)
 
--- from i to j stands the word
+-- from i to j is the word
 abbrev pub IsLiteral : List ℕ → List ℕ → ℕ → ℕ → Type 0
 IsLiteral word t i j = Letters word t i (length word) × (j ≡ i + length word)
 
--- some letters of the word stand at i, and the next one is missing or differs
+-- some letters of the word are at i, and the next one is missing or differs
 pub record IsLiteralFault (word t : List ℕ) (i : ℕ) (s : Stop) : Type 0 where
   pub n : ℕ
   pub shorter : n < length word

@@ -4,21 +4,21 @@ use Rattle.sonic_error.specs.declared.code.ErrorCode.TheVariants.{InvalidNumber}
 use Rattle.sonic_text.specs.declared.stop.Stop.{Stop}
 use Rattle.sonic_text.specs.Places.{byte, bad, IsDigit, digits_end}
 
--- behind a minus sign, if one stands at i
+-- after a minus sign, if one is at i
 abbrev pub after_minus : List ℕ → ℕ → ℕ
 after_minus t i = if byte t i == 45 then i + 1 else i
 
--- behind a sign, if one stands at i
+-- after a sign, if one is at i
 abbrev pub after_sign : List ℕ → ℕ → ℕ
 after_sign t i = if byte t i == 43 || byte t i == 45 then i + 1 else i
 
--- from i to j stands a 0 alone, or a digit from 1 to 9 and all digits behind it
+-- from i to j is a 0 alone, or a digit from 1 to 9 and all digits after it
 abbrev pub IsInt : List ℕ → ℕ → ℕ → Type 0
 IsInt t i j =
     (byte t i ≡ 48) × ¬ (IsDigit (byte t (i + 1))) × (j ≡ i + 1)
     ⊎ (49 ≤ byte t i) × (byte t i ≤ 57) × (j ≡ digits_end t i)
 
--- from i to j stand a dot and all digits behind it, at least one; or no dot stands at i
+-- from i to j are a dot and all digits after it, at least one; or no dot is at i
 abbrev pub IsFraction : List ℕ → ℕ → ℕ → Type 0
 IsFraction t i j =
     (byte t i ≡ 46) × IsDigit (byte t (i + 1)) × (j ≡ digits_end t (i + 1))
@@ -28,13 +28,13 @@ IsFraction t i j =
 abbrev pub IsE : ℕ → Type 0
 IsE b = (b ≡ 101) ⊎ (b ≡ 69)
 
--- from i to j stand an e, perhaps a sign, and all digits behind it, at least one; or no e stands at i
+-- from i to j are an e, perhaps a sign, and all digits after it, at least one; or no e is at i
 abbrev pub IsExponent : List ℕ → ℕ → ℕ → Type 0
 IsExponent t i j =
     IsE (byte t i) × IsDigit (byte t (after_sign t (i + 1))) × (j ≡ digits_end t (after_sign t (i + 1)))
     ⊎ ¬ (IsE (byte t i)) × (j ≡ i)
 
--- from i to j stands a number, the longest one: perhaps a minus sign, an integer, perhaps a fraction, perhaps an exponent
+-- from i to j is a number, the longest one: perhaps a minus sign, an integer, perhaps a fraction, perhaps an exponent
 pub record IsNumber (t : List ℕ) (i j : ℕ) : Type 0 where
   pub int_end : ℕ
   pub fraction_end : ℕ
@@ -42,17 +42,17 @@ pub record IsNumber (t : List ℕ) (i j : ℕ) : Type 0 where
   pub fraction : IsFraction t int_end fraction_end
   pub exponent : IsExponent t fraction_end j
 
--- no digit stands where one is due, or one stands behind a first 0
+-- no digit is where one is expected, or one follows a first 0
 abbrev pub IsIntFault : List ℕ → ℕ → Stop → Type 0
 IsIntFault t i s =
     ¬ (IsDigit (byte t i)) × (s ≡ bad t i InvalidNumber)
     ⊎ (byte t i ≡ 48) × IsDigit (byte t (i + 1)) × (s ≡ bad t (i + 1) InvalidNumber)
 
--- no digit stands behind the dot
+-- no digit follows the dot
 abbrev pub IsFractionFault : List ℕ → ℕ → Stop → Type 0
 IsFractionFault t i s = (byte t i ≡ 46) × ¬ (IsDigit (byte t (i + 1))) × (s ≡ bad t (i + 1) InvalidNumber)
 
--- no digit stands behind the e and its sign
+-- no digit follows the e and its sign
 abbrev pub IsExponentFault : List ℕ → ℕ → Stop → Type 0
 IsExponentFault t i s = IsE (byte t i) × ¬ (IsDigit (byte t (after_sign t (i + 1)))) × (s ≡ bad t (after_sign t (i + 1)) InvalidNumber)
 

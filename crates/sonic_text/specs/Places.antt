@@ -6,7 +6,7 @@ use Rattle.sonic_error.specs.declared.code.ErrorCode.{ErrorCode}
 use Rattle.sonic_error.specs.declared.code.ErrorCode.TheVariants.{EofWhileParsing}
 use Rattle.sonic_text.specs.declared.stop.Stop.{Stop}
 
--- the byte at p, and 0 behind the end, where no rule asks for a 0
+-- the byte at p, and 0 after the end, where no rule asks for a 0
 abbrev pub byte : List ℕ → ℕ → ℕ
 byte t p = slice_index t p
 

@@ -13,7 +13,7 @@ strict = false
 abbrev pub lossy : Bool
 lossy = true
 
--- what a hexadecimal digit stands for, in either case
+-- what a hexadecimal digit denotes, in either case
 unfoldable pub hex_digit : ℕ → Option ℕ
 hex_digit b =
     if nat_le 48 b && nat_le b 57 then Some (b - 48)
@@ -21,7 +21,7 @@ hex_digit b =
     else if nat_le 97 b && nat_le b 102 then Some (b - 87)
     else None
 
--- at p stand four hexadecimal digits, whose number is n
+-- at p are four hexadecimal digits, whose number is n
 pub record IsHex4 (t : List ℕ) (p n : ℕ) : Type 0 where
   pub a : ℕ
   pub b : ℕ
@@ -33,7 +33,7 @@ pub record IsHex4 (t : List ℕ) (p n : ℕ) : Type 0 where
   pub fourth : hex_digit (byte t (p + 3)) ≡ Some d
   pub number : n ≡ ((a * 16 + b) * 16 + c) * 16 + d
 
--- at p stand a backslash, a u and four hexadecimal digits, whose number is n
+-- at p are a backslash, a u and four hexadecimal digits, whose number is n
 abbrev pub IsEscape : List ℕ → ℕ → ℕ → Type 0
 IsEscape t p n = (byte t p ≡ 92) × (byte t (p + 1) ≡ 117) × IsHex4 t (p + 2) n
 
@@ -44,11 +44,11 @@ IsHigh n = (0xD800 ≤ n) × (n ≤ 0xDBFF)
 abbrev pub IsLow : ℕ → Type 0
 IsLow n = (0xDC00 ≤ n) × (n ≤ 0xDFFF)
 
--- an escape of a second half stands at p
+-- an escape of a second half is at p
 abbrev pub IsLowEscape : List ℕ → ℕ → Type 0
 IsLowEscape t p = (l : ℕ) × IsEscape t p l × IsLow l
 
--- what a letter behind a backslash stands for
+-- what a letter after a backslash denotes
 unfoldable pub escaped : ℕ → Option ℕ
 escaped b =
     if b == 34 || b == 92 || b == 47 then Some b
@@ -59,15 +59,15 @@ escaped b =
     else if b == 116 then Some 9
     else None
 
--- the UTF-8 of U+FFFD, for which a single surrogate stands
+-- the UTF-8 of U+FFFD, which a single surrogate denotes
 abbrev pub replacement : List ℕ
 replacement = 0xef ∷ 0xbf ∷ 0xbd ∷ []
 
--- a byte that stands for itself: from 0x20 up, and neither a quote nor a backslash
+-- a byte that denotes itself: from 0x20 up, and neither a quote nor a backslash
 abbrev pub IsUnescaped : ℕ → Type 0
 IsUnescaped b = (32 ≤ b) × (b ≢ 34) × (b ≢ 92)
 
--- the escape at p, whose number is n, begins a char that ends at q and stands for the bytes b
+-- the escape at p, whose number is n, begins a char that ends at q and denotes the bytes b
 pub data IsUnicodeChar (m : Bool) (t : List ℕ) (p n q : ℕ) (b : List ℕ) : Type 0 where
   scalar : ¬ IsHigh n → ¬ IsLow n → q ≡ p + 6 → b ≡ encode_utf8 n → IsUnicodeChar m t p n q b
   pair : {l : ℕ} → IsHigh n → IsEscape t (p + 6) l → IsLow l → q ≡ p + 12
@@ -75,18 +75,18 @@ pub data IsUnicodeChar (m : Bool) (t : List ℕ) (p n q : ℕ) (b : List ℕ) : 
   lone_high : m ≡ lossy → IsHigh n → ¬ IsLowEscape t (p + 6) → q ≡ p + 6 → b ≡ replacement → IsUnicodeChar m t p n q b
   lone_low : m ≡ lossy → IsLow n → q ≡ p + 6 → b ≡ replacement → IsUnicodeChar m t p n q b
 
--- from p to q stands one char of a string, for the bytes b
+-- from p to q is one char of a string, for the bytes b
 pub data IsChar (m : Bool) (t : List ℕ) (p q : ℕ) (b : List ℕ) : Type 0 where
   unescaped : IsUnescaped (byte t p) → q ≡ p + 1 → b ≡ byte t p ∷ [] → IsChar m t p q b
   short_escape : {c : ℕ} → byte t p ≡ 92 → escaped (byte t (p + 1)) ≡ Some c → q ≡ p + 2 → b ≡ c ∷ [] → IsChar m t p q b
   unicode_escape : {n : ℕ} → IsEscape t p n → IsUnicodeChar m t p n q b → IsChar m t p q b
 
--- from i to k stand chars, one behind the other, for the bytes b
+-- from i to k are chars, one after the other, for the bytes b
 pub data AreChars (m : Bool) (t : List ℕ) (i : ℕ) : ℕ → List ℕ → Type 0 where
   no_char : {k : ℕ} {b : List ℕ} → k ≡ i → b ≡ [] → AreChars m t i k b
   one_more : {p k : ℕ} {b c d : List ℕ} → AreChars m t i p b → IsChar m t p k c → d ≡ b ++ c → AreChars m t i k d
 
--- from i to j stands a string, for the bytes b: chars between two quotes
+-- from i to j is a string, for the bytes b: chars between two quotes
 pub record IsString (m : Bool) (t : List ℕ) (i j : ℕ) (b : List ℕ) : Type 0 where
   pub close : ℕ
   pub opens : byte t i ≡ 34
@@ -94,15 +94,15 @@ pub record IsString (m : Bool) (t : List ℕ) (i j : ℕ) (b : List ℕ) : Type 
   pub closes : byte t close ≡ 34
   pub end : j ≡ close + 1
 
--- what stands from i to j is a string with a backslash between its quotes
+-- what is from i to j is a string with a backslash between its quotes
 abbrev pub IsEscapedString : List ℕ → ℕ → ℕ → Type 0
 IsEscapedString t i j = (byte t i ≡ 34) × (k : ℕ) × (i < k) × (k + 1 < j) × (byte t k ≡ 92)
 
--- the byte stands for a hexadecimal digit from low to high
+-- the byte denotes a hexadecimal digit from low to high
 unfoldable pub hex_within : ℕ → ℕ → ℕ → Bool
 hex_within low high b = is_some (hex_digit b) && nat_le low (unwrap_or (hex_digit b) 0) && nat_le (unwrap_or (hex_digit b) 0) high
 
--- the byte may stand at this place of an escape of a second half
+-- the byte may be at this place of an escape of a second half
 unfoldable pub is_low_byte : ℕ → ℕ → Bool
 is_low_byte n b =
     if n == 0 then b == 92
@@ -111,7 +111,7 @@ is_low_byte n b =
     else if n == 3 then hex_within 12 15 b
     else hex_within 0 15 b
 
--- why the byte n places behind the backslash at k is wrong, where those before it are right
+-- why the byte n places after the backslash at k is wrong, where those before it are right
 unfoldable pub escape_fault : Bool → List ℕ → ℕ → ℕ → Option ErrorCode
 escape_fault m t k n =
     let b = byte t (k + n) in
@@ -123,16 +123,16 @@ escape_fault m t k n =
     then Some InvalidSurrogateUnicodeCodePoint
     else None
 
--- the first wrong byte behind the backslash at k
+-- the first wrong byte after the backslash at k
 pub record IsEscapeFault (m : Bool) (t : List ℕ) (k : ℕ) (s : Stop) : Type 0 where
   pub n : ℕ
   pub code : ErrorCode
-  pub behind : (0 < n) × (n < 12)
+  pub after : (0 < n) × (n < 12)
   pub right : (d : ℕ) → 0 < d → d < n → escape_fault m t k d ≡ None
   pub wrong : escape_fault m t k n ≡ Some code
   pub stop : s ≡ bad t (k + n) code
 
--- chars fit up to k, where neither a char nor the closing quote stands
+-- chars fit up to k, where neither a char nor the closing quote is
 pub data IsStringFault (m : Bool) (t : List ℕ) (i : ℕ) (s : Stop) : Type 0 where
   control_char : {k : ℕ} {b : List ℕ} → AreChars m t (i + 1) k b → byte t k < 32 → s ≡ bad t k ControlCharacterWhileParsingString → IsStringFault m t i s
   in_escape : {k : ℕ} {b : List ℕ} → AreChars m t (i + 1) k b → byte t k ≡ 92 → IsEscapeFault m t k s → IsStringFault m t i s

@@ -8,7 +8,7 @@ use Rattle.sonic_text.specs.Strings.{IsString, strict}
 use Rattle.sonic_text.specs.Values.{opening, closing, ItemHead}
 
 mutual
-  -- a value as a tree: items keep their order, members their keys and their repeats, numbers their text, strings the bytes that they stand for
+  -- a value as a tree: items keep their order, members their keys and their repeats, numbers their text, strings the bytes that they denote
   pub data Tree : Type 0 where
     null : Tree
     truth : Bool → Tree
@@ -22,7 +22,7 @@ mutual
     item : Option (List ℕ) → Tree → Items → Items
 
 mutual
-  -- from i to j stands a value, and it means this tree
+  -- from i to j is a value, and it means this tree
   pub data Means (t : List ℕ) : ℕ → ℕ → Tree → Type 0 where
     means_null : {i j : ℕ} → IsLiteral (codes "null") t i j → Means t i j null
     means_true : {i j : ℕ} → IsLiteral (codes "true") t i j → Means t i j (truth true)
@@ -34,7 +34,7 @@ mutual
     means_filled : {kind : Kind} {i h j : ℕ} {xs : Items} → byte t i ≡ opening kind → h ≡ after_space t (i + 1) → byte t h ≢ closing kind
         → ItemsMean t kind h j xs → Means t i j (container kind xs)
 
-  -- from h stand items of this kind, one comma between two of them, and a closing bracket that ends at j
+  -- from h are items of this kind, one comma between two of them, and a closing bracket that ends at j
   pub data ItemsMean (t : List ℕ) : Kind → ℕ → ℕ → Items → Type 0 where
     last_item : {kind : Kind} {h v e j : ℕ} {l : Option (List ℕ)} {x : Tree} → ItemHead strict t kind h v l → Means t v e x
         → byte t (after_space t e) ≡ closing kind → j ≡ after_space t e + 1 → ItemsMean t kind h j (item l x no_item)

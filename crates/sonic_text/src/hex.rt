@@ -1,8 +1,8 @@
-// Hexadecimal digits of either case, four of which stand behind `\u` (RFC 8259, section 7).
+// Hexadecimal digits of either case, four of which follow `\u` (RFC 8259, section 7).
 ghost use Rattle.std.specs.Prelude.{◌≡◌, ℕ, ◌+◌, ◌<◌, ◌≤◌, length, None, IfSome};
 ghost use Rattle.sonic_text.specs.Strings.{hex_digit, IsHex4};
 
-// What a hexadecimal digit stands for, in either case.
+// What a hexadecimal digit denotes, in either case.
 #[inline]
 #[tactic(auto, unfolding(crate::specs::Strings::hex_digit))]
 pub(crate) fn digit_of(byte: u8) -> Option<u32>
@@ -17,7 +17,7 @@ pub(crate) fn digit_of(byte: u8) -> Option<u32>
     }
 }
 
-// The number of the four hexadecimal digits that stand at `place`, if four stand there.
+// The number of the four hexadecimal digits at `place`, if four are there.
 pub(crate) fn hex4_at(text: &[u8], place: usize) -> Option<u16>
     requires { place + 4 ≤ length text.now }
     ensures some { IfSome result (λ n. IsHex4 text.now place n) }

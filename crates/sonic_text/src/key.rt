@@ -9,7 +9,7 @@ use crate::unescape::{escape_at, plain_end};
 use crate::utf8::codepoint_to_utf8;
 use std::cmp::Ordering;
 
-/// Whether the piece stands in the key behind the bytes that are done.
+/// Whether the piece is in the key after the bytes that are done.
 fn goes_on(key: &[u8], done: usize, piece: &[u8]) -> bool
     requires { done ≤ length key.now }
     ensures yes { OnTrue result ((done + length piece.now ≤ length key.now)
@@ -30,7 +30,7 @@ fn piece_order(key: &[u8], done: usize, piece: &[u8]) -> Ordering
     piece.cmp(&left)
 }
 
-/// How the text that the string from `start` to `end`, both quotes included, stands for compares
+/// How the text that the string from `start` to `end`, both quotes included, denotes compares
 /// with the key, byte by byte.
 ///
 /// `"b"`, `"\u0062"` and `"ab"` are `Greater` than the key `a`, and `""` is `Less`. It takes no
@@ -64,7 +64,7 @@ pub fn compare_key(text: &[u8], start: usize, end: usize, key: &str) -> Ordering
     }
 }
 
-/// Whether the string from `start` to `end`, both quotes included, stands for the key.
+/// Whether the string from `start` to `end`, both quotes included, denotes the key.
 ///
 /// Chars are compared, and not how they are written (RFC 8259, section 8.3): both `"a"` and
 /// `"\u0061"` are the same key as `a`. It takes no memory.

@@ -7,7 +7,7 @@ ghost use Rattle.sonic_text.specs.Strings.{strict};
 ghost use Rattle.sonic_text.specs.Trees.{Tree, Means};
 ghost use Rattle.sonic_text.specs.Values.{IsValue};
 
-/// A law of the numbers, for every text and every place: either a number stands there and ends at
+/// A law of the numbers, for every text and every place: either a number is there and ends at
 /// exactly one place, or none does for exactly one reason, and never both.
 ///
 /// The reason is a place and a code. So what `number_end` answers is the only answer that its
@@ -16,7 +16,7 @@ pub fn number_has_one_outcome()
     ensures { (t : List ℕ) (i : ℕ) → HasOneOutcome (IsNumber t i) (IsNumberFault t i) }
 {}
 
-/// A law of the literals, for every word, every text and every place in it: either the word stands
+/// A law of the literals, for every word, every text and every place in it: either the word is
 /// there and ends at exactly one place, or it doesn't for exactly one reason, and never both.
 ///
 /// The reason is a place and a code. So what `literal_end` answers is the only answer that its
@@ -27,7 +27,7 @@ pub fn literal_has_one_outcome()
 {}
 
 /// The law of values (RFC 8259, section 3), for both ways of reading, every text and every place:
-/// either a value stands there and ends at exactly one place, or none does for exactly one reason,
+/// either a value is there and ends at exactly one place, or there is none for exactly one reason,
 /// and never both. So `[1,2]x` has the one end 5, and `{"a":}` the one fault, at 5.
 ///
 /// The reason is a place and a code. So a reader whose clauses speak of these two has only one

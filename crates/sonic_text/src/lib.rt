@@ -1,7 +1,7 @@
 //! The grammar of JSON (RFC 8259) as facts over a whole text, and the small readers that meet it.
 #![tactic(auto)]
 
-// Hexadecimal digits, four of which stand behind `\u`.
+// Hexadecimal digits, four of which follow `\u`.
 mod hex;
 // Keys compared as they are read.
 mod key;
@@ -26,7 +26,7 @@ mod string_law;
 // Worked examples.
 #[cfg(test)]
 mod tests;
-// What a string stands for, as bytes.
+// What a string denotes, as bytes.
 mod unescape;
 // A code point as UTF-8.
 mod utf8;
@@ -43,6 +43,6 @@ pub use scan::{byte_at, skip_digits, skip_space, stop_at};
 pub use space::is_whitespace;
 pub use stop::Stop;
 pub use string::{StringEnd, string_end};
-pub use string_law::{string_has_one_outcome, string_stands_for_one_text};
+pub use string_law::{string_denotes_one_text, string_has_one_outcome};
 pub use unescape::{ESCAPED_TAB, unescape_into};
 pub use utf8::codepoint_to_utf8;

@@ -4,10 +4,10 @@ ghost use Rattle.sonic_text.specs.Literals.{IsLiteral, IsLiteralFault};
 use crate::stop::Stop;
 use sonic_error::ErrorCode;
 
-/// The place behind the word that stands at `start`, or the first place where a letter of it
+/// The place after the word at `start`, or the first place where a letter of it
 /// is missing or differs.
 ///
-/// Behind the word anything may follow: `literal_end(b"nullx", 0, "null")` is `Ok(4)`.
+/// After the word anything may follow: `literal_end(b"nullx", 0, "null")` is `Ok(4)`.
 /// `literal_end(b"nul", 0, "null")` stops at 3 with `EofWhileParsing`, and
 /// `literal_end(b"nx", 0, "null")` at 1 with `InvalidLiteral`.
 pub fn literal_end(text: &[u8], start: usize, literal: &str) -> Result<usize, Stop>

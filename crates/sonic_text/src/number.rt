@@ -9,7 +9,7 @@ use crate::scan::{byte_at, skip_digits, stop_at};
 use crate::stop::Stop;
 use sonic_error::ErrorCode;
 
-// The place behind the minus sign, if one stands at `start`.
+// The place after the minus sign, if one is at `start`.
 fn skip_minus(text: &[u8], start: usize) -> usize
     requires { start ≤ length text.now }
     ensures place { result ≡ after_minus text.now start }
@@ -23,7 +23,7 @@ fn skip_minus(text: &[u8], start: usize) -> usize
     }
 }
 
-// The place behind the sign, if one stands at `start`.
+// The place after the sign, if one is at `start`.
 fn skip_sign(text: &[u8], start: usize) -> usize
     requires { start ≤ length text.now }
     ensures place { result ≡ after_sign text.now start }
@@ -36,7 +36,7 @@ fn skip_sign(text: &[u8], start: usize) -> usize
     }
 }
 
-// The end of the integer without a sign that stands at a place.
+// The end of the integer without a sign at a place.
 fn int_end(text: &[u8], start: usize) -> Result<usize, Stop>
     requires { start ≤ length text.now }
     ensures ok { IfOk result (λ j. (start < j) × (j ≤ length text.now) × IsInt text.now start j) }
@@ -52,7 +52,7 @@ fn int_end(text: &[u8], start: usize) -> Result<usize, Stop>
     }
 }
 
-// The end of the fraction that stands at a place, or the place itself where no dot does.
+// The end of the fraction at a place, or the place itself where there is none.
 fn fraction_end(text: &[u8], start: usize) -> Result<usize, Stop>
     requires { start ≤ length text.now }
     ensures ok { IfOk result (λ j. (start ≤ j) × (j ≤ length text.now) × IsFraction text.now start j) }
@@ -69,7 +69,7 @@ fn fraction_end(text: &[u8], start: usize) -> Result<usize, Stop>
     }
 }
 
-// The end of the exponent that stands at a place, or the place itself where no `e` does.
+// The end of the exponent at a place, or the place itself where there is none.
 fn exponent_end(text: &[u8], start: usize) -> Result<usize, Stop>
     requires { start ≤ length text.now }
     ensures ok { IfOk result (λ j. (start ≤ j) × (j ≤ length text.now) × IsExponent text.now start j) }
@@ -86,10 +86,10 @@ fn exponent_end(text: &[u8], start: usize) -> Result<usize, Stop>
     }
 }
 
-/// The end of the number that stands at `start`, or the first place where a digit is due and none
-/// stands, or where one stands behind a first 0.
+/// The end of the number at `start`, or the first place where a digit is expected and none
+/// is, or where one follows a first 0.
 ///
-/// The number is one of RFC 8259, section 6, and the longest one. Behind it anything may follow:
+/// The number is one of RFC 8259, section 6, and the longest one. After it anything may follow:
 /// `number_end(b"1.2.3", 0)` is `Ok(3)`. `number_end(b"-x", 0)` stops at 1 and
 /// `number_end(b"01", 0)` at 1, both with `InvalidNumber`, and `number_end(b"1e", 0)` at 2 with
 /// `EofWhileParsing`.

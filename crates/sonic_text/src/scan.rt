@@ -5,7 +5,7 @@ use crate::space::is_whitespace;
 use crate::stop::Stop;
 use sonic_error::ErrorCode;
 
-/// The byte at a place, and 0 behind the end, where no rule of the grammar asks for a 0.
+/// The byte at a place, and 0 after the end, where no rule of the grammar asks for a 0.
 ///
 /// So a byte that is missing needs no case of its own: `byte_at(b"[1", 1)` is `b'1'`, and
 /// `byte_at(b"[1", 2)` is 0.

@@ -13,13 +13,13 @@ use sonic_error::ErrorCode;
 /// For the string `"a\n"` at the place 0 it is `StringEnd { end: 5, escaped: true }`.
 #[derive(Clone, Copy, Debug, PartialEq, Eq)]
 pub struct StringEnd {
-    /// The place behind the closing quote.
+    /// The place after the closing quote.
     pub end: usize,
-    /// Whether a backslash stands between the quotes.
+    /// Whether a backslash is between the quotes.
     pub escaped: bool,
 }
 
-// The hexadecimal digit that is due at a place.
+// The hexadecimal digit that is expected at a place.
 #[inline]
 #[tactic(auto, using(crate::proofs::HexDigitLemmas::hex_some))]
 fn digit_at(text: &[u8], place: usize) -> Result<u32, Stop>
@@ -38,7 +38,7 @@ fn digit_at(text: &[u8], place: usize) -> Result<u32, Stop>
     }
 }
 
-// Whether a byte may stand `n` places behind the start of an escape of a second half.
+// Whether a byte may be `n` places after the start of an escape of a second half.
 #[tactic(auto, unfolding(crate::specs::Strings::is_low_byte, crate::specs::Strings::hex_within, crate::specs::Strings::hex_digit))]
 fn low_byte(n: usize, byte: u8) -> bool
     ensures { result ≡ is_low_byte n byte }
@@ -52,7 +52,7 @@ fn low_byte(n: usize, byte: u8) -> bool
     }
 }
 
-// How many bytes of an escape of a second half stand at a place, up to six.
+// How many bytes of an escape of a second half are at a place, up to six.
 #[tactic(auto, using(crate::proofs::HexDigitLemmas::low_some))]
 fn low_bytes(text: &[u8], place: usize) -> usize
     requires { place ≤ length text.now }
@@ -68,7 +68,7 @@ fn low_bytes(text: &[u8], place: usize) -> usize
     n
 }
 
-// The number of the four hexadecimal digits behind the `\u` at a place.
+// The number of the four hexadecimal digits after the `\u` at a place.
 fn number_at(text: &[u8], place: usize, lossy: bool) -> Result<u32, Stop>
     requires backslash { byte text.now place ≡ 92 }
     requires letter { byte text.now (place + 1) ≡ 117 }
@@ -87,7 +87,7 @@ fn number_at(text: &[u8], place: usize, lossy: bool) -> Result<u32, Stop>
     Ok(((a * 16 + b) * 16 + c) * 16 + d)
 }
 
-// The place behind the `\u` escape, or the pair of them, that begins at a place.
+// The place after the `\u` escape, or the pair of them, that begins at a place.
 fn unicode_end(text: &[u8], place: usize, lossy: bool) -> Result<usize, Stop>
     requires backslash { byte text.now place ≡ 92 }
     requires letter { byte text.now (place + 1) ≡ 117 }
@@ -110,7 +110,7 @@ fn unicode_end(text: &[u8], place: usize, lossy: bool) -> Result<usize, Stop>
     }
 }
 
-// Whether a letter alone stands behind a backslash.
+// Whether a letter alone follows a backslash.
 #[inline]
 #[tactic(auto, unfolding(crate::specs::Strings::escaped))]
 fn is_short(letter: u8) -> bool
@@ -123,7 +123,7 @@ fn is_short(letter: u8) -> bool
     )
 }
 
-// The place behind the escape that begins at a place, or its first wrong byte.
+// The place after the escape that begins at a place, or its first wrong byte.
 fn escape_end(text: &[u8], place: usize, lossy: bool) -> Result<usize, Stop>
     requires { byte text.now place ≡ 92 }
     ensures ok { IfOk result (λ j. (place < j) × (j ≤ length text.now)

@@ -11,9 +11,9 @@ pub fn string_has_one_outcome()
         → HasOneOutcome (λ j. (b : List ℕ) × IsString m t i j b) (IsStringFault m t i) }
 {}
 
-/// A string (RFC 8259, section 7) stands for one list of bytes: `"\u0041"` for `A` and for nothing
+/// A string (RFC 8259, section 7) denotes one list of bytes: `"\u0041"` for `A` and for nothing
 /// else.
-pub fn string_stands_for_one_text()
+pub fn string_denotes_one_text()
     ensures { (m : Bool) (t : List ℕ) (i j k : ℕ) (b c : List ℕ)
         → IsString m t i j b → IsString m t i k c → (j ≡ k) × (b ≡ c) }
 {}

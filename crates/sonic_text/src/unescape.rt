@@ -1,4 +1,4 @@
-// Strings with their escapes undone (RFC 8259, section 7), where a whole string is known to stand.
+// Strings with their escapes undone (RFC 8259, section 7), where a whole string is known to be.
 ghost use Rattle.std.specs.Prelude.{◌≡◌, ◌≢◌, ℕ, ◌+◌, ◌<◌, ◌≤◌, ◌++◌, ◌==◌, Bool, List, length, map, None, IfSome, IfErr, OnOk, OnErr, unwrap_or, encode_utf8};
 ghost use Rattle.std.specs.Simd.Lanes.{mask_l};
 ghost use Rattle.sonic_error.specs.Errors.{IsPlainError};
@@ -11,8 +11,8 @@ use sonic_error::{Error, ErrorCode};
 use std::alloc::AllocError;
 use std::simd::prelude::*;
 
-/// What each letter behind a backslash stands for (RFC 8259, section 7), and 0 for a byte that
-/// stands for nothing there: at `n` a line feed, at `"` itself, and at `u` and `x` 0.
+/// What each letter after a backslash denotes (RFC 8259, section 7), and 0 for a byte that
+/// denotes nothing there: at `n` a line feed, at `"` itself, and at `u` and `x` 0.
 #[rattlefmt::skip]
 pub const ESCAPED_TAB: [u8; 256] = [
     0, 0, 0, 0, 0, 0, 0, 0, 0, 0, 0, 0, 0, 0, 0, 0,
@@ -33,14 +33,14 @@ pub const ESCAPED_TAB: [u8; 256] = [
     0, 0, 0, 0, 0, 0, 0, 0, 0, 0, 0, 0, 0, 0, 0, 0,
 ];
 
-/// What the letter stands for behind a backslash, and 0 if it stands for nothing there.
+/// What the letter denotes after a backslash, and 0 if it denotes nothing there.
 fn escaped_of(letter: u8) -> u8
     ensures { result ≡ unwrap_or (escaped letter) 0 }
 {
     ESCAPED_TAB[letter as usize]
 }
 
-/// The second half of a surrogate pair whose escape stands at `place`, if one does (RFC 7493, 2.1).
+/// The second half of a surrogate pair whose escape is at `place`, if there is one (RFC 7493, 2.1).
 fn low_at(text: &[u8], place: usize) -> Option<u16>
     requires { place ≤ length text.now }
     ensures some { IfSome result (λ l. IsEscape text.now place l × IsLow l) }
@@ -59,9 +59,9 @@ fn low_at(text: &[u8], place: usize) -> Option<u16>
     Some(half)
 }
 
-/// The code point of the char that begins with the escape `\u` at `place`, and the place behind it.
+/// The code point of the char that begins with the escape `\u` at `place`, and the place after it.
 ///
-/// Two escapes of a surrogate pair are one char, and a single surrogate stands for U+FFFD.
+/// Two escapes of a surrogate pair are one char, and a single surrogate denotes U+FFFD.
 fn unicode_at(text: &[u8], place: usize) -> (u32, usize)
     requires { (n : ℕ) × IsEscape text.now place n }
     ensures one { (m : Bool) (n q : ℕ) (b : List ℕ) → IsEscape text.now place n
@@ -87,7 +87,7 @@ fn unicode_at(text: &[u8], place: usize) -> (u32, usize)
     }
 }
 
-/// The code point of the char that begins with the backslash at `place`, and the place behind it.
+/// The code point of the char that begins with the backslash at `place`, and the place after it.
 pub(crate) fn escape_at(text: &[u8], place: usize) -> (u32, usize)
     requires escape { byte text.now place ≡ 92 }
     requires char { (m : Bool) × (q : ℕ) × (b : List ℕ) × IsChar m text.now place q b }
@@ -142,7 +142,7 @@ pub(crate) fn plain_end(text: &[u8], place: usize, end: usize) -> usize
     plain_end_slowly(text, stop, end)
 }
 
-/// Appends the bytes that a string stands for; where memory is wanting, some of the first of them.
+/// Appends the bytes that a string denotes; where memory is wanting, some of the first of them.
 fn append_chars(
     out: &mut Vec<u8>,
     text: &[u8],
@@ -171,7 +171,7 @@ fn append_chars(
     }
 }
 
-/// Appends the bytes that the string from `start` to `end`, both quotes included, stands for
+/// Appends the bytes that the string from `start` to `end`, both quotes included, denotes
 /// (RFC 8259, section 7); where memory is wanting, it leaves `out` as it was.
 ///
 /// The string must be one of a strict or a lossy reader, as `lossy` says. Of `"a\u00e9\n"` it

@@ -3,13 +3,13 @@ ghost use Rattle.std.specs.Char.{len_utf8};
 
 /// Writes the bytes of a code point in UTF-8, and returns how many, or 0 above 0x10FFFF.
 ///
-/// The bytes are those of the bit patterns of RFC 3629, section 3, and behind them `out` stays as
+/// The bytes are those of the bit patterns of RFC 3629, section 3, and after them `out` stays as
 /// it was. A surrogate is written too: 0xD800 as `ed a0 80`, which isn't UTF-8.
 pub fn codepoint_to_utf8(cp: u32, out: &mut [u8; 4]) -> usize
     ensures written { cp ≤ 0x10FFFF → take result out.new ≡ encode_utf8 cp }
     ensures len { cp ≤ 0x10FFFF → result ≡ len_utf8 cp }
     ensures above { 0x10FFFF < cp → result ≡ 0 }
-    ensures behind { drop result out.new ≡ drop result out.old }
+    ensures after { drop result out.new ≡ drop result out.old }
 {
     if cp < 0x80 {
         out[0] = cp as u8;

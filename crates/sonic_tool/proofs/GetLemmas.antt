@@ -4,7 +4,7 @@ use Rattle.std.specs.declared.option.Option.{Option}
 use Rattle.sonic_text.specs.Paths.{Path}
 use Rattle.sonic_lazy.specs.Answers.{Span, span_of, Answer, IsAnswer, no_more, no_path, finding, spans, error}
 use Rattle.sonic_lazy.specs.Causes.{IsAnswerable}
-use Rattle.sonic_lazy.specs.Causes.IsAnswerable.{nothing_asked, all_told}
+use Rattle.sonic_lazy.specs.Causes.IsAnswerable.{nothing_asked, all_reported}
 use Rattle.sonic_lazy.proofs.AnswerLemmas.One.{answer_one}
 use Rattle.sonic_tool.specs.declared.status.Status.{Status}
 use Rattle.sonic_tool.specs.declared.status.Status.TheVariants.{Done}
@@ -76,7 +76,7 @@ get_report_some input =
 -- paths that can be answered are answered with spans
 with_spans : {t : List ℕ} {is_bytes : Bool} {paths : List Path} → IsAnswerable t is_bytes paths → (entries : List (Option Span)) × IsAnswer t is_bytes paths (spans entries)
 with_spans (nothing_asked e) = ([], rw e (record { outcomes = []; lead = no_more; come_to = no_path }))
-with_spans (all_told os r leads fails cuts reach utf8) =
+with_spans (all_reported os r leads fails cuts reach utf8) =
     (map span_of os, record { outcomes = os; lead = leads; come_to = finding fails cuts reach utf8 refl })
 
 -- an input that is answerable has a report with the status 0

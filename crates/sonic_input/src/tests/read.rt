@@ -129,40 +129,40 @@ fn reads_a_slice_as_text(rt: HostRuntime) {
     assert_eq!(rt; read.next_invalid_utf8(), usize::MAX);
 }
 
-fn check_mark(rt: &impl Abort, bytes: &[u8], mark: usize) {
+fn check_next_invalid(rt: &impl Abort, bytes: &[u8], next_invalid: usize) {
     let read = Read::from(bytes);
-    assert_eq!(rt; read.next_invalid_utf8(), mark, "{bytes:?}");
+    assert_eq!(rt; read.next_invalid_utf8(), next_invalid, "{bytes:?}");
     assert_eq!(rt;
         read.check_utf8_final().is_ok(),
-        mark == usize::MAX,
+        next_invalid == usize::MAX,
         "{bytes:?}"
     );
 }
 
 #[test]
-fn marks_broken_bytes(rt: HostRuntime) -> Result<(), Fail> {
-    check_mark(&rt, b"", usize::MAX);
-    check_mark(&rt, b"[1]", usize::MAX);
-    check_mark(&rt, "é€😀".as_bytes(), usize::MAX);
-    check_mark(&rt, b"\xFFa", 0);
-    check_mark(&rt, b"a\x80b", 1);
-    check_mark(&rt, b"ab\xC3", 2);
-    check_mark(&rt, b"a\xE2\x82", 1);
-    check_mark(&rt, b"\xF0\x9F\x98", 0);
-    check_mark(&rt, b"a\xE2\x82b", 1);
-    check_mark(&rt, b"\xED\xA0\x80", 0);
-    check_mark(&rt, b"a\xC0\x80", 1);
-    check_mark(&rt, b"\"222\x80\x90\"", 4);
+fn finds_broken_bytes(rt: HostRuntime) -> Result<(), Fail> {
+    check_next_invalid(&rt, b"", usize::MAX);
+    check_next_invalid(&rt, b"[1]", usize::MAX);
+    check_next_invalid(&rt, "é€😀".as_bytes(), usize::MAX);
+    check_next_invalid(&rt, b"\xFFa", 0);
+    check_next_invalid(&rt, b"a\x80b", 1);
+    check_next_invalid(&rt, b"ab\xC3", 2);
+    check_next_invalid(&rt, b"a\xE2\x82", 1);
+    check_next_invalid(&rt, b"\xF0\x9F\x98", 0);
+    check_next_invalid(&rt, b"a\xE2\x82b", 1);
+    check_next_invalid(&rt, b"\xED\xA0\x80", 0);
+    check_next_invalid(&rt, b"a\xC0\x80", 1);
+    check_next_invalid(&rt, b"\"222\x80\x90\"", 4);
 
     let mut long = vec![in rt.alloc(); b'a'; 3000]?;
-    check_mark(&rt, &long, usize::MAX);
+    check_next_invalid(&rt, &long, usize::MAX);
     long.push(0xFF)?;
-    check_mark(&rt, &long, 3000);
+    check_next_invalid(&rt, &long, 3000);
     Ok(())
 }
 
 #[test]
-fn finds_the_next_mark(rt: HostRuntime) {
+fn finds_the_next_broken_byte(rt: HostRuntime) {
     let mut read = Read::from(b"\xFFa\x80".as_slice());
     assert_eq!(rt; read.next_invalid_utf8(), 0);
     assert_eq!(rt; read.remain(), 3);
@@ -178,7 +178,7 @@ fn finds_the_next_mark(rt: HostRuntime) {
 }
 
 #[test]
-fn tells_the_mark_as_an_error(rt: HostRuntime) -> Result<(), Fail> {
+fn reports_invalid_utf8_as_an_error(rt: HostRuntime) -> Result<(), Fail> {
     let table = [
         (b"\"\xFF\"".as_slice(), 1, 2, 1),
         (b"[\n\xFF]".as_slice(), 2, 1, 2),
@@ -199,8 +199,8 @@ fn tells_the_mark_as_an_error(rt: HostRuntime) -> Result<(), Fail> {
 }
 
 #[test]
-fn an_unmarked_cursor_looks_at_nothing(rt: HostRuntime) {
-    let mut read = Read::unmarked(JsonSlice::Raw(b"1\xff"));
+fn an_unscanned_cursor_looks_at_nothing(rt: HostRuntime) {
+    let mut read = Read::unscanned(JsonSlice::Raw(b"1\xff"));
     assert!(rt; read.need_utf8_valid());
     assert_eq!(rt; read.next_invalid_utf8(), usize::MAX);
     assert_eq!(rt; read.next(), Some(b'1'));

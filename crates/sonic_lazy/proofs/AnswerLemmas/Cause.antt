@@ -13,11 +13,11 @@ use Rattle.sonic_lazy.proofs.AnswerLemmas.Walk.{found_value, kept_found, lead_fr
 use Rattle.sonic_lazy.proofs.PathLemmas.Outcome.{nowhere_ends, part_of_whole}
 use Rattle.sonic_lazy.proofs.WholeLemmas.{utf8_of_span}
 use Rattle.sonic_lazy.specs.Answers.{AllLead, IsReach, to_the_root, to_the_furthest, Span, span_of, Answer, ComeTo, no_path, finding, IsAnswer}
-use Rattle.sonic_lazy.specs.Causes.{IsAnswerable, nothing_asked, all_told, IsRefusal, out_of_memory, answered}
+use Rattle.sonic_lazy.specs.Causes.{IsAnswerable, nothing_asked, all_reported, IsRefusal, out_of_memory, answered}
 use Rattle.sonic_lazy.specs.Internal.Located.{span_at, spans_of, AreParts}
 use Rattle.sonic_lazy.specs.Internal.Walk.{IsError}
 use Rattle.sonic_lazy.specs.Paths.{Outcome, found, kind_of, Evaluates}
-use Rattle.sonic_lazy.specs.Paths.Evaluates.{stands, goes_on, leads_nowhere}
+use Rattle.sonic_lazy.specs.Paths.Evaluates.{found_here, goes_on, leads_nowhere}
 use Rattle.sonic_lazy.specs.declared.located.Located.{Located}
 use Rattle.sonic_parser.specs.Faults.{IsStopFor, IsErrorOf}
 use Rattle.sonic_parser.specs.declared.fault.Fault.{Fault}
@@ -29,7 +29,7 @@ use Rattle.sonic_text.specs.Strings.{strict}
 use Rattle.sonic_text.specs.Values.{IsValue}
 use Rattle.sonic_text.specs.declared.stop.Stop.{Stop}
 
--- a value stands from i to j, and the text is UTF-8 up to a place at or behind j
+-- a value is from i to j, and the text is UTF-8 up to a place at or after j
 pub record IsReached (t : List ℕ) (i j : ℕ) : Type 0 where
   pub value : IsValue strict t i j
   pub reach : ℕ
@@ -38,7 +38,7 @@ pub record IsReached (t : List ℕ) (i j : ℕ) : Type 0 where
 
 -- what a path finds in a whole value ends at or before its end
 found_before : {t : List ℕ} {a b : ℕ} (path : Path) {i j : ℕ} → Evaluates t i path (found a b) → IsValue strict t i j → b ≤ j
-found_before [] (stands x) y = (let same = value_end_one x y in omega arith)
+found_before [] (found_here x) y = (let same = value_end_one x y in omega arith)
 found_before (node ∷ rest) (goes_on l e) y =
     let p = part_of_whole l y in
     let before = found_before rest e p.1 in
@@ -53,10 +53,10 @@ before_reach {i = i} {j} lead (to_the_root l whole) d = let x = lead_from (found
 -- so it is a part, as the input came as bytes or not
 part_by_input : {t : List ℕ} {os : List Outcome} {paths : List Path} {i j r : ℕ} (is_bytes : Bool) → AllLead t paths os → IsReach t os r
     → (is_bytes ≡ true → IsUtf8 (take r t)) → (is_bytes ≡ false → IsUtf8 t) → Contains os (found i j) → IsReached t i j
-part_by_input {i = i} {j} {r} true lead reach front text d =
+part_by_input {i = i} {j} {r} true lead reach prefix text d =
     let x = lead_from (found i j) lead d in
-    record { value = found_value x.path x.leads; reach = r; within = before_reach lead reach d; utf8 = front refl }
-part_by_input {t} {i = i} {j} false lead reach front text d =
+    record { value = found_value x.path x.leads; reach = r; within = before_reach lead reach d; utf8 = prefix refl }
+part_by_input {t} {i = i} {j} false lead reach prefix text d =
     let x = lead_from (found i j) lead d in
     let value = found_value x.path x.leads in
     record { value = value; reach = length t; within = value_within value; utf8 = rw (take-length t) (text refl) }
@@ -65,9 +65,9 @@ part_by_input {t} {i = i} {j} false lead reach front text d =
 parts_by_outcome : {t : List ℕ} {is_bytes : Bool} {paths : List Path} {os : List Outcome} {entries : List (Option Span)} {i j : ℕ} (k : ℕ) → AllLead t paths os
     → ComeTo t is_bytes os (Answer.spans entries) → (is_bytes ≡ false → IsUtf8 t) → slice_get entries k ≡ Some (Some (i, j)) → IsReached t i j
 parts_by_outcome k lead no_path text h = absurd (let w = slice_get_within [] k _ h in omega arith)
-parts_by_outcome {is_bytes = is_bytes} {os = os} {i = i} {j} k lead (finding fail cuts reach front e) text h =
+parts_by_outcome {is_bytes = is_bytes} {os = os} {i = i} {j} k lead (finding fail cuts reach prefix e) text h =
     let there : slice_get (map span_of os) k ≡ Some (Some (i, j)) = rw e at h in
-    part_by_input is_bytes lead reach front text (kept_found os k there)
+    part_by_input is_bytes lead reach prefix text (kept_found os k there)
 
 -- and so it is for each answer
 pub part_of_answer : {t : List ℕ} {is_bytes : Bool} {paths : List Path} {entries : List (Option Span)} {i j : ℕ} (k : ℕ)
@@ -77,7 +77,7 @@ part_of_answer k x text h = parts_by_outcome k x.lead x.come_to text h
 -- where there is an answer of spans, there is none of an error
 spans_answer : {t : List ℕ} {is_bytes : Bool} (paths : List Path) → IsAnswerable t is_bytes paths → (entries : List (Option Span)) × IsAnswer t is_bytes paths (Answer.spans entries)
 spans_answer {t} {is_bytes} paths (nothing_asked e) = ([], no_paths t is_bytes paths e)
-spans_answer paths (all_told os r lead fail cuts reach text) =
+spans_answer paths (all_reported os r lead fail cuts reach text) =
     (map span_of os, record { outcomes = os; lead = lead; come_to = finding fail cuts reach text refl })
 
 -- there is no such error
@@ -99,10 +99,10 @@ pub only_memory : {t : List ℕ} {is_bytes : Bool} {paths : List Path} {e : Erro
 only_memory OutOfMemory can h e = e
 only_memory (At s) can h e = absurd (never_refused can h.answer)
 
--- each value that is told of an answer's spans is a part of the text
-pub parts_told : {t : List ℕ} {is_bytes : Bool} {paths : List Path} (xs : List (Option Located)) → IsAnswer t is_bytes paths (Answer.spans (spans_of xs))
+-- each value that is reported of an answer's spans is a part of the text
+pub parts_reported : {t : List ℕ} {is_bytes : Bool} {paths : List Path} (xs : List (Option Located)) → IsAnswer t is_bytes paths (Answer.spans (spans_of xs))
     → (is_bytes ≡ false → IsUtf8 t) → AreParts t xs
-parts_told xs x text k y h =
+parts_reported xs x text k y h =
     let p = part_of_answer k x text (slice_get-map (option_map span_at) xs k ∙ ap (option_map (option_map span_at)) h) in
     let within = value_within p.value in
     record { value = p.value; inside = within; utf8 = utf8_of_span p.reach p.utf8 p.value p.within within }

@@ -143,7 +143,7 @@ nearest_or_none (o ∷ os) = elim (is_fail o) [
   ]
 ]
 
--- a span that was found ends at r, and none ends behind it
+-- a span that was found ends at r, and none ends after it
 pub record Furthest (os : List Outcome) : Type 0 where
   pub i : ℕ
   pub r : ℕ

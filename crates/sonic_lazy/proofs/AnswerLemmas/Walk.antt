@@ -16,9 +16,9 @@ use Rattle.sonic_lazy.specs.Answers.{AllLead, no_more, one_more, IsNearest, None
 use Rattle.sonic_lazy.specs.Internal.Located.{span_at, spans_of}
 use Rattle.sonic_lazy.specs.Internal.Walk.{Findings, root_point, AllSettled, IsSettled, was_found, was_lacked, AreFindings, SomeLack, IsStopped, fails_so, cut_so, NoneNearer, path_stops, value_stops, IsStop, IsFurthest, IsReached, IsError}
 use Rattle.sonic_lazy.specs.Paths.{Outcome, found, lacks, fails, cut, kind_of, Evaluates, Leads}
-use Rattle.sonic_lazy.specs.Paths.Evaluates.{stands, goes_on, leads_nowhere}
+use Rattle.sonic_lazy.specs.Paths.Evaluates.{found_here, goes_on, leads_nowhere}
 use Rattle.sonic_lazy.specs.declared.located.Located.{Located}
-use Rattle.sonic_pointer.specs.Paths.{HasFront}
+use Rattle.sonic_pointer.specs.Paths.{HasPrefix}
 use Rattle.sonic_text.proofs.Outcomes.{value_some_outcome}
 use Rattle.sonic_text.proofs.Stops.{fault_within}
 use Rattle.sonic_text.proofs.Values.{value-longer, value_fault_one}
@@ -51,7 +51,7 @@ pub record IsGathered (t : List ℕ) (noted : Bool) (spans : List (Option Span))
   pub entries : spans ≡ map span_of outcomes
   pub ends : (o : Outcome) → Contains outcomes o → IsEnd noted o
 
--- equal fronts and equal rests
+-- equal prefixes and equal rests
 both_same : {X : Type 0} {x y : X} {xs ys : List X} → x ≡ y → xs ≡ ys → x ∷ xs ≡ y ∷ ys
 both_same e f = cc
 
@@ -78,9 +78,9 @@ gather t noted (x ∷ spans) (p ∷ paths) long all =
 -- a path that lacks its key keeps no span
 lacks_kept : {t : List ℕ} {paths : List Path} {notes : Findings} {q : ℕ} (k : ℕ) (path : Path) (x : Option Span)
     → AreFindings t paths notes → slice_get paths k ≡ Some path → Leads t path (lacks q) → slice_get notes.spans k ≡ Some x → x ≡ None
-lacks_kept k path None told is l h = refl
-lacks_kept {t} {paths} {q = q} k path (Some (i, j)) told is l h =
-    let was = told.found_there k i j h in
+lacks_kept k path None reported is l h = refl
+lacks_kept {t} {paths} {q = q} k path (Some (i, j)) reported is l h =
+    let was = reported.found_there k i j h in
     let same : was.0 ≡ path = same_Some was.0 path (sym was.1 ∙ is) in
     let leads : Leads t path (found i j) = rw same at was.2 in
     let clash : found i j ≡ lacks q = evaluates_one path leads l in
@@ -89,11 +89,11 @@ lacks_kept {t} {paths} {q = q} k path (Some (i, j)) told is l h =
 -- a path that is settled ends so
 settled_ends : {t : List ℕ} {paths : List Path} {notes : Findings} (k : ℕ) (path : Path) → AreFindings t paths notes
     → slice_get paths k ≡ Some path → IsSettled t notes k path → Ends t notes.lacking (slice_get notes.spans k) path
-settled_ends k path told is (was_found {i = i} {j} l h) = record { outcome = found i j; leads = l; end = tt; is = h }
-settled_ends {paths = paths} {notes} k path told is (was_lacked {q = q} l e) =
-    let within : k < length notes.spans = (let w = slice_get_within paths k path is in omega (arith, w, told.long)) in
+settled_ends k path reported is (was_found {i = i} {j} l h) = record { outcome = found i j; leads = l; end = tt; is = h }
+settled_ends {paths = paths} {notes} k path reported is (was_lacked {q = q} l e) =
+    let within : k < length notes.spans = (let w = slice_get_within paths k path is in omega (arith, w, reported.long)) in
     let x = some_there notes.spans k within in
-    let none : x.0 ≡ None = lacks_kept k path x.0 told is l x.1 in
+    let none : x.0 ≡ None = lacks_kept k path x.0 reported is l x.1 in
     record { outcome = lacks q; leads = l; end = e; is = rw none at x.1 }
 
 -- where the walk ends, all paths are gathered
@@ -154,7 +154,7 @@ ends_found g e l = let clash : true ≡ false = sym (g.ends (lacks l.0) l.1) ∙
 
 -- a value that a path found is one
 pub found_value : {t : List ℕ} {a b : ℕ} (path : Path) {i : ℕ} → Evaluates t i path (found a b) → IsValue strict t a b
-found_value [] (stands x) = x
+found_value [] (found_here x) = x
 found_value (node ∷ rest) (goes_on l e) = found_value rest e
 found_value {t} (node ∷ rest) {i} (leads_nowhere {j = j} x none e) = absurd (rw (← e) at (nowhere_ends t i (j - 1) (kind_of node)))
 
@@ -296,9 +296,9 @@ stop_answers {t} {paths} {s} is_bytes x =
           }
     ]
 
--- and each path has the empty front
-pub root_front : (paths : List Path) → paths ≢ [] → HasFront paths []
-root_front paths some = let path = first_of paths some in record { rest = path.0; path = contained paths 0 path.1 }
+-- and each path has the empty prefix
+pub root_prefix : (paths : List Path) → paths ≢ [] → HasPrefix paths []
+root_prefix paths some = let path = first_of paths some in record { rest = path.0; path = contained paths 0 path.1 }
 
 -- no span is kept yet
 abbrev pub no_span : Option Span
@@ -314,9 +314,9 @@ nothing_there zero k i j h = absurd cc
 nothing_there (suc n) zero i j h = absurd cc
 nothing_there (suc n) (suc k) i j h = nothing_there n k i j h
 
--- before it nothing is told
-pub root_told : (t : List ℕ) (paths : List Path) (n : ℕ) → n ≡ length paths → AreFindings t paths (record { spans = replicate n no_span; lacking = false })
-root_told t paths n e = record {
+-- before it nothing is reported
+pub root_reported : (t : List ℕ) (paths : List Path) (n : ℕ) → n ≡ length paths → AreFindings t paths (record { spans = replicate n no_span; lacking = false })
+root_reported t paths n e = record {
   long = length-replicate n no_span ∙ e;
   found_there = λ k i j h. absurd (nothing_there n k i j h);
   lack = λ f. absurd cc;

@@ -130,17 +130,17 @@ leads_on_one {t} {i} {v} {w} {node} a b = elim (cases_order a.n b.n) [
 pub not_named : {t : List ℕ} {n h v : ℕ} {kind : Kind} {a b : Node} → IsNamed t kind n h v a → a ≢ b → (w : ℕ) → ¬ IsNamed t kind n h w b
 not_named x other = λ w y. other (named_one x y).1
 
--- behind the fault of an item's value no further item fits
+-- after the fault of an item's value no further item fits
 pub past_value : {t : List ℕ} {i n h v : ℕ} {kind : Kind} {node : Node} {s : Stop} → ItemsFit strict t kind i n h → IsNamed t kind n h v node
     → IsFault strict t v s → NoFurther t i kind n
 past_value is x f = λ p g l fs. not_past_value is l x.head f fs
 
--- nor behind a byte that is no comma
+-- nor after a byte that is no comma
 pub past_byte : {t : List ℕ} {i n h v e : ℕ} {kind : Kind} {node : Node} → ItemsFit strict t kind i n h → IsNamed t kind n h v node → IsValue strict t v e
     → byte t (after_space t e) ≢ 44 → NoFurther t i kind n
 past_byte is x y c = λ p g l fs. not_past_byte is l x.head y c fs
 
--- nor behind what is no key
+-- nor after what is no key
 pub past_key : {t : List ℕ} {i n h : ℕ} {kind : Kind} {s : Stop} → kind ≡ Object → ItemsFit strict t kind i n h → IsKeyFault strict t h s
     → NoFurther t i kind n
 past_key same is f = λ p g l fs. not_past_key same is l f fs

@@ -9,8 +9,8 @@ use Rattle.sonic_error.specs.declared.json_type.Note.TheVariants.{Mismatch}
 use Rattle.sonic_lazy.proofs.PathLemmas.Lead.{leads_on_one, leads_or_not, named_one, leads_to_fault}
 use Rattle.sonic_lazy.specs.Laws.{ExactlyOne, MixNowhere}
 use Rattle.sonic_lazy.specs.Paths.{Outcome, Evaluates, fails, kind_of, IsNamed, NoneNamed, LeadsOn, found, lacks, cut, fails_at, past_end, nowhere, type_at, empty_code, wanted_of}
-use Rattle.sonic_lazy.specs.Paths.Evaluates.{stands, goes_on, leads_nowhere, cut_here, cut_before}
-use Rattle.sonic_text.proofs.Insides.{item_before_end, item_before_fault, comma_behind, items_after}
+use Rattle.sonic_lazy.specs.Paths.Evaluates.{found_here, goes_on, leads_nowhere, cut_here, cut_before}
+use Rattle.sonic_text.proofs.Insides.{item_before_end, item_before_fault, comma_after, items_after}
 use Rattle.sonic_text.proofs.Outcomes.{value_some_outcome}
 use Rattle.sonic_text.proofs.Values.{items-later, value_end_one, value_fault_one, value_never_both, head-later, value-longer, items_one, items_kind}
 use Rattle.sonic_text.specs.Faults.{IsFault}
@@ -24,9 +24,9 @@ use Rattle.sonic_text.specs.declared.stop.Stop.{Stop}
 
 -- a path leads to one outcome
 pub evaluates_one : {t : List ℕ} (path : List Node) {i : ℕ} {o p : Outcome} → Evaluates t i path o → Evaluates t i path p → o ≡ p
-evaluates_one [] (stands x) (stands y) = rw (value_end_one x y)
-evaluates_one [] (stands x) (cut_here f) = absurd (value_never_both x f)
-evaluates_one [] (cut_here f) (stands x) = absurd (value_never_both x f)
+evaluates_one [] (found_here x) (found_here y) = rw (value_end_one x y)
+evaluates_one [] (found_here x) (cut_here f) = absurd (value_never_both x f)
+evaluates_one [] (cut_here f) (found_here x) = absurd (value_never_both x f)
 evaluates_one [] (cut_here f) (cut_here g) = rw (value_fault_one f g)
 evaluates_one {t} (node ∷ rest) {p = p} (goes_on {v} l a) (goes_on {v = w} m b) =
     let same : w ≡ v = leads_on_one m l in
@@ -43,7 +43,7 @@ evaluates_one (node ∷ rest) (cut_before f none) (cut_before g other) = rw (val
 
 -- a path leads to some outcome
 pub evaluates_some : (t : List ℕ) (path : List Node) (i : ℕ) → (o : Outcome) × Evaluates t i path o
-evaluates_some t [] i = elim (value_some_outcome strict t i) [ inl x ↦ (_, stands x.1) | inr f ↦ (_, cut_here f.1) ]
+evaluates_some t [] i = elim (value_some_outcome strict t i) [ inl x ↦ (_, found_here x.1) | inr f ↦ (_, cut_here f.1) ]
 evaluates_some t (node ∷ rest) i = elim (leads_or_not t i node) [
   | inl l ↦ let r = evaluates_some t rest l.0 in (r.0, goes_on l.1 r.1)
   | inr none ↦ elim (value_some_outcome strict t i) [
@@ -109,7 +109,7 @@ part_of_whole {t} {v = v} l x = elim (value_some_outcome strict t v) [
 
 -- in a whole value a path ends before the value does
 pub ends_before_end : {t : List ℕ} (path : List Node) {i j q : ℕ} {o : Outcome} → Evaluates t i path o → IsValue strict t i j → EndsAt o q → q < j
-ends_before_end [] (stands x) y h = absurd h
+ends_before_end [] (found_here x) y h = absurd h
 ends_before_end [] (cut_here f) y h = absurd h
 ends_before_end (node ∷ rest) (goes_on l a) y h = let p = part_of_whole l y in omega (arith, ends_before_end rest a p.1 h, p.2)
 ends_before_end {t} (node ∷ rest) {i} {o = o} (leads_nowhere {j} x none e) y h =
@@ -118,7 +118,7 @@ ends_before_end (node ∷ rest) (cut_before f none) y h = absurd h
 
 -- a path ends at or after the place where it begins
 pub ends_from_start : {t : List ℕ} (path : List Node) {i q : ℕ} {o : Outcome} → Evaluates t i path o → EndsAt o q → i ≤ q
-ends_from_start [] (stands x) h = absurd h
+ends_from_start [] (found_here x) h = absurd h
 ends_from_start [] (cut_here f) h = absurd h
 ends_from_start (node ∷ rest) (goes_on l a) h = omega (arith, items-later l.before.fit, head-later l.item.head, ends_from_start rest a h)
 ends_from_start {t} (node ∷ rest) {i} {o = o} (leads_nowhere {j} x none e) h =
@@ -128,7 +128,7 @@ ends_from_start (node ∷ rest) (cut_before f none) h = absurd h
 -- a path ends before the fault of the value at which it begins
 pub ends_before_fault : {t : List ℕ} (path : List Node) {i q : ℕ} {o : Outcome} {r : Stop} → Evaluates t i path o → IsFault strict t i r → EndsAt o q
     → q < r.place
-ends_before_fault [] (stands x) f h = absurd h
+ends_before_fault [] (found_here x) f h = absurd h
 ends_before_fault [] (cut_here g) f h = absurd h
 ends_before_fault {t} (node ∷ rest) {r = r} (goes_on {v} l a) f h = elim (value_some_outcome strict t v) [
   | inl x ↦ omega (arith, ends_before_end rest a x.1 h, item_before_fault l.before.fit l.item.head x.1 f)
@@ -167,7 +167,7 @@ pub nowhere_other : (t : List ℕ) (i q : ℕ) (kind : Kind) → byte t i ≢ op
     → nowhere t i q kind ≡ fails_at q (Message (Mismatch (type_at t i) (wanted_of kind)))
 nowhere_other t i q kind o = rw (differ (byte t i) (opening kind) o) refl
 
--- a whole value stands at v, and ends before w
+-- a whole value is at v, and ends before w
 abbrev pub EndsBefore : List ℕ → ℕ → ℕ → Type 0
 EndsBefore t v w = (e : ℕ) × IsValue strict t v e × (e < w)
 
@@ -175,7 +175,7 @@ EndsBefore t v w = (e : ℕ) × IsValue strict t v e × (e < w)
 pub item_ends : {t : List ℕ} {kind : Kind} {i n m h g v w : ℕ} {l k : Option (List ℕ)} → ItemsFit strict t kind i n h → ItemHead strict t kind h v l
     → ItemsFit strict t kind i m g → ItemHead strict t kind g w k → n < m → EndsBefore t v w
 item_ends is y fs z l =
-    let x = comma_behind is l y fs in
+    let x = comma_after is l y fs in
     let after = items_after is y x.1 fs l in
     let later = head-later z in
     (x.0, x.1, omega arith)
@@ -195,7 +195,7 @@ apart {t} {i} {v} {w} {a} {b} same f g =
       | inr (inr l) ↦ inr (inr (item_ends g.before.fit g.item.head fit item.head l))
     ]
 
--- a path fails in a whole value before that ends, and so before a path that begins behind it
+-- a path fails in a whole value before that ends, and so before a path that begins after it
 pub fails_before : {t : List ℕ} (p q : List Node) {v w : ℕ} {s r : Stop} → EndsBefore t v w → Evaluates t v p (fails s) → Evaluates t w q (fails r)
     → s.place < r.place
 fails_before p q x a b =
@@ -209,9 +209,9 @@ fails_inside {t} b p {i} {j} {r = r} l a x e =
     let last : r.place ≡ j - 1 = rw (← e) at (nowhere_ends t i (j - 1) (kind_of b)) in
     omega (arith, ends_before_end p a part.1 refl, last, part.2)
 
--- the paths behind a node that both begin with mix nowhere either
-mix_behind : (a b : Node) (p q : List Node) → MixNowhere (a ∷ p) (b ∷ q) → a ≡ b → MixNowhere p q
-mix_behind a b p q mix same = λ front r s c d e f. mix (a ∷ front) r s c d (ap (λ (x : List Node). a ∷ x) e) (rw (same, f) refl)
+-- the paths after a node that both begin with mix nowhere either
+mix_after : (a b : Node) (p q : List Node) → MixNowhere (a ∷ p) (b ∷ q) → a ≡ b → MixNowhere p q
+mix_after a b p q mix same = λ prefix r s c d e f. mix (a ∷ prefix) r s c d (ap (λ (x : List Node). a ∷ x) e) (rw (same, f) refl)
 
 -- where two paths that mix nowhere fail at one place, they fail at one stop
 pub fails_agree : {t : List ℕ} (p q : List Node) {i : ℕ} {s r : Stop} → MixNowhere p q → Evaluates t i p (fails s) → Evaluates t i q (fails r)
@@ -229,17 +229,17 @@ fails_agree {t} (a ∷ p) (b ∷ q) {i} {r = r} mix (goes_on {v} l o) (goes_on {
     elim (apart (mix [] p q a b refl refl) l m) [
       | inl same ↦
           let n : LeadsOn t i b v = rw same at l in
-          let due : w ≡ v = leads_on_one m n in
-          let z : Evaluates t v q (fails r) = rw due at u in
-          fails_agree p q (mix_behind a b p q mix same) o z at_one
+          let value_start : w ≡ v = leads_on_one m n in
+          let z : Evaluates t v q (fails r) = rw value_start at u in
+          fails_agree p q (mix_after a b p q mix same) o z at_one
       | inr (inl x) ↦ let h = fails_before p q x o u in absurd (omega arith)
       | inr (inr x) ↦ let h = fails_before q p x u o in absurd (omega arith)
     ]
 
--- a node that names none of the items so far leads behind the value of an item that it doesn't name, if it leads on
-leads_behind : {t : List ℕ} {i n h v w : ℕ} {kind : Kind} {a b : Node} → NoneNamed t i kind n h b → IsNamed t kind n h v a → a ≢ b → LeadsOn t i b w
+-- a node that names none of the items so far leads after the value of an item that it doesn't name, if it leads on
+leads_after : {t : List ℕ} {i n h v w : ℕ} {kind : Kind} {a b : Node} → NoneNamed t i kind n h b → IsNamed t kind n h v a → a ≢ b → LeadsOn t i b w
     → EndsBefore t v w
-leads_behind {t} {i} {n} {h} {v} {w} {kind} {a} {b} none x other l =
+leads_after {t} {i} {n} {h} {v} {w} {kind} {a} {b} none x other l =
     let same : kind_of b ≡ kind = items_kind l.before.fit none.fit in
     let fit : ItemsFit strict t kind i l.n l.h = rw same at l.before.fit in
     let item : IsNamed t kind l.n l.h w b = rw same at l.item in
@@ -252,8 +252,8 @@ leads_behind {t} {i} {n} {h} {v} {w} {kind} {a} {b} none x other l =
       | inr (inr more) ↦ absurd (none.none l.n l.h w more fit item)
     ]
 
--- and so it fails behind a fail in the item's value
+-- and so it fails after a fail in the item's value
 pub fails_later : {t : List ℕ} {i n h v : ℕ} {kind : Kind} {a b : Node} (p q : Path) {s r : Stop} → NoneNamed t i kind n h b → IsNamed t kind n h v a
     → a ≢ b → LeadsOn t i a v → Evaluates t v p (fails s) → Evaluates t i (b ∷ q) (fails r) → s.place < r.place
-fails_later p q none head other leads x (goes_on l y) = fails_before p q (leads_behind none head other l) x y
+fails_later p q none head other leads x (goes_on l y) = fails_before p q (leads_after none head other l) x y
 fails_later {b = b} p q none head other leads x (leads_nowhere whole nowhere e) = fails_inside b p leads x whole e

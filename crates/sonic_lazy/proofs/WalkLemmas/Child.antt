@@ -12,7 +12,7 @@ use Rattle.sonic_lazy.proofs.WalkLemmas.Step.{OpenStopped, open_nearest, open_ca
 use Rattle.sonic_lazy.specs.Internal.Walk.{Findings, child_point, ComesTo, IsLater, AllSettled, IsCause, path_stops, value_stops, IsStop, Container, Progress, SomeOpen, IsOpen, IsWanted, IsFollowed, IsPassed, IsItem}
 use Rattle.sonic_lazy.specs.Paths.{fails, cut, IsNamed, LeadsOn, Evaluates}
 use Rattle.sonic_lazy.specs.Paths.Evaluates.{cut_before}
-use Rattle.sonic_pointer.specs.Paths.{HasFront}
+use Rattle.sonic_pointer.specs.Paths.{HasPrefix}
 use Rattle.sonic_text.specs.Paths.{Node, Path}
 use Rattle.sonic_text.specs.Strings.{strict}
 use Rattle.sonic_text.specs.Values.{IsValue}
@@ -42,7 +42,7 @@ pub child_comes : {a : Container} {g : Progress} {v child : ℕ} (m : IsVisit a 
 child_comes m = comes_down m.before.container.comes (visits m)
 
 -- which some path has
-pub child_prefix : {a : Container} {g : Progress} {v child : ℕ} (m : IsVisit a g v child) → HasFront a.point.paths (a.point.prefix ++ m.node ∷ [])
+pub child_prefix : {a : Container} {g : Progress} {v child : ℕ} (m : IsVisit a g v child) → HasPrefix a.point.paths (a.point.prefix ++ m.node ∷ [])
 child_prefix {a} {v = v} {child} m =
     let p = path_of_child a.point child m.node m.before.container.children m.is in
     record { rest = p.rest; path = contained a.point.paths p.number (path_down a.point p.number m.node p.rest v p.is) }
@@ -87,7 +87,7 @@ pub child_passed : {a : Container} {g : Progress} {v child e : ℕ} {f : Finding
     → (IsWanted a (record g { visited = set g.visited child true; findings = f }) → IsValue strict a.point.text v e)
     → IsPassed a (record g { visited = set g.visited child true; findings = f }) e
 child_passed {v = v} m later settled value =
-    record { before = followed_after m later settled; due = v; node = m.node; head = m.head; value = value; closed = λ o. (another m o).0 refl }
+    record { before = followed_after m later settled; value_start = v; node = m.node; head = m.head; value = value; closed = λ o. (another m o).0 refl }
 
 -- what stops in the child's value comes before each fail of another child
 other_later : {a : Container} {g : Progress} {v child : ℕ} {other : Node} {s r : Stop} (rest : Path) (m : IsVisit a g v child) → m.node ≢ other

@@ -14,7 +14,7 @@ use Rattle.sonic_lazy.specs.Answers.{Span}
 use Rattle.sonic_lazy.specs.Internal.Located.{IsStatus}
 use Rattle.sonic_lazy.specs.Internal.Walk.{Findings, Point, ComesTo, IsPath, AreFindings, IsLater, IsSettled, was_found, was_lacked, BelowSettled, IsCause, value_stops, path_stops, IsStop, fails_so, SomeLack, Container, Progress, SomeOpen, IsOpen, IsWanted, IsPassed, IsFilled}
 use Rattle.sonic_lazy.specs.Paths.{found, lacks, past_end, Evaluates, Leads}
-use Rattle.sonic_lazy.specs.Paths.Evaluates.{stands, leads_nowhere}
+use Rattle.sonic_lazy.specs.Paths.Evaluates.{found_here, leads_nowhere}
 use Rattle.sonic_parser.specs.Containers.{IsEnd}
 use Rattle.sonic_parser.specs.declared.status.ParseStatus.TheVariants.{None as NoNeed}
 use Rattle.sonic_pointer.specs.Paths.{IsOrders}
@@ -107,7 +107,7 @@ order_within {paths = paths} {prefix} k o are h = omega (arith, slice_get_within
 -- a prefix that is a path leads to the value's span
 prefix_found : {p : Point} {j : ℕ} → ComesTo p → IsValue strict p.text p.place j → Leads p.text p.prefix (found p.place j)
 prefix_found {p} {j} comes x =
-    let up : Leads p.text (p.prefix ++ []) (found p.place j) = comes.up [] (found p.place j) (stands x) in
+    let up : Leads p.text (p.prefix ++ []) (found p.place j) = comes.up [] (found p.place j) (found_here x) in
     rw (append-nil p.prefix) at up
 
 -- where the value's span is kept for the paths that end at it, what was found is true and kept
@@ -145,7 +145,7 @@ pub filled_settled : (p : Point) {j : ℕ} {orders : List ℕ} {f : Findings} {m
     → (k : ℕ) (rest : Path) → IsPath p k rest → IsSettled p.text (record f { spans = more }) k (p.prefix ++ rest)
 filled_settled p {j} comes x o fill later below k [] h =
     let is : slice_get p.paths k ≡ Some p.prefix = rw (append-nil p.prefix) at h in
-    was_found (comes.up [] (found p.place j) (stands x)) (fill.filled k ((o.exact k).1 is))
+    was_found (comes.up [] (found p.place j) (found_here x)) (fill.filled k ((o.exact k).1 is))
 filled_settled p comes x o fill later below k (node ∷ rest) h = still_settled later (below k node rest h)
 
 -- where no path ends at the prefix, they are without

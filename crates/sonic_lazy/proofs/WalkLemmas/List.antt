@@ -49,7 +49,7 @@ pub first_of : {X : Type 0} (xs : List X) → xs ≢ [] → (x : X) × (slice_ge
 first_of [] some = absurd (some refl)
 first_of (x ∷ xs) some = (x, refl)
 
--- an open mark counts
+-- a child that was not visited counts
 open_counts : (visited : List Bool) → count_by not (false ∷ visited) ≡ 1 + count_by not visited
 open_counts visited = sum_by-cons (λ m. cond (not m) 1 0) false visited
 

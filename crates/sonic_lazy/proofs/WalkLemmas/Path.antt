@@ -18,13 +18,13 @@ use Rattle.sonic_text.specs.Paths.{Node, Path}
 use Rattle.sonic_text.specs.Strings.{strict}
 use Rattle.sonic_text.specs.declared.stop.Stop.{Stop}
 
--- an element of a list stands at some place of it
+-- an element of a list is at some place of it
 pub held : {X : Type 0} (xs : List X) {x : X} → Contains xs x → (k : ℕ) × (slice_get xs k ≡ Some x)
 held xs {x} c =
     let read : slice_get xs c.0 ≡ Some (get_or xs c.0 x) = slice_get-get_or xs c.0 x c.1 in
     (c.0, rw c.2 at read)
 
--- and what stands at a place is an element
+-- and what is at a place is an element
 pub contained : {X : Type 0} (xs : List X) (k : ℕ) {x : X} → slice_get xs k ≡ Some x → Contains xs x
 contained xs k {x} h = (k, slice_get_within xs k x h, get_or_from_slice_get xs k x x h)
 
@@ -47,7 +47,7 @@ path_of_child p {children} c node all h =
     let k = held p.paths next.path in
     record { number = k.0; rest = next.rest; is = k.1 }
 
--- a child stands at one place
+-- a child is at one place
 pub child_one : {paths : List Path} {prefix : Path} {children : List Node} (c d : ℕ) (node : Node) → IsChildren paths prefix children
     → slice_get children c ≡ Some node → slice_get children d ≡ Some node → c ≡ d
 child_one {children = children} c d node all h g =

@@ -11,7 +11,7 @@ use Rattle.sonic_lazy.proofs.WalkLemmas.Path.{held, child_at, path_of_child, sto
 use Rattle.sonic_lazy.specs.Internal.Walk.{fails_so, cut_so, Findings, Point, Container, IsPath, AreFindings, BelowSettled, IsCause, path_stops, IsStop, IsNoEntry, IsContainer, SomeOpen, IsFollowed}
 use Rattle.sonic_lazy.specs.Paths.{fails, Evaluates, type_at, kind_of, empty_code, wanted_of, nowhere}
 use Rattle.sonic_lazy.specs.Paths.Evaluates.{cut_here, leads_nowhere}
-use Rattle.sonic_pointer.specs.Paths.{HasFront, IsChildren}
+use Rattle.sonic_pointer.specs.Paths.{HasPrefix, IsChildren}
 use Rattle.sonic_text.specs.Faults.{IsFault}
 use Rattle.sonic_text.specs.Paths.{Node, Path}
 use Rattle.sonic_text.specs.Places.{byte, after_space}
@@ -54,7 +54,7 @@ leaf_nearest p all none k (node ∷ rest) r h e = absurd (none_on p k node rest 
 
 -- so the fault stops the walk
 pub leaf_stops : (p : Point) {children : List Node} {needs : Bool} {s : Stop} → IsChildren p.paths p.prefix children → children ≡ []
-    → HasFront p.paths p.prefix → IsFault strict p.text p.place s → IsStop p needs s
+    → HasPrefix p.paths p.prefix → IsFault strict p.text p.place s → IsStop p needs s
 leaf_stops p all none some f =
     let path = held p.paths some.path in
     record { nearest = leaf_nearest p all none; cause = leaf_cause p path.0 some.rest all none f path.1 }
@@ -100,8 +100,8 @@ first_wanted a visited some none = let child = first_of a.children some in (0, n
 pub no_entry_by_kind : {t : List ℕ} {i j : ℕ} {kind : Kind} {s : Stop} → IsValue strict t i j → byte t i ≢ opening kind
     → s ≡ record { place = j - 1; code = Message (Mismatch (type_at t i) (wanted_of kind)) } → IsNoEntry t i kind s
 no_entry_by_kind {t} {i} {j} {kind} {s} x other e = λ node rest same.
-    let told : fails s ≡ nowhere t i (j - 1) (kind_of node) = rw (same, nowhere_other t i (j - 1) kind other, e) refl in
-    fails_so (leads_nowhere x (λ v. none_unopened other node v same) told)
+    let reported : fails s ≡ nowhere t i (j - 1) (kind_of node) = rw (same, nowhere_other t i (j - 1) kind other, e) refl in
+    fails_so (leads_nowhere x (λ v. none_unopened other node v same) reported)
 
 -- nor is one with a fault
 pub no_entry_by_fault : {t : List ℕ} {i : ℕ} {kind : Kind} {s : Stop} → IsFault strict t i s → byte t i ≢ opening kind → IsNoEntry t i kind s
@@ -113,5 +113,5 @@ pub no_entry_in_empty : {t : List ℕ} {i : ℕ} {kind : Kind} {s : Stop} → by
 no_entry_in_empty {t} {i} {kind} {s} o c e = λ node rest same.
     let q = after_space t (i + 1) in
     let last : q + 1 - 1 ≡ q = omega arith in
-    let told : fails s ≡ nowhere t i (q + 1 - 1) (kind_of node) = rw (last, same, nowhere_empty t i q kind o c, e) refl in
-    fails_so (leads_nowhere (empty kind o c refl) (λ v. none_empty c node v same) told)
+    let reported : fails s ≡ nowhere t i (q + 1 - 1) (kind_of node) = rw (last, same, nowhere_empty t i q kind o c, e) refl in
+    fails_so (leads_nowhere (empty kind o c refl) (λ v. none_empty c node v same) reported)

@@ -126,7 +126,7 @@ next_followed {a} {g} {h = h} p wanted comma =
 -- an item that is not followed is passed
 pub skip_passed : {a : Container} {g : Progress} {v e : ℕ} {node : Node} → IsFollowed a g → IsNamed a.point.text a.kind g.passed g.next v node
     → ¬ IsOpen a g.visited node → IsValue strict a.point.text v e → IsPassed a g e
-skip_passed {v = v} {node = node} l head closed x = record { before = l; due = v; node = node; head = head; value = λ wanted. x; closed = closed }
+skip_passed {v = v} {node = node} l head closed x = record { before = l; value_start = v; node = node; head = head; value = λ wanted. x; closed = closed }
 
 -- an item whose child was visited, if it has one, is none that was not
 pub closed : (a : Container) (visited : List Bool) {node : Node} (child : Option ℕ) → IsContainer a → IsChildOf a child node
@@ -138,7 +138,7 @@ closed a visited {node} (Some c) is here done o =
     absurd cc
 closed a visited {node} None is none done o = none ((is.children.exact node).0 (contained a.children o.0 o.2))
 
--- the child of an item has a mark
+-- the child of an item is one of those that are visited or not
 pub child_within : (a : Container) (visited : List Bool) (node : Node) (child : Option ℕ) → length visited ≡ length a.children → IsChildOf a child node
     → IfSome child (λ c. c < length visited)
 child_within a visited node (Some c) long is = omega (arith, slice_get_within a.children c node is, long)

@@ -15,13 +15,13 @@ span_at x = (x.start, x.end)
 abbrev pub spans_of : List (Option Located) → List (Option Span)
 spans_of xs = map (option_map span_at) xs
 
--- what stands from i to j is a string with a backslash exactly where the status says so
+-- what is from i to j is a string with a backslash exactly where the status says so
 abbrev pub IsStatus : List ℕ → ℕ → ℕ → ParseStatus → Type 0
 IsStatus t i j status = (status ≡ HasEscaped) ↔ IsEscapedString t i j
 
 -- so each status says
-abbrev pub AreMarked : List ℕ → List (Option Located) → Type 0
-AreMarked t xs = (k : ℕ) (x : Located) → slice_get xs k ≡ Some (Some x) → IsStatus t x.start x.end x.status
+abbrev pub HaveStatuses : List ℕ → List (Option Located) → Type 0
+HaveStatuses t xs = (k : ℕ) (x : Located) → slice_get xs k ≡ Some (Some x) → IsStatus t x.start x.end x.status
 
 -- and each is a value of its own, in UTF-8
 abbrev pub AreParts : List ℕ → List (Option Located) → Type 0

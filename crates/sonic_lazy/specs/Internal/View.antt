@@ -1,10 +1,10 @@
--- What the fields of a walk and of a level stand for.
+-- What the fields of a walk and of a level denote.
 use Rattle.std.specs.Prelude.{◌≡◌, ℕ, Bool, List}
 use Rattle.sonic_text.specs.Strings.{strict}
 use Rattle.sonic_pointer.specs.Views.{View}
 use Rattle.sonic_lazy.specs.declared.state.Walk.TheInside.{Inside}
 use Rattle.sonic_lazy.specs.declared.walk.Level.{Level}
-use Rattle.sonic_lazy.specs.Internal.Located.{spans_of, AreMarked}
+use Rattle.sonic_lazy.specs.Internal.Located.{spans_of, HaveStatuses}
 use Rattle.sonic_lazy.specs.Internal.Walk.{Findings, Walking, Point, Container, Progress}
 
 -- the walk that its callers see
@@ -15,19 +15,19 @@ walking_of walk = record {
   findings = record { spans = spans_of walk.spans.items; lacking = walk.lacking };
 }
 
--- it reads strictly, and each value that was found is marked
+-- it reads strictly, and each value that was found has its status
 pub record IsWalk (walk : Inside) : Type 0 where
   pub reads : walk.parser.lossy ≡ strict
-  pub marked : AreMarked walk.parser.text walk.spans.items
+  pub statuses : HaveStatuses walk.parser.text walk.spans.items
 
 -- the prefix of a view, whose value is expected where the walk has come to
 abbrev pub point_at : Walking → View → Point
-point_at walk view = record { text = walk.text; paths = view.paths; prefix = view.front; place = walk.place }
+point_at walk view = record { text = walk.text; paths = view.paths; prefix = view.prefix; place = walk.place }
 
 -- the container of a level
 abbrev pub container_at : List ℕ → Level → Container
 container_at text level = record {
-  point = record { text = text; paths = level.view.now.paths; prefix = level.view.now.front; place = level.start };
+  point = record { text = text; paths = level.view.now.paths; prefix = level.view.now.prefix; place = level.start };
   children = level.view.now.children;
   kind = level.kind;
   needs = level.needs;

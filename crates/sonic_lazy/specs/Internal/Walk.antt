@@ -149,10 +149,10 @@ pub record IsFollowed (a : Container) (g : Progress) : Type 0 where
 -- so it is of the next item, too, which was passed up to its end e if more is needed
 pub record IsPassed (a : Container) (g : Progress) (e : ℕ) : Type 0 where
   pub before : IsFollowed a g
-  pub due : ℕ
+  pub value_start : ℕ
   pub node : Node
-  pub head : IsNamed a.point.text a.kind g.passed g.next due node
-  pub value : IsWanted a g → IsValue strict a.point.text due e
+  pub head : IsNamed a.point.text a.kind g.passed g.next value_start node
+  pub value : IsWanted a g → IsValue strict a.point.text value_start e
   pub closed : ¬ IsOpen a g.visited node
 
 -- the number of the child that a node is, if it is one
@@ -160,7 +160,7 @@ abbrev pub IsChildOf : Container → Option ℕ → Node → Type 0
 IsChildOf a (Some c) node = slice_get a.children c ≡ Some node
 IsChildOf a None node = ¬ HasNext a.point.paths a.point.prefix node
 
--- the n-th item, which is due at h, has its value due at v, and is this child
+-- the n-th item, which is expected at h, has its value expected at v, and is this child
 pub record IsItem (a : Container) (n h v : ℕ) (child : Option ℕ) : Type 0 where
   pub node : Node
   pub head : IsNamed a.point.text a.kind n h v node

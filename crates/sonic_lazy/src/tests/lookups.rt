@@ -60,7 +60,7 @@ fn check_error<'de, I: JsonInput<'de>>(
     offset: usize,
 ) {
     match get_many(alloc, input, tree) {
-        Ok(_) => panic!(rt; "no error where {code} is due"),
+        Ok(_) => panic!(rt; "no error where {code} is value_start"),
         Err(error) => {
             assert_eq!(rt; error.code(), code);
             assert_eq!(rt; error.offset(), offset, "{code}");
@@ -91,7 +91,7 @@ const ANSWERED: [Answered; 15] = [
         "{\"a\":{\"y\":1},\"a\":{\"x\":2}} z",
         &[None],
     ),
-    // Each of equal paths is answered, and nothing is read behind what they need.
+    // Each of equal paths is answered, and nothing is read after what they need.
     (
         &[&[Key("a")], &[Key("a")]],
         "{\"a\":1,",
@@ -134,7 +134,7 @@ const ANSWERED: [Answered; 15] = [
         "[0,[10],20",
         &[Some("20"), Some("0"), Some("10")],
     ),
-    // Keys are compared as the text that they stand for.
+    // Keys are compared as the text that they denote.
     (
         &[
             &[Key("\u{e9}")],
@@ -196,7 +196,7 @@ fn answers_paths_over_each_kind_of_input(rt: HostRuntime) -> Result<(), Fail> {
     Ok(())
 }
 
-// A value of a kind stands where an object or an array is wanted.
+// A value of a kind is where an object or an array is wanted.
 const NUMBER_FOR_ARRAY: ErrorCode = ErrorCode::Message(Note::Mismatch {
     found: JsonType::Number,
     wanted: Wanted::Array,
@@ -248,7 +248,7 @@ const REFUSED: [Refused; 18] = [
         ErrorCode::ExpectedObjectCommaOrEnd,
         7,
     ),
-    // A lacking key needs the whole root, and the fault behind it is told.
+    // A lacking key needs the whole root, and the fault after it is reported.
     (&[&[Key("z")]], "{\"a\":tru}", ErrorCode::InvalidLiteral, 8),
     (
         &[&[Index(0), Key("z")], &[Index(0), Key("a")]],
@@ -256,14 +256,14 @@ const REFUSED: [Refused; 18] = [
         ErrorCode::InvalidNumber,
         11,
     ),
-    // A fail stands before the fault that follows it.
+    // A fail comes before the fault that follows it.
     (
         &[&[Key("a"), Key("x")], &[Key("b")]],
         "{\"a\":{},\"b\":tru}",
         ErrorCode::GetInEmptyObject,
         6,
     ),
-    // A kind is told behind the whole value, and a fault inside the value before it.
+    // A kind is reported after the whole value, and a fault inside the value before it.
     (
         &[&[Key("a"), Index(0)]],
         "{\"a\": -12.5e3 , \"b\":[",
@@ -282,7 +282,7 @@ const REFUSED: [Refused; 18] = [
         ErrorCode::ExpectedArrayCommaOrEnd,
         10,
     ),
-    // The nearest of several fails is told, whatever the order of the paths.
+    // The nearest of several fails is reported, whatever the order of the paths.
     (
         &[&[Key("b"), Key("x")], &[Key("a"), Key("x")]],
         "{\"a\":[],\"b\":{}}",
@@ -311,7 +311,7 @@ const REFUSED: [Refused; 18] = [
         ErrorCode::GetIndexOutOfArray,
         2,
     ),
-    // A path that ends at a value asks for the whole of it, but only behind the paths below.
+    // A path that ends at a value asks for the whole of it, but only after the paths below.
     (
         &[&[Key("a")], &[Key("a"), Key("b"), Index(0)]],
         "{\"a\":{\"b\":[],\"c\":x}}",
@@ -337,11 +337,11 @@ fn refuses_paths_over_each_kind_of_input(rt: HostRuntime) -> Result<(), Fail> {
 }
 
 // The paths, bytes, and what they find in them.
-type Front = (Paths, &'static [u8], &'static [Option<&'static str>]);
+type Prefix = (Paths, &'static [u8], &'static [Option<&'static str>]);
 
-// Bytes that aren't UTF-8 behind all that is needed: behind the furthest end that was found, or
-// behind the root where a key is lacked.
-const FRONTS: [Front; 4] = [
+// Bytes that aren't UTF-8 after all that is needed: after the furthest end that was found, or
+// after the root where a key is lacked.
+const PREFIXES: [Prefix; 4] = [
     (&[&[Index(0)]], b"[1,\xFF", &[Some("1")]),
     (&[&[Index(0)]], b"[1,\"\xFF\"]", &[Some("1")]),
     (
@@ -359,7 +359,7 @@ const FRONTS: [Front; 4] = [
 // The paths, bytes, and the code and the offset of the one error.
 type Broken = (Paths, &'static [u8], ErrorCode, usize);
 
-// And before its end. A fail and a fault are told before them.
+// And before its end. A fail and a fault are reported before them.
 const BROKEN: [Broken; 7] = [
     (&[&[Index(0)]], b"[\"a\xC3\"]", ErrorCode::InvalidUTF8, 3),
     (
@@ -398,7 +398,7 @@ const BROKEN: [Broken; 7] = [
 #[test]
 fn looks_at_utf8_as_far_as_it_is_needed(rt: HostRuntime) -> Result<(), Fail> {
     let alloc = rt.alloc();
-    for (paths, bytes, wanted) in FRONTS {
+    for (paths, bytes, wanted) in PREFIXES {
         let shared = Bytes::copy_from_slice(alloc, bytes)?;
         let tree = tree_of(&rt, alloc, paths);
         check_values(&rt, alloc, bytes, &tree, wanted);

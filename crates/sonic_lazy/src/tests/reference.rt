@@ -23,12 +23,12 @@ use std::alloc::{AllocError, Global};
 use std::process::Abort;
 use std::test::Fail;
 
-// What a path is told.
+// What is reported of a path.
 #[derive(Clone, Copy, Debug, PartialEq)]
-enum Told {
+enum Reported {
     // It leads to the value that begins and ends here.
     Found(usize, usize),
-    // It leads nowhere, as an object lacks its key, whose closing brace stands here.
+    // It leads nowhere, as an object lacks its key, whose closing brace is here.
     Lacks(usize),
     // It leads nowhere for this reason.
     Fails(Stop),
@@ -43,12 +43,12 @@ fn parser_at(text: &[u8], place: usize) -> Parser<'_>
     ensures place { result.place ≡ place }
     ensures lossy { result.lossy ≡ strict }
 {
-    let mut read = Read::unmarked(JsonSlice::Raw(text));
+    let mut read = Read::unscanned(JsonSlice::Raw(text));
     read.set_index(place);
     Parser::new(read)
 }
 
-// The end of the value that stands at a place, or its fault.
+// The end of the value at a place, or its fault.
 fn value_end(alloc: Global, text: &[u8], place: usize) -> Result<usize, Fault>
     requires { place ≤ length text.now }
     ensures ok { IfOk result (λ end. IsValue strict text.now place end) }
@@ -69,7 +69,7 @@ fn kind_of(node: &PointerNode<'_>) -> Kind
     }
 }
 
-// Goes up to the value of the item that stands here, and tells whether the node names it.
+// Goes up to the value of the item here, and says whether the node names it.
 fn is_named(parser: &mut Parser<'_>, node: &PointerNode<'_>, passed: usize) -> Result<bool, Stop>
     requires reads { parser.old.lossy ≡ strict }
     ensures item { IfOk result (λ is_it. (item : Node) × IsNamed parser.old.text
@@ -89,7 +89,7 @@ fn is_named(parser: &mut Parser<'_>, node: &PointerNode<'_>, passed: usize) -> R
     }
 }
 
-// Goes up to the value that the node leads to in the value that stands here, if it leads to one.
+// Goes up to the value that the node leads to in the value here, if it leads to one.
 fn seek(alloc: Global, parser: &mut Parser<'_>, node: &PointerNode<'_>) -> Result<bool, Fault>
     requires reads { parser.old.lossy ≡ strict }
     ensures yes { IfOk result (λ leads. leads ≡ true
@@ -163,71 +163,71 @@ fn refusal(text: &[u8], start: usize, kind: Kind) -> Option<ErrorCode>
     }
 }
 
-// What a path that is used up is told of the value that stands here.
-fn stand(alloc: Global, text: &[u8], place: usize) -> Result<Told, AllocError>
+// What is reported of a path that is used up, of the value here.
+fn value_here(alloc: Global, text: &[u8], place: usize) -> Result<Reported, AllocError>
     requires { place ≤ length text.now }
-    ensures found { (i j : ℕ) → result ≡ Ok (Told.Found i j)
+    ensures found { (i j : ℕ) → result ≡ Ok (Reported.Found i j)
         → Evaluates text.now place [] (found i j) }
-    ensures cut { (s : Stop) → result ≡ Ok (Told.Cut s) → Evaluates text.now place [] (cut s) }
-    ensures lacks { (q : ℕ) → result ≢ Ok (Told.Lacks q) }
-    ensures fails { (s : Stop) → result ≢ Ok (Told.Fails s) }
+    ensures cut { (s : Stop) → result ≡ Ok (Reported.Cut s) → Evaluates text.now place [] (cut s) }
+    ensures lacks { (q : ℕ) → result ≢ Ok (Reported.Lacks q) }
+    ensures fails { (s : Stop) → result ≢ Ok (Reported.Fails s) }
 {
     match value_end(alloc, text, place) {
-        Ok(end) => Ok(Told::Found(place, end)),
-        Err(Fault::At(stop)) => Ok(Told::Cut(stop)),
+        Ok(end) => Ok(Reported::Found(place, end)),
+        Err(Fault::At(stop)) => Ok(Reported::Cut(stop)),
         Err(Fault::OutOfMemory) => Err(AllocError),
     }
 }
 
-// What a path is told of the value that stands here, where its next node leads nowhere.
+// What is reported of a path, of the value here, where its next node leads nowhere.
 fn miss(
     alloc: Global,
     text: &[u8],
     place: usize,
     node: &PointerNode<'_>,
-) -> Result<Told, AllocError>
+) -> Result<Reported, AllocError>
     requires within { place ≤ length text.now }
     requires nowhere { (v : ℕ) → ¬ LeadsOn text.now place (node_of node.now) v }
-    ensures found { (i j : ℕ) → result ≢ Ok (Told.Found i j) }
-    ensures lacks { (q : ℕ) → result ≡ Ok (Told.Lacks q) → (rest : List Node)
+    ensures found { (i j : ℕ) → result ≢ Ok (Reported.Found i j) }
+    ensures lacks { (q : ℕ) → result ≡ Ok (Reported.Lacks q) → (rest : List Node)
         → Evaluates text.now place (node_of node.now ∷ rest) (lacks q) }
-    ensures fails { (s : Stop) → result ≡ Ok (Told.Fails s) → (rest : List Node)
+    ensures fails { (s : Stop) → result ≡ Ok (Reported.Fails s) → (rest : List Node)
         → Evaluates text.now place (node_of node.now ∷ rest) (fails s) }
-    ensures cut { (s : Stop) → result ≡ Ok (Told.Cut s) → (rest : List Node)
+    ensures cut { (s : Stop) → result ≡ Ok (Reported.Cut s) → (rest : List Node)
         → Evaluates text.now place (node_of node.now ∷ rest) (cut s) }
 {
     match value_end(alloc, text, place) {
         Ok(end) => {
             let last = end - 1;
             match refusal(text, place, kind_of(node)) {
-                Some(code) => Ok(Told::Fails(Stop { place: last, code })),
-                None => Ok(Told::Lacks(last)),
+                Some(code) => Ok(Reported::Fails(Stop { place: last, code })),
+                None => Ok(Reported::Lacks(last)),
             }
         }
-        Err(Fault::At(stop)) => Ok(Told::Cut(stop)),
+        Err(Fault::At(stop)) => Ok(Reported::Cut(stop)),
         Err(Fault::OutOfMemory) => Err(AllocError),
     }
 }
 
-// Where a path leads in the value that stands at a place.
+// Where a path leads in the value at a place.
 fn follow(
     alloc: Global,
     text: &[u8],
     place: usize,
     path: &[PointerNode<'_>],
-) -> Result<Told, AllocError>
+) -> Result<Reported, AllocError>
     requires { place ≤ length text.now }
-    ensures found { (i j : ℕ) → result ≡ Ok (Told.Found i j)
+    ensures found { (i j : ℕ) → result ≡ Ok (Reported.Found i j)
         → Evaluates text.now place (path_of path.now) (found i j) }
-    ensures lacks { (q : ℕ) → result ≡ Ok (Told.Lacks q)
+    ensures lacks { (q : ℕ) → result ≡ Ok (Reported.Lacks q)
         → Evaluates text.now place (path_of path.now) (lacks q) }
-    ensures fails { (s : Stop) → result ≡ Ok (Told.Fails s)
+    ensures fails { (s : Stop) → result ≡ Ok (Reported.Fails s)
         → Evaluates text.now place (path_of path.now) (fails s) }
-    ensures cut { (s : Stop) → result ≡ Ok (Told.Cut s)
+    ensures cut { (s : Stop) → result ≡ Ok (Reported.Cut s)
         → Evaluates text.now place (path_of path.now) (cut s) }
 {
     let Some((node, rest)) = path.split_first() else {
-        return stand(alloc, text, place);
+        return value_here(alloc, text, place);
     };
     match step(alloc, text, place, node)? {
         Some(next) => follow(alloc, text, next, rest),
@@ -240,7 +240,7 @@ fn follow_all(
     alloc: Global,
     text: &[u8],
     paths: &[&[PointerNode<'_>]],
-) -> Result<Vec<Told>, AllocError> {
+) -> Result<Vec<Reported>, AllocError> {
     let start = skip_space(text, 0);
     let mut all = Vec::new(alloc);
     for path in paths {
@@ -250,10 +250,10 @@ fn follow_all(
 }
 
 // The least place at which a path fails, and of those that fail there the first path's reason.
-fn nearest(all: &[Told]) -> Option<Stop> {
+fn nearest(all: &[Reported]) -> Option<Stop> {
     let mut nearest: Option<Stop> = None;
-    for told in all {
-        if let Told::Fails(stop) = told {
+    for reported in all {
+        if let Reported::Fails(stop) = reported {
             match nearest {
                 Some(before) if before.place <= stop.place => {}
                 _ => nearest = Some(*stop),
@@ -264,15 +264,15 @@ fn nearest(all: &[Told]) -> Option<Stop> {
 }
 
 // Whether a path asks for the whole root, as it is cut or lacks its key.
-fn needs_root(told: &Told) -> bool {
-    matches!(told, Told::Cut(_) | Told::Lacks(_))
+fn needs_root(reported: &Reported) -> bool {
+    matches!(reported, Reported::Cut(_) | Reported::Lacks(_))
 }
 
 // The furthest end of the spans that were found.
-fn furthest(all: &[Told]) -> usize {
+fn furthest(all: &[Reported]) -> usize {
     let mut reach = 0;
-    for told in all {
-        if let Told::Found(_, end) = told {
+    for reported in all {
+        if let Reported::Found(_, end) = reported {
             reach = reach.max(*end);
         }
     }
@@ -280,9 +280,9 @@ fn furthest(all: &[Told]) -> usize {
 }
 
 // The span that was found, if one was.
-fn span(told: &Told) -> Option<(usize, usize)> {
-    match told {
-        Told::Found(start, end) => Some((*start, *end)),
+fn span(reported: &Reported) -> Option<(usize, usize)> {
+    match reported {
+        Reported::Found(start, end) => Some((*start, *end)),
         _ => None,
     }
 }

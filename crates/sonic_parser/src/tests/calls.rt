@@ -1,4 +1,4 @@
-// Worked examples of each call, with the cursor behind it.
+// Worked examples of each call, with the cursor after it.
 use crate::{ParseStatus, Parser};
 use sonic_error::{Error, ErrorCode};
 use sonic_input::{JsonSlice, Read};
@@ -9,7 +9,7 @@ const PLAIN: ParseStatus = ParseStatus::None;
 
 const ESCAPED: ParseStatus = ParseStatus::HasEscaped;
 
-// The next value is this text, with the cursor behind it.
+// The next value is this text, with the cursor after it.
 fn check_skip(
     rt: &impl Abort,
     alloc: Global,
@@ -39,7 +39,7 @@ fn skips_one_value_after_the_other(rt: HostRuntime) {
 }
 
 #[test]
-fn leaves_what_stands_behind_a_value(rt: HostRuntime) {
+fn leaves_what_follows_a_value(rt: HostRuntime) {
     let alloc = rt.alloc();
     let text = "{\"a\" : [ ] , \"b\":{}}null\t-1.5e+7 \"x\\\\\"\"\\u00e9\"true1.2.3";
     let mut parser = Parser::new(Read::from(text));
@@ -72,7 +72,7 @@ fn check_status(rt: &impl Abort, alloc: Global, text: &str, status: ParseStatus)
 }
 
 #[test]
-fn marks_strings_with_a_backslash_alone(rt: HostRuntime) {
+fn finds_escapes_in_strings_with_a_backslash_alone(rt: HostRuntime) {
     let alloc = rt.alloc();
     check_status(&rt, alloc, "\"\"", PLAIN);
     check_status(&rt, alloc, "\"é\"", PLAIN);
@@ -93,7 +93,7 @@ fn says_nothing_of_the_encoding(rt: HostRuntime) {
 }
 
 #[test]
-fn errors_tell_the_byte_before_the_cursor(rt: HostRuntime) {
+fn errors_are_at_the_byte_before_the_cursor(rt: HostRuntime) {
     let text = "[x";
     let mut parser = Parser::new(Read::from(text));
     let code = ErrorCode::InvalidJsonValue;
@@ -105,7 +105,7 @@ fn errors_tell_the_byte_before_the_cursor(rt: HostRuntime) {
 }
 
 #[test]
-fn starts_where_the_reader_stands(rt: HostRuntime) {
+fn starts_at_the_reader(rt: HostRuntime) {
     let alloc = rt.alloc();
     let text = b"xx[1]";
     let mut read = Read::of_slice(JsonSlice::Raw(text));

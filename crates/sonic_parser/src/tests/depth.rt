@@ -8,7 +8,7 @@ use std::test::Fail;
 
 const DEPTH: usize = 100_000;
 
-// So many openings one behind the other, then the middle, then so many endings.
+// So many openings one after the other, then the middle, then so many endings.
 fn nested(
     alloc: Global,
     open: &[u8],

@@ -137,7 +137,7 @@ fn stops_at_the_first_byte_that_does_not_fit(rt: HostRuntime) {
     check_faults(&rt, alloc, &ELEMENTS);
 }
 
-// Texts with surrogate escapes that don't stand in pairs.
+// Texts with surrogate escapes that aren't in pairs.
 const HALVES: [Fault; 6] = [
     (b"\"\\ud800\"", 7, HALF),
     (b"\"\\ude00\"", 4, HALF),

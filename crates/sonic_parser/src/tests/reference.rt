@@ -13,7 +13,7 @@ use std::alloc::Global;
 use std::process::Abort;
 use std::test::Fail;
 
-// The end of the value that is due at a place, or its fault.
+// The end of the value that is expected at a place, or its fault.
 #[tactic(auto, using(crate::proofs::DescentLemmas::steps))]
 fn value_end(text: &[u8], start: usize, lossy: bool) -> Result<usize, Stop>
     requires { start ≤ length text.now }
@@ -54,7 +54,7 @@ fn plain_answer(text: &[u8], lossy: bool) -> Result<(usize, usize), Stop> {
     Ok((start, end))
 }
 
-// What the parser finds in it, with the cursor behind it or at the fault.
+// What the parser finds in it, with the cursor after it or at the fault.
 fn parser_answer(alloc: Global, text: &[u8], lossy: bool) -> Result<(usize, usize), Stop> {
     let mut parser = Parser::new(Read::from(text));
     if lossy {

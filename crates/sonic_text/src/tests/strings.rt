@@ -18,7 +18,7 @@ const DIGIT: ErrorCode = ErrorCode::InvalidUnicodeCodePoint;
 
 const HALF: ErrorCode = ErrorCode::InvalidSurrogateUnicodeCodePoint;
 
-// What the reader answers at the start of the text, where a quote stands there.
+// What the reader answers at the start of the text, where a quote is there.
 fn answer(text: &[u8], lossy: bool) -> Option<Result<StringEnd, Stop>> {
     if !text.is_empty() && text[0] == b'"' {
         Some(string_end(text, 0, lossy))
@@ -131,7 +131,7 @@ fn takes_second_halves_alone_if_lossy(rt: HostRuntime) {
 }
 
 #[test]
-fn stops_behind_first_halves(rt: HostRuntime) {
+fn stops_after_first_halves(rt: HostRuntime) {
     let text = b"\"\\ud83d\\ude00";
     for n in 7..14 {
         check_stops(&rt, &text[..n], n, END);

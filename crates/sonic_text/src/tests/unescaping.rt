@@ -20,8 +20,8 @@ fn check_utf8(rt: &impl Abort, cp: u32, bytes: &[u8]) {
     let len = codepoint_to_utf8(cp, &mut out);
     assert!(rt; len <= 4, "{cp:x}");
     assert_eq!(rt; &out[..len], bytes, "{cp:x}");
-    for behind in &out[len..] {
-        assert_eq!(rt; *behind, 0xAA, "{cp:x}");
+    for after in &out[len..] {
+        assert_eq!(rt; *after, 0xAA, "{cp:x}");
     }
 }
 
@@ -51,7 +51,7 @@ fn knows_the_short_escapes(rt: HostRuntime) {
     assert_eq!(rt; ESCAPED_TAB[b'N' as usize], 0);
 }
 
-// Appends what the string stands for that begins a text: whether there is one.
+// Appends what the string denotes that begins a text: whether there is one.
 fn unescape_first(out: &mut Vec<u8>, text: &[u8], lossy: bool) -> bool {
     if text.is_empty() || text[0] != b'"' {
         return false;

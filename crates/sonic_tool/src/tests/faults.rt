@@ -1,5 +1,5 @@
 // Each way in which a text can stop being JSON, by a byte that doesn't fit and by the end of the
-// input, and the one line that tells it.
+// input, and the one line that reports it.
 use super::rows::check_run;
 use crate::status::Status;
 use std::process::Abort;
@@ -204,7 +204,7 @@ const SURROGATES: [Fault; 20] = [
 ];
 
 #[test]
-fn tells_each_fault_at_its_place(rt: HostRuntime) -> Result<(), Fail> {
+fn reports_each_fault_at_its_place(rt: HostRuntime) -> Result<(), Fail> {
     let alloc = rt.alloc();
     let tables: [&[Fault]; 6] = [&VALUES, &KEYS, &MEMBERS, &NUMBERS, &STRINGS, &SURROGATES];
     for table in tables {

@@ -161,7 +161,7 @@ fn check_memory(
 }
 
 #[test]
-fn fails_where_it_is_told_to(rt: HostRuntime) -> Result<(), Fail> {
+fn fails_at_the_chosen_call(rt: HostRuntime) -> Result<(), Fail> {
     let alloc = rt.alloc();
     check_memory(&rt, alloc, 5, &[], Ok(()), b"[1,2]")?;
     check_memory(&rt, alloc, 900, &[5, 0], Ok(()), b"[1,2]")?;

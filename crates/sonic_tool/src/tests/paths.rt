@@ -80,7 +80,7 @@ const REFUSED: [Row; 8] = [
     (b"[0]\n[1]\n\n[]", "! not-found GetInEmptyArray 1 2 1\n"),
 ];
 
-// One path, and a fault that stands before its value or before it is known that there is none:
+// One path, and a fault that comes before its value or before it is known that there is none:
 // at each step through an object and an array, by a byte that doesn't fit and by the end.
 const FAULTY: [Row; 39] = [
     (b"[\"a\"]\n\n", "! eof EofWhileParsing 1 1 0\n"),
@@ -164,7 +164,7 @@ const FAULTY: [Row; 39] = [
 ];
 
 // One path that leads nowhere: a value of each kind under a key and under an index, read to its last
-// byte, whatever stands behind it.
+// byte, whatever follows it.
 const NOWHERE: [Row; 17] = [
     (b"[\"a\"]\n\nnull ", "! type Message 1 4 3\n"),
     (b"[\"a\"]\n\ntrue", "! type Message 1 4 3\n"),
@@ -191,7 +191,7 @@ const NOWHERE: [Row; 17] = [
     ),
 ];
 
-// Several paths, of which the nearest fail is told, and else the fault of the text.
+// Several paths, of which the nearest fail is reported, and else the fault of the text.
 const NEAREST: [Row; 12] = [
     (
         b"[\"a\",\"x\"]\n[\"b\"]\n\n{\"a\":{},\"b\":tru}",
@@ -237,14 +237,14 @@ const NEAREST: [Row; 12] = [
     ),
 ];
 
-// Bytes that aren't UTF-8 behind all that is needed.
-const BEHIND: [Row; 3] = [
+// Bytes that aren't UTF-8 after all that is needed.
+const AFTER: [Row; 3] = [
     (b"[0]\n\n[1,\xff", "1 1\n"),
     (b"[\"b\"]\n\n{\"b\":1,\"a\":\"\x80\"}", "1 1\n"),
     (b"[\"z\"]\n\n{\"a\":1}\xff", "-\n"),
 ];
 
-// And before its end, behind a fail and a fault.
+// And before its end, after a fail and a fault.
 const BROKEN: [Row; 7] = [
     (b"[0]\n\n[\"\xff\"]", "! syntax InvalidUTF8 1 3 2\n"),
     (b"[1]\n\n[\"\xe2\x82\", 7]", "! syntax InvalidUTF8 1 3 2\n"),
@@ -302,28 +302,28 @@ fn answers_many_paths(rt: HostRuntime) -> Result<(), Fail> {
 }
 
 #[test]
-fn tells_the_error_of_the_worked_examples(rt: HostRuntime) -> Result<(), Fail> {
+fn reports_the_error_of_the_worked_examples(rt: HostRuntime) -> Result<(), Fail> {
     check(&rt, rt.alloc(), &REFUSED, Status::DocumentError)
 }
 
 #[test]
-fn tells_a_fault_on_the_way(rt: HostRuntime) -> Result<(), Fail> {
+fn reports_a_fault_on_the_way(rt: HostRuntime) -> Result<(), Fail> {
     check(&rt, rt.alloc(), &FAULTY, Status::DocumentError)
 }
 
 #[test]
-fn tells_where_a_path_leads_nowhere(rt: HostRuntime) -> Result<(), Fail> {
+fn reports_where_a_path_leads_nowhere(rt: HostRuntime) -> Result<(), Fail> {
     check(&rt, rt.alloc(), &NOWHERE, Status::DocumentError)
 }
 
 #[test]
-fn tells_the_nearest_of_many(rt: HostRuntime) -> Result<(), Fail> {
+fn reports_the_nearest_of_many(rt: HostRuntime) -> Result<(), Fail> {
     check(&rt, rt.alloc(), &NEAREST, Status::DocumentError)
 }
 
 #[test]
 fn looks_at_utf8_as_far_as_it_is_needed(rt: HostRuntime) -> Result<(), Fail> {
-    check(&rt, rt.alloc(), &BEHIND, Status::Done)?;
+    check(&rt, rt.alloc(), &AFTER, Status::Done)?;
     check(&rt, rt.alloc(), &BROKEN, Status::DocumentError)
 }
 

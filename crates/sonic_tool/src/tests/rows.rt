@@ -124,7 +124,7 @@ fn check_bad_line(
     )
 }
 
-// A run that always tells want of memory would meet each clause.
+// A run that always runs out of memory would satisfy each clause.
 #[test]
 fn ample_memory_suffices(rt: HostRuntime) -> Result<(), Fail> {
     check(&rt, rt.alloc(), PLAIN)?;
@@ -167,7 +167,7 @@ fn asks_for_nothing_without_a_line(rt: HostRuntime) -> Result<(), Fail> {
 }
 
 #[test]
-fn tells_errors_of_the_document(rt: HostRuntime) -> Result<(), Fail> {
+fn reports_errors_of_the_document(rt: HostRuntime) -> Result<(), Fail> {
     let alloc = rt.alloc();
     check_error(
         &rt,
@@ -264,9 +264,9 @@ fn reads_strings_and_fractions(rt: HostRuntime) -> Result<(), Fail> {
     check_error(&rt, alloc, "[]\n\n\"\\ude00\"", surrogate)
 }
 
-// Text that isn't UTF-8 is told where it is, and only up to the end of what was found.
+// Text that isn't UTF-8 is reported where it is, and only up to the end of what was found.
 #[test]
-fn tells_text_that_is_broken_before_the_end(rt: HostRuntime) -> Result<(), Fail> {
+fn reports_text_that_is_broken_before_the_end(rt: HostRuntime) -> Result<(), Fail> {
     let alloc = rt.alloc();
     let broken = b"[]\n\n\"222\x80\x90\"";
     let line = "! syntax InvalidUTF8 1 5 4\n";
@@ -302,7 +302,7 @@ fn tells_text_that_is_broken_before_the_end(rt: HostRuntime) -> Result<(), Fail>
 }
 
 #[test]
-fn tells_bad_lines(rt: HostRuntime) -> Result<(), Fail> {
+fn reports_bad_lines(rt: HostRuntime) -> Result<(), Fail> {
     let alloc = rt.alloc();
     check_bad_line(&rt, alloc, "[0\n\n[]", "! paths 1\n")?;
     check_bad_line(&rt, alloc, "[0]\nx", "! paths 2\n")?;
@@ -446,9 +446,9 @@ fn check_deep(
     Ok(())
 }
 
-// Behind the number the input ends, or the wrong bracket stands.
+// After the number the input ends, or there is the wrong bracket.
 #[test]
-fn tells_faults_at_any_depth(rt: HostRuntime) -> Result<(), Fail> {
+fn reports_faults_at_any_depth(rt: HostRuntime) -> Result<(), Fail> {
     let alloc = rt.alloc();
     let arrays = "! eof EofWhileParsing 1 100001 100000\n";
     check_deep(&rt, alloc, "[", "", arrays)?;

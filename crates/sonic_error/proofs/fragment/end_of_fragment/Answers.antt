@@ -9,7 +9,7 @@ loop-end-preserved c =
     let step = end_step c.args.json.now c.args.offset c.loop-end.end c.loop-end-test.true near continues in
     record {
       search = step ∙ c.loop-end.invariant.search;
-      behind = omega arith;
+      after = omega arith;
       from = omega arith;
       near = omega arith;
       inside = omega arith;

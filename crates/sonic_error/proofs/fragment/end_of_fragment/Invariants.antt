@@ -6,7 +6,7 @@ use Rattle.sonic_error.proofs.fragment.end_of_fragment.Given as goal
 abbrev pub invariant-loop-end : goal.invariant-loop-end
 invariant-loop-end l = record {
   search : least_from (may_end l.json l.offset) l.end (length l.json) ≡ fragment_end l.json l.offset;
-  behind : l.end < length l.json → l.offset + 8 ≤ l.end;
+  after : l.end < length l.json → l.offset + 8 ≤ l.end;
   from : l.offset ≤ l.end;
   near : l.end ≤ l.offset + 17;
   inside : l.end ≤ length l.json;

@@ -1,14 +1,14 @@
 use Rattle.sonic_lazy.proofs.answer.reach.Goals as goal
 use Rattle.std.proofs.Common.{◌≡◌, ◌∙◌, inr, ap, refl}
-use Rattle.sonic_lazy.proofs.AnswerLemmas.Walk.{is_reached, root_front, root_told}
+use Rattle.sonic_lazy.proofs.AnswerLemmas.Walk.{is_reached, root_prefix, root_reported}
 use Rattle.sonic_text.specs.Places.{after_space}
 
 pub follow-requires-clause-some : goal.follow-requires-clause-some
-follow-requires-clause-some c = rw (c.view.ensures.paths, c.view.ensures.front) (root_front c.args.tree.now c.requires.some)
+follow-requires-clause-some c = rw (c.view.ensures.paths, c.view.ensures.prefix) (root_prefix c.args.tree.now c.requires.some)
 
 pub follow-requires-clause-are : goal.follow-requires-clause-are
 follow-requires-clause-are c =
-    rw (c.view.ensures.paths, c.in_ok-walk.ensures.findings) (root_told c.in_ok-walk.walk.text c.args.tree.now c.args.size c.requires.size)
+    rw (c.view.ensures.paths, c.in_ok-walk.ensures.findings) (root_reported c.in_ok-walk.walk.text c.args.tree.now c.args.size c.requires.size)
 
 pub returns-clause-reached : goal.returns-clause-reached
 returns-clause-reached c =
@@ -16,7 +16,7 @@ returns-clause-reached c =
     let place : c.in_ok-walk.walk.place ≡ after_space c.args.read.text 0 =
     c.in_ok-walk.ensures.place ∙ (ap (λ p. p.place) c.skip_space_peek.ensures.moved ∙ rw (c.new-parser.ensures.text, c.new-parser.ensures.place, c.requires.start) refl) in
     let later = rw (text, c.view.ensures.paths) at c.in_ok-follow.ensures.later in
-    let settled = rw (text, c.view.ensures.paths, c.view.ensures.front) at c.in_ok-follow.ensures.settled in
+    let settled = rw (text, c.view.ensures.paths, c.view.ensures.prefix) at c.in_ok-follow.ensures.settled in
     let value = rw (text, place, ← c.place-end.ensures.place) at c.in_ok-follow.ensures.whole in
     let at_end = rw c.lacks_key-lacking.ensures at c.reach_of-reach.ensures.whole in
     let furthest = rw (c.deref.ensures.value, c.into_spans-found.ensures.spans, c.lacks_key-lacking.ensures) at c.reach_of-reach.ensures.furthest in

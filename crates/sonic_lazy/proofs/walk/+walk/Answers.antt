@@ -105,12 +105,12 @@ pub item-follow-requires : goal.item-follow-requires
 item-follow-requires t c =
     let m = is_visit c.in_ok-child.child c.requires.before c.in_ok-child.ensures.item c.in-Some.ensures.some in
     let same : node_of c.child-below.result.0 ≡ m.node = cc (c.child-below.ensures.node, m.is) in
-    let front = rw same at c.child-below.ensures.front in
+    let prefix = rw same at c.child-below.ensures.prefix in
     let long = ap (λ walk. length walk.text) c.in_ok-child.ensures.moved in (
       omega (arith, c.decreases, c.in_ok-child.ensures.later, long),
       (
-        rw (c.in_ok-child.ensures.moved, c.child-below.ensures.paths, front) (child_comes m),
-        (rw (c.child-below.ensures.paths, front) (child_prefix m), rw (c.child-below.ensures.paths, c.in_ok-child.ensures.moved) c.requires.before.are),
+        rw (c.in_ok-child.ensures.moved, c.child-below.ensures.paths, prefix) (child_comes m),
+        (rw (c.child-below.ensures.paths, prefix) (child_prefix m), rw (c.child-below.ensures.paths, c.in_ok-child.ensures.moved) c.requires.before.are),
       ),
     )
 
@@ -119,8 +119,8 @@ item-returns-in_err-follow-clause-err t c =
     let p = err_from_is_err_and c.from_residual-in_err-follow.result c.from_residual-in_err-follow.ensures.1 in
     let m = is_visit c.in_ok-child.child c.requires.before c.in_ok-child.ensures.item c.in-Some.ensures.some in
     let same : node_of c.child-below.result.0 ≡ m.node = cc (c.child-below.ensures.node, m.is) in
-    let front = rw same at c.child-below.ensures.front in
-    let e = rw (c.in_ok-child.ensures.moved, c.child-below.ensures.paths, front) at c.in_err-follow.ensures.err in
+    let prefix = rw same at c.child-below.ensures.prefix in
+    let e = rw (c.in_ok-child.ensures.moved, c.child-below.ensures.paths, prefix) at c.in_err-follow.ensures.err in
     let wants = rw (c.visit.ensures, c.in_ok-child.ensures.moved) at c.is_wanted-more.ensures.more in
     rw (p.1, p.2) (stop_weaker c.in_err-follow.field-0.0 (λ s f. child_stops m wants f) e)
 
@@ -128,9 +128,9 @@ pub item-returns-clause-passed : goal.item-returns-clause-passed
 item-returns-clause-passed t c =
     let m = is_visit c.in_ok-child.child c.requires.before c.in_ok-child.ensures.item c.in-Some.ensures.some in
     let same : node_of c.child-below.result.0 ≡ m.node = cc (c.child-below.ensures.node, m.is) in
-    let front = rw same at c.child-below.ensures.front in
+    let prefix = rw same at c.child-below.ensures.prefix in
     let later = rw (c.child-below.ensures.paths, c.in_ok-child.ensures.moved) at c.in_ok-follow.ensures.later in
-    let settled = rw (c.in_ok-child.ensures.moved, c.child-below.ensures.paths, front) at c.in_ok-follow.ensures.settled in
+    let settled = rw (c.in_ok-child.ensures.moved, c.child-below.ensures.paths, prefix) at c.in_ok-follow.ensures.settled in
     let value = rw c.in_ok-child.ensures.moved at c.in_ok-follow.ensures.whole in
     let done = rw c.visit.ensures at c.is_wanted-more.ensures.done in
     rw c.visit.ensures (child_passed m later settled (λ w. value (asked_or_lacks (set c.args.visited.now c.in-Some.unvisited true) c.is_wanted-more.result done w)))

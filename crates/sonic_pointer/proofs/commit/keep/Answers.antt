@@ -18,8 +18,8 @@ returns-then-leaving-len-clause-tree c =
     let l = c.requires.leaving in
     let e = c.end_path.ensures in
     let all = take_all c.args.leaving.depth p (let a = c.requires.len in let b = c.if-leaving-len.true in omega arith) in
-    after c.end_path.result e.paths e.places e.same_paths e.same_places
-    (λ x y. subst₂ IsTree (sym x) (sym y) (tree_ended P E p c.args.leaving.at c.requires.tree c.requires.short l.inside (l.front ∙ all) l.unmixed))
+    after c.end_path.result e.paths e.vertices e.same_paths e.same_vertices
+    (λ x y. subst₂ IsTree (sym x) (sym y) (tree_ended P E p c.args.leaving.at c.requires.tree c.requires.short l.inside (l.prefix ∙ all) l.unmixed))
     (λ x y. subst₂ IsTree (sym x) (sym y) c.requires.tree)
 
 pub returns-clause-tree : goal.returns-clause-tree
@@ -31,8 +31,8 @@ returns-clause-tree c =
     let e = c.branch_path.ensures in
     let v = c.args.leaving in
     let short = let a = c.requires.len in let b = c.if-leaving-len.false in let d = l.deep in let s : v.depth < length p = omega arith in s in
-    after c.branch_path.result e.paths e.places e.same_paths e.same_places
+    after c.branch_path.result e.paths e.vertices e.same_paths e.same_vertices
     (λ x y. subst₂ IsTree (sym x) (sym y.is)
-    (tree_branched P E p v.at v.place v.depth y.line c.requires.tree c.requires.short l.inside l.front short (l.gap short) l.unmixed
+    (tree_branched P E p v.at v.position v.depth y.line c.requires.tree c.requires.short l.inside l.prefix short (l.gap short) l.unmixed
     (subst (λ n. IsLine (length P) (length E) v.depth (n - v.depth) y.line) c.requires.len y.is_line)))
     (λ x y. subst₂ IsTree (sym x) (sym y) c.requires.tree)

@@ -5,7 +5,7 @@ use Rattle.std.specs.Cmp.Lexicographic.{slice_cmp}
 use Rattle.std.specs.List.{slice_range}
 use Rattle.std.specs.Char.{encode_utf8}
 use Rattle.sonic_text.specs.Strings.{IsString, strict}
-use Rattle.sonic_text.proofs.KeyLemmas.{key_more, cmp_front}
+use Rattle.sonic_text.proofs.KeyLemmas.{key_more, cmp_prefix}
 use Rattle.sonic_text.proofs.StringReadingLemmas.{reached_start, reached_before, reached_plain, reached_escape, reached_char, reached_all}
 use Rattle.sonic_text.proofs.key.compare_key.Goals as goal
 
@@ -32,7 +32,7 @@ returns-then-stop-end c = λ b s.
     let g = c.if-not-goes_on.ensures.yes in
     let small : n ≤ length key = omega (arith, g.0, l) in
     let r = key_more key run c.chars.done (p.result - c.chars.place) l g.1 (reached_plain p.result p.ensures.within p.ensures.plain (c.chars.invariant.3 b s)) in
-    c.cmp.ensures ∙ (cmp_front key n small ∙ (ap (λ x. slice_cmp nat_cmp x key) (reached_all r c.if-stop-end.true) ∙ ap (slice_cmp nat_cmp b) c.as_bytes-key.ensures.value))
+    c.cmp.ensures ∙ (cmp_prefix key n small ∙ (ap (λ x. slice_cmp nat_cmp x key) (reached_all r c.if-stop-end.true) ∙ ap (slice_cmp nat_cmp b) c.as_bytes-key.ensures.value))
 
 pub escape_at-code-requires-clause-char : goal.escape_at-code-requires-clause-char
 escape_at-code-requires-clause-char c =

@@ -5,7 +5,7 @@ use Rattle.std.proofs.lemmas.List.{take_at, drop_at, append_assoc, length-take-l
 use Rattle.std.proofs.lemmas.Slice.Eq.{starts_is}
 use Rattle.sonic_text.proofs.key.goes_on.Goals as goal
 
--- a piece that stands behind the first n bytes
+-- a piece that follows the first n bytes
 joined : (key piece rest : List ℕ) (n : ℕ) → drop n key ≡ piece ++ rest → take (n + length piece) key ≡ take n key ++ piece
 joined key piece rest n e = take-add n (length piece) key ∙ ap (λ x. take n key ++ x) (ap (take (length piece)) e ∙ take_at piece rest (length piece) refl)
 

@@ -8,7 +8,7 @@ pub returns-then-enter-clause-ok : goal.returns-then-enter-clause-ok
 returns-then-enter-clause-ok c =
     let entered = c.if-enter.ensures.item refl in
     let bracket = rw (c.text.ensures, c.offset-start.ensures.place) at (sym c.byte_at.ensures.value ∙ c.if-byte_at-opening.false ∙ c.opening.ensures) in
-    rw (← c.self.view_is) (first_item bracket entered.due entered.item refl)
+    rw (← c.self.view_is) (first_item bracket entered.value_start entered.item refl)
 
 pub returns-clause-err : goal.returns-clause-err
 returns-clause-err c =

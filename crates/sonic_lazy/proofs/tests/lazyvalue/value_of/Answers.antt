@@ -15,26 +15,26 @@ use Rattle.sonic_text.specs.Values.{IsValue}
 use Rattle.sonic_lazy.proofs.WholeLemmas.{false_not_true}
 use Rattle.sonic_lazy.proofs.tests.lazyvalue.value_of.Goals as goal
 
--- a value that is as long as the text stands from end to end
+-- a value that is as long as the text is from end to end
 span_is_whole : (t : List ℕ) (i j : ℕ) (m : Bool) → IsValue strict t i j → length (slice_range t i j) ≡ length t → IsUtf8 t
     → IsTrue m ↔ IsEscapedString t i j → IsWholeValue t m
-span_is_whole t i j m x n u mark =
+span_is_whole t i j m x n u escapes =
     let longer = value-longer x in
     let within = value_within x in
     let size = simp (length-take, length-drop) at n in
     let start : i ≡ 0 = omega arith in
     let end : j ≡ length t = omega arith in
-    record { value = rw (start, end) at x; utf8 = u; mark = rw (start, end) at mark }
+    record { value = rw (start, end) at x; utf8 = u; escapes = rw (start, end) at escapes }
 
 -- a value that was skipped and is as long as the text is a whole one
 skipped_is_whole : {before now : Parsing} {bytes : List ℕ} {needs : ParseStatus} (raw : List ℕ) (m : Bool) → IsSkipped before now bytes needs
     → before.lossy ≡ strict → before.text ≡ raw → length bytes ≡ length raw → IsUtf8 raw → IsTrue m ↔ (needs ≡ HasEscaped) → IsWholeValue raw m
-skipped_is_whole {before} {now} {bytes} {needs} raw m s mode text n u mark =
+skipped_is_whole {before} {now} {bytes} {needs} raw m s mode text n u escapes =
     let x : IsValue strict raw (after_space raw before.place) now.place = rw (mode, text) at s.value in
     let span : bytes ≡ slice_range raw (after_space raw before.place) now.place = rw text at s.span in
     let status : (needs ≡ HasEscaped) ↔ IsEscapedString raw (after_space raw before.place) now.place = rw text at s.status in
     let size : length (slice_range raw (after_space raw before.place) now.place) ≡ length raw = rw span at n in
-    span_is_whole raw (after_space raw before.place) now.place m x size u (λ e. status.0 (mark.0 e), λ y. mark.1 (status.1 y))
+    span_is_whole raw (after_space raw before.place) now.place m x size u (λ e. status.0 (escapes.0 e), λ y. escapes.1 (status.1 y))
 
 -- what was skipped is as long as the text, and a string with a backslash
 pub whole-requires : goal.whole-requires

@@ -9,7 +9,7 @@ use Rattle.sonic_lazy.specs.Paths.{kind_of, IsNamed}
 use Rattle.std.proofs.lemmas.Result.{err_from_is_err_and}
 use Rattle.sonic_lazy.proofs.tests.reference.is_named.Goals as goal
 
--- the item that is due is named by this node, or by another, as the test says
+-- the item that is expected is named by this node, or by another, as the test says
 abbrev pub IsTested : List ℕ → ℕ → ℕ → ℕ → Node → Bool → Type 0
 IsTested t n h v node is_it = (item : Node) × IsNamed t (kind_of node) n h v item × (is_it ≡ true → item ≡ node) × (is_it ≡ false → item ≢ node)
 

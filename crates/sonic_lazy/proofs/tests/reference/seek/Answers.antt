@@ -27,7 +27,7 @@ items-init c =
     let entered = rw c.kind_of-kind.ensures at (c.if-not-enter.ensures.item refl) in
     record {
       cursor = c.enter.ensures.cursor;
-      none = rw c.enter.ensures.cursor (first_unnamed (node_of c.args.node.now) (first_item bracket entered.due entered.item refl));
+      none = rw c.enter.ensures.cursor (first_unnamed (node_of c.args.node.now) (first_item bracket entered.value_start entered.item refl));
     }
 
 pub returns-in_err-is_named-clause-err : goal.returns-in_err-is_named-clause-err

@@ -13,10 +13,10 @@ overflow_sub-self c =
 pub index_mut-requires : goal.index_mut-requires
 index_mut-requires c =
     let within : c.args.child < length c.args.self.now = slice_get_within c.args.self.now c.args.child false c.requires in
-    let here : c.args.child < length c.self.inside.marks.items = rw c.self.view_is within in
+    let here : c.args.child < length c.self.inside.flags.items = rw c.self.view_is within in
     grind (arith, common_steps)
 
 pub invariant_of-self : goal.invariant_of-self
 invariant_of-self c =
-    let unmet : slice_get c.self.inside.marks.items c.args.child ≡ Some false = rw c.self.view_is c.requires in
-    omega (arith, c.self.invariant, one_less c.self.inside.marks.items c.args.child unmet)
+    let unmet : slice_get c.self.inside.flags.items c.args.child ≡ Some false = rw c.self.view_is c.requires in
+    omega (arith, c.self.invariant, one_less c.self.inside.flags.items c.args.child unmet)

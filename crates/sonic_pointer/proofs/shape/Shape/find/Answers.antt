@@ -1,16 +1,16 @@
 use Rattle.std.proofs.Common.{◌≡◌, ◌+◌, ◌-◌, ◌/◌, Some, sym, ap, ◌∙◌, arith}
 use Rattle.std.proofs.lemmas.Option.{slice_get-get_or}
 use Rattle.sonic_pointer.specs.Nodes.{node_of}
-use Rattle.sonic_pointer.specs.Tries.{front_at}
+use Rattle.sonic_pointer.specs.Tries.{prefix_at}
 use Rattle.sonic_pointer.specs.Shapes.{entries_of, shape_spots, shape_labels}
-use Rattle.sonic_pointer.proofs.PlaceLemmas.{spot_here}
-use Rattle.sonic_pointer.proofs.NodeLemmas.{behind_middle, before_middle, node_cmp_same}
+use Rattle.sonic_pointer.proofs.VertexLemmas.{spot_here}
+use Rattle.sonic_pointer.proofs.NodeLemmas.{after_middle, before_middle, node_cmp_same}
 use Rattle.sonic_pointer.proofs.shape.Shape.find.Goals as goal
 
 pub label-requires-clause-step : goal.label-requires-clause-step
 label-requires-clause-step c =
     let i = c.loop-low.invariant in
-    (front_at (shape_spots c.args.self.now) c.args.at, c.children-children.ensures.steps (c.loop-low.low + (c.loop-low.high - c.loop-low.low) / 2) (omega arith))
+    (prefix_at (shape_spots c.args.self.now) c.args.at, c.children-children.ensures.steps (c.loop-low.low + (c.loop-low.high - c.loop-low.low) / 2) (omega arith))
 
 pub loop-low-preserved-in-Less : goal.loop-low-preserved-in-Less
 loop-low-preserved-in-Less c =
@@ -24,7 +24,7 @@ loop-low-preserved-in-Less c =
       order = omega arith;
       end = omega arith;
       before = i.before;
-      behind = λ n s. before_middle (shape_labels shape c.args.at) n (node_of c.label.result) middle sorted (omega arith)
+      after = λ n s. before_middle (shape_labels shape c.args.at) n (node_of c.label.result) middle sorted (omega arith)
           (λ d. kids.nodes middle d (omega arith) ∙ sym c.label.ensures) (sym (c.in-Less.ensures n s));
     }
 
@@ -49,7 +49,7 @@ loop-low-preserved c =
     record {
       order = omega arith;
       end = i.end;
-      before = λ n s. behind_middle (shape_labels shape c.args.at) n (node_of c.label.result) middle sorted (omega arith)
+      before = λ n s. after_middle (shape_labels shape c.args.at) n (node_of c.label.result) middle sorted (omega arith)
           (λ d. kids.nodes middle d (omega arith) ∙ sym c.label.ensures) (sym (c.in-Greater.ensures n s));
-      behind = i.behind;
+      after = i.after;
     }

@@ -1,7 +1,7 @@
 use Rattle.std.proofs.Common.{◌-◌, ◌<◌, ◌≤◌, length, get_or, ℕ}
 use Rattle.sonic_text.specs.Paths.{Node}
 use Rattle.sonic_pointer.specs.Tries.{IsBefore}
-use Rattle.sonic_pointer.specs.Wanted.{Stands}
+use Rattle.sonic_pointer.specs.Wanted.{IsLookedFor}
 use Rattle.sonic_pointer.specs.Shapes.{shape_labels}
 use Rattle.sonic_pointer.proofs.shape.Shape.find.Given as goal
 
@@ -9,8 +9,8 @@ abbrev pub invariant-loop-low : goal.invariant-loop-low
 invariant-loop-low l = record {
   order : l.low ≤ l.high;
   end : l.high ≤ length l.children;
-  before : (n : Node) → Stands l.wanted n → (k : ℕ) (d : Node) → k < l.low → IsBefore (get_or (shape_labels l.self l.at) k d) n;
-  behind : (n : Node) → Stands l.wanted n → (k : ℕ) (d : Node) → l.high ≤ k → k < length (shape_labels l.self l.at) → IsBefore n (get_or (shape_labels l.self l.at) k d);
+  before : (n : Node) → IsLookedFor l.wanted n → (k : ℕ) (d : Node) → k < l.low → IsBefore (get_or (shape_labels l.self l.at) k d) n;
+  after : (n : Node) → IsLookedFor l.wanted n → (k : ℕ) (d : Node) → l.high ≤ k → k < length (shape_labels l.self l.at) → IsBefore n (get_or (shape_labels l.self l.at) k d);
 }
 
 abbrev pub decreases-loop-low : goal.decreases-loop-low

@@ -11,7 +11,7 @@ returns-in-Err-clause-err c =
     let long = length-map c.args.path.now node_of in
     let i = c.loop-depth.invariant in (
       refl,
-      mixed_here c.args.self.now c.loop-depth.at c.loop-depth.depth (path_of c.args.path.now) _ i.front (omega arith)
+      mixed_here c.args.self.now c.loop-depth.at c.loop-depth.depth (path_of c.args.path.now) _ i.prefix (omega arith)
           (get_or-map node_of c.args.path.now c.loop-depth.depth _ (index 0) (omega arith)) (c.mixes.ensures.0 c.if-mixes.true),
     )
 
@@ -19,7 +19,7 @@ pub returns-in-Err-2-clause-ok : goal.returns-in-Err-2-clause-ok
 returns-in-Err-2-clause-ok c =
     let long = length-map c.args.path.now node_of in
     let i = c.loop-depth.invariant in
-    leaving_here c.args.self.now c.loop-depth.at c.loop-depth.depth c.in-Err.field-0 (path_of c.args.path.now) _ c.requires i.inside i.front (omega arith)
+    leaving_here c.args.self.now c.loop-depth.at c.loop-depth.depth c.in-Err.field-0 (path_of c.args.path.now) _ c.requires i.inside i.prefix (omega arith)
     (get_or-map node_of c.args.path.now c.loop-depth.depth _ (index 0) (omega arith)) (c.in-Err.ensures.absent _ refl)
     (λ h. let t = c.mixes.ensures.1 h in let f = c.if-mixes.false in absurd (cc))
 
@@ -27,14 +27,14 @@ pub loop-depth-preserved : goal.loop-depth-preserved
 loop-depth-preserved c =
     let long = length-map c.args.path.now node_of in
     let i = c.loop-depth.invariant in
-    let s = step_down c.args.self.now c.loop-depth.at c.in-Ok.i c.loop-depth.depth (path_of c.args.path.now) c.children.result.now c.children.ensures i.front (omega arith)
+    let s = step_down c.args.self.now c.loop-depth.at c.in-Ok.i c.loop-depth.depth (path_of c.args.path.now) c.children.result.now c.children.ensures i.prefix (omega arith)
     (c.in-Ok.ensures.found _ (get_or-map node_of c.args.path.now c.loop-depth.depth _ (index 0) (omega arith))) in
-    record { inside = s.1; front = s.2 }
+    record { inside = s.1; prefix = s.2 }
 
 pub returns-clause-ok : goal.returns-clause-ok
 returns-clause-ok c =
     let long = length-map c.args.path.now node_of in
     let i = c.loop-depth.invariant in
     let end : c.loop-depth.depth ≡ length c.args.path.now = omega arith in
-    subst (λ d. IsLeaving c.args.self.now.paths.now (entries_of c.args.self.now) (path_of c.args.path.now) (record { at = c.loop-depth.at; depth = d; place = 0 })) end
-    (ending_here c.args.self.now c.loop-depth.at c.loop-depth.depth (path_of c.args.path.now) c.requires i.inside i.front (omega arith))
+    subst (λ d. IsLeaving c.args.self.now.paths.now (entries_of c.args.self.now) (path_of c.args.path.now) (record { at = c.loop-depth.at; depth = d; position = 0 })) end
+    (ending_here c.args.self.now c.loop-depth.at c.loop-depth.depth (path_of c.args.path.now) c.requires i.inside i.prefix (omega arith))

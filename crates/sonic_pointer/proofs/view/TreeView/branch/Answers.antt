@@ -9,13 +9,13 @@ pub returns-in-Some : goal.returns-in-Some
 returns-in-Some c =
     let view = c.self.inside in
     let kind = kind_of view.shape view.at c.self.invariant.shape c.self.invariant.inside true (node_of c.in-Some.node) c.in-Some.ensures.some (sym c.is_key.ensures ∙ c.if-is_key.true) in
-    subst (λ (v : View). IsBranch v.paths v.front Keys) c.self.view_is kind
+    subst (λ (v : View). IsBranch v.paths v.prefix Keys) c.self.view_is kind
 
 pub returns-in-Some-2 : goal.returns-in-Some-2
 returns-in-Some-2 c =
     let view = c.self.inside in
     let kind = kind_of view.shape view.at c.self.invariant.shape c.self.invariant.inside false (node_of c.in-Some.node) c.in-Some.ensures.some (sym c.is_key.ensures ∙ c.if-is_key.false) in
-    subst (λ (v : View). IsBranch v.paths v.front Indexes) c.self.view_is kind
+    subst (λ (v : View). IsBranch v.paths v.prefix Indexes) c.self.view_is kind
 
 pub returns-in-None : goal.returns-in-None
-returns-in-None c = subst (λ (v : View). IsBranch v.paths v.front Leaf) c.self.view_is c.in-None.ensures.none
+returns-in-None c = subst (λ (v : View). IsBranch v.paths v.prefix Leaf) c.self.view_is c.in-None.ensures.none

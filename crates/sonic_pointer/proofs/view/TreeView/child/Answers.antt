@@ -2,7 +2,7 @@ use Rattle.std.proofs.Common.{◌∷◌, ◌++◌, [], Some, length, slice_get, 
 use Rattle.std.proofs.lemmas.Option.{slice_get-get_or}
 use Rattle.sonic_text.specs.Paths.{index}
 use Rattle.sonic_pointer.specs.Nodes.{node_of}
-use Rattle.sonic_pointer.specs.Tries.{front_at}
+use Rattle.sonic_pointer.specs.Tries.{prefix_at}
 use Rattle.sonic_pointer.specs.Shapes.{shape_spots, shape_labels}
 use Rattle.sonic_pointer.specs.Views.{View}
 use Rattle.sonic_pointer.proofs.view.TreeView.child.Goals as goal
@@ -26,11 +26,11 @@ returns-clause-node c =
     ap (λ (v : View). slice_get v.children c.args.i) (sym c.self.view_is)
     ∙ (slice_get-get_or (shape_labels view.shape view.at) c.args.i (index 0) (omega arith) ∙ ap Some (kids.nodes c.args.i (index 0) (omega arith) ∙ sym c.label-node.ensures))
 
-pub returns-clause-front : goal.returns-clause-front
-returns-clause-front c =
+pub returns-clause-prefix : goal.returns-clause-prefix
+returns-clause-prefix c =
     let view = c.self.inside in
     let kids = c.children.ensures in
     let many = kids.count in
     let same = ap (λ (v : View). length v.children) c.self.view_is in
     (kids.steps c.args.i (omega arith)).is
-    ∙ (ap (λ n. front_at (shape_spots view.shape) view.at ++ n ∷ []) (sym c.label-node.ensures) ∙ ap (λ (v : View). v.front ++ node_of c.label-node.result ∷ []) c.self.view_is)
+    ∙ (ap (λ n. prefix_at (shape_spots view.shape) view.at ++ n ∷ []) (sym c.label-node.ensures) ∙ ap (λ (v : View). v.prefix ++ node_of c.label-node.result ∷ []) c.self.view_is)

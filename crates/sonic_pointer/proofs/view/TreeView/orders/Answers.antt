@@ -8,5 +8,5 @@ use Rattle.sonic_pointer.proofs.view.TreeView.orders.Goals as goal
 pub returns : goal.returns
 returns c =
     let view = c.self.inside in
-    subst (λ (v : View). IsOrders v.paths v.front c.orders.result.now) c.self.view_is
-    (orders_of view.shape view.at c.self.invariant.shape c.self.invariant.inside c.orders.result.now (c.orders.ensures ∙ ap (λ (e : Entry). e.orders) c.place-place.ensures))
+    subst (λ (v : View). IsOrders v.paths v.prefix c.orders.result.now) c.self.view_is
+    (orders_of view.shape view.at c.self.invariant.shape c.self.invariant.inside c.orders.result.now (c.orders.ensures ∙ ap (λ (e : Entry). e.orders) c.position-position.ensures))

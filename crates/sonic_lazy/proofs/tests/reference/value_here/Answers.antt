@@ -1,12 +1,12 @@
 use Rattle.std.proofs.Common.{◌≡◌}
-use Rattle.sonic_lazy.specs.Paths.Evaluates.{stands, cut_here}
-use Rattle.sonic_lazy.proofs.tests.reference.stand.Goals as goal
+use Rattle.sonic_lazy.specs.Paths.Evaluates.{found_here, cut_here}
+use Rattle.sonic_lazy.proofs.tests.reference.value_here.Goals as goal
 
 pub returns-in-Ok-clause-found : goal.returns-in-Ok-clause-found
 returns-in-Ok-clause-found c = λ i j e.
     let start : c.args.place ≡ i = cc e in
     let end : c.in-Ok.end ≡ j = cc e in
-    rw (← start, ← end) (stands c.in-Ok.ensures.ok)
+    rw (← start, ← end) (found_here c.in-Ok.ensures.ok)
 
 pub returns-in-Err-At-clause-cut : goal.returns-in-Err-At-clause-cut
 returns-in-Err-At-clause-cut c = λ s e.

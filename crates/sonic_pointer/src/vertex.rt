@@ -1,35 +1,35 @@
-// The places of a tree.
+// The vertices of a tree.
 ghost use Rattle.std.specs.Prelude.{◌≡◌, ◌+◌, ◌≤◌, ◌∷◌, ◌++◌, [], IfOk, OnOk, OnErr, length};
 ghost use Rattle.sonic_pointer.specs.Tries.{with_order, with_child};
 
 use std::alloc::{AllocError, Global};
 use std::marker::Model;
 
-// A place of a tree: its front is the first `depth` nodes of the path with the number `path`.
+// A vertex of a tree: its prefix is the first `depth` nodes of the path with the number `path`.
 #[derive(Debug, Drop)]
-pub(crate) struct Place {
+pub(crate) struct Vertex {
     path: usize,
     depth: usize,
     orders: Vec<usize>,
     children: Vec<usize>,
 }
 
-impl Model for Place {
+impl Model for Vertex {
     ghost use Rattle.sonic_pointer.specs.Tries.{Entry};
 
     ghost Value = { Entry };
 
-    ghost use Rattle.sonic_pointer.specs.Places.{entry_of};
+    ghost use Rattle.sonic_pointer.specs.Vertices.{entry_of};
 
     ghost view = { entry_of };
 }
 
-impl Place {
-    // A place without orders or children.
-    pub(crate) fn new(alloc: Global, path: usize, depth: usize) -> Place
+impl Vertex {
+    // A vertex without orders or children.
+    pub(crate) fn new(alloc: Global, path: usize, depth: usize) -> Vertex
         ensures { result ≡ record { path = path; depth = depth; orders = []; children = [] } }
     {
-        Place {
+        Vertex {
             path,
             depth,
             orders: Vec::new(alloc),
@@ -37,29 +37,29 @@ impl Place {
         }
     }
 
-    // A place with one child.
+    // A vertex with one child.
     pub(crate) fn with_child(
         alloc: Global,
         path: usize,
         depth: usize,
         child: usize,
-    ) -> Result<Place, AllocError>
+    ) -> Result<Vertex, AllocError>
         ensures { IfOk result (λ made.
             made ≡ record { path = path; depth = depth; orders = []; children = child ∷ [] }) }
     {
-        let mut place = Place::new(alloc, path, depth);
-        place.add_child(0, child)?;
-        Ok(place)
+        let mut vertex = Vertex::new(alloc, path, depth);
+        vertex.add_child(0, child)?;
+        Ok(vertex)
     }
 
-    // The place where the path ends.
-    pub(crate) fn with_order(alloc: Global, path: usize, depth: usize) -> Result<Place, AllocError>
+    // The vertex where the path ends.
+    pub(crate) fn with_order(alloc: Global, path: usize, depth: usize) -> Result<Vertex, AllocError>
         ensures { IfOk result (λ made.
             made ≡ record { path = path; depth = depth; orders = path ∷ []; children = [] }) }
     {
-        let mut place = Place::new(alloc, path, depth);
-        place.add_order(path)?;
-        Ok(place)
+        let mut vertex = Vertex::new(alloc, path, depth);
+        vertex.add_order(path)?;
+        Ok(vertex)
     }
 
     pub(crate) fn path(&self) -> usize
@@ -94,12 +94,12 @@ impl Place {
         Ok(())
     }
 
-    pub(crate) fn add_child(&mut self, place: usize, child: usize) -> Result<(), AllocError>
-        requires { place ≤ length self.old.children }
-        ensures ok { OnOk result (self.new ≡ with_child self.old place child) }
+    pub(crate) fn add_child(&mut self, vertex: usize, child: usize) -> Result<(), AllocError>
+        requires { vertex ≤ length self.old.children }
+        ensures ok { OnOk result (self.new ≡ with_child self.old vertex child) }
         ensures err { OnErr result (self.new ≡ self.old) }
     {
-        self.children.insert(place, child)?;
+        self.children.insert(vertex, child)?;
         Ok(())
     }
 }
