@@ -75,7 +75,7 @@ pub record IsPlainError (error : Error) (c : ErrorCode) : Type 0 where
   pub column : error_column error ≡ 0
   pub text : error_text error ≡ code_text c
 
--- the kind of the error of reading or writing that is after it
+-- the kind of the error of reading or writing that caused it
 abbrev pub io_kind_of : ErrorCode → Option ErrorKind
 io_kind_of (Io kind) = Some kind
 io_kind_of other = None

@@ -5,6 +5,7 @@ ghost use Rattle.sonic_error.specs.Texts.{dots, mask_text};
 ghost use Rattle.sonic_error.specs.declared.fragment.TheConstants.{FRAGMENT_ROOM};
 
 use crate::fragment::{FRAGMENT_ROOM, Lossy, end_of_fragment, fragment_of, start_of_fragment};
+use sonic_blocks::count_of;
 use std::fmt;
 
 /// A place in a text, with the bytes round it, so that it is printed without the text.
@@ -53,14 +54,7 @@ fn line_at(json: &[u8], offset: usize) -> usize
     requires { offset ≤ length json.now }
     ensures { result ≡ 1 + count_by is_line_feed (take offset json.now) }
 {
-    let before = &json[..offset];
-    let mut line = 1;
-    for byte in before {
-        if *byte == b'\n' {
-            line += 1;
-        }
-    }
-    line
+    1 + count_of(&json[..offset], b'\n')
 }
 
 // The start of the line of the byte at `offset`, looked for from there back.

@@ -1,8 +1,8 @@
 ghost use Rattle.std.specs.Prelude.{◌≡◌, ◌<◌, ◌≤◌, length};
 ghost use Rattle.sonic_text.specs.Places.{byte, after_space, digits_end, bad, IsDigit};
 
-use crate::space::is_whitespace;
 use crate::stop::Stop;
+use sonic_blocks::{digits_end, space_end};
 use sonic_error::ErrorCode;
 
 /// The byte at a place, and 0 after the end, where no rule of the grammar asks for a 0.
@@ -35,24 +35,28 @@ pub fn stop_at(text: &[u8], place: usize, code: ErrorCode) -> Stop
 /// The first place from `start` on that holds no white space (RFC 8259, section 2), or the end.
 ///
 /// `skip_space(b" \n1", 0)` is 2.
-#[inline]
+#[inline(always)]
 pub fn skip_space(text: &[u8], start: usize) -> usize
     requires { start ≤ length text.now }
     ensures place { result ≡ after_space text.now start }
     ensures later { start ≤ result }
     ensures within { result ≤ length text.now }
 {
-    let mut place = start;
-    while place < text.len() && is_whitespace(text[place]) {
-        place += 1;
+    // Most places hold none, and most runs of it are one blank.
+    let first = byte_at(text, start);
+    if first > b' ' {
+        return start;
     }
-    place
+    if first == b' ' && byte_at(text, start + 1) > b' ' {
+        return start + 1;
+    }
+    space_end(text, start)
 }
 
 /// The first place from `start` on that holds no digit, or the end.
 ///
 /// `skip_digits(b"120]", 0)` is 3.
-#[inline]
+#[inline(always)]
 pub fn skip_digits(text: &[u8], start: usize) -> usize
     requires { start ≤ length text.now }
     ensures place { result ≡ digits_end text.now start }
@@ -60,9 +64,5 @@ pub fn skip_digits(text: &[u8], start: usize) -> usize
     ensures some { IsDigit (byte text.now start) → start < result }
     ensures within { result ≤ length text.now }
 {
-    let mut place = start;
-    while place < text.len() && text[place].is_ascii_digit() {
-        place += 1;
-    }
-    place
+    digits_end(text, start)
 }

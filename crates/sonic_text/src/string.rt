@@ -1,11 +1,12 @@
 ghost use Rattle.std.specs.Prelude.{◌≡◌, ◌+◌, ◌<◌, ◌≤◌, ◌↔◌, ℕ, List, length, true, false, IsTrue, IfOk, IfErr, is_some, Some, None};
 ghost use Rattle.sonic_error.specs.declared.code.ErrorCode.TheVariants.{InvalidUnicodeCodePoint};
 ghost use Rattle.sonic_text.specs.Places.{byte, bad};
-ghost use Rattle.sonic_text.specs.Strings.{escaped, hex_digit, is_low_byte, IsHex4, IsLow, IsChar, IsEscapeFault, IsString, IsEscapedString, IsStringFault};
+ghost use Rattle.sonic_text.specs.Strings.{escaped, hex_digit, is_low_byte, IsHex4, IsLow, IsChar, IsEscapeFault, IsString, IsEscapedString, IsStringFault, IsUnescaped};
 
 use crate::hex::digit_of;
 use crate::scan::{byte_at, stop_at};
 use crate::stop::Stop;
+use sonic_blocks::plain_end;
 use sonic_error::ErrorCode;
 
 /// Where a string of a text ends (RFC 8259, section 7), and whether it has an escape.
@@ -141,6 +142,18 @@ fn escape_end(text: &[u8], place: usize, lossy: bool) -> Result<usize, Stop>
     }
 }
 
+// The first place from `place` on whose byte doesn't denote itself.
+#[inline(always)]
+fn skip_plain(text: &[u8], place: usize) -> usize
+    requires { place ≤ length text.now }
+    ensures later { place ≤ result }
+    ensures within { result ≤ length text.now }
+    ensures plain { (k : ℕ) → place ≤ k → k < result → IsUnescaped (byte text.now k) }
+    ensures stop { ¬ IsUnescaped (byte text.now result) }
+{
+    plain_end(text, place)
+}
+
 /// Where the string that begins at `start` ends (RFC 8259, section 7), or its first byte that
 /// doesn't fit.
 ///
@@ -159,20 +172,17 @@ pub fn string_end(text: &[u8], start: usize, lossy: bool) -> Result<StringEnd, S
     let mut place = start + 1;
     let mut escaped = false;
     'chars: loop {
+        place = skip_plain(text, place);
         let byte = byte_at(text, place);
         if byte == b'"' {
             let end = place + 1;
             return Ok(StringEnd { end, escaped });
         }
-        if byte < 0x20 {
+        if byte != b'\\' {
             let code = ErrorCode::ControlCharacterWhileParsingString;
             return Err(stop_at(text, place, code));
         }
-        if byte == b'\\' {
-            place = escape_end(text, place, lossy)?;
-            escaped = true;
-        } else {
-            place += 1;
-        }
+        place = escape_end(text, place, lossy)?;
+        escaped = true;
     }
 }

@@ -1,15 +1,14 @@
 // Strings with their escapes undone (RFC 8259, section 7), where a whole string is known to be.
-ghost use Rattle.std.specs.Prelude.{◌≡◌, ◌≢◌, ℕ, ◌+◌, ◌<◌, ◌≤◌, ◌++◌, ◌==◌, Bool, List, length, map, None, IfSome, IfErr, OnOk, OnErr, unwrap_or, encode_utf8};
-ghost use Rattle.std.specs.Simd.Lanes.{mask_l};
+ghost use Rattle.std.specs.Prelude.{◌≡◌, ◌≢◌, ℕ, ◌+◌, ◌<◌, ◌≤◌, ◌++◌, Bool, List, length, None, IfSome, IfErr, OnOk, OnErr, unwrap_or, encode_utf8};
 ghost use Rattle.sonic_error.specs.Errors.{IsPlainError};
 ghost use Rattle.sonic_text.specs.Places.{byte};
 ghost use Rattle.sonic_text.specs.Strings.{escaped, IsEscape, IsLow, IsLowEscape, IsChar, IsUnicodeChar, IsString};
 
 use crate::hex::hex4_at;
 use crate::utf8::codepoint_to_utf8;
+use sonic_blocks::first_backslash;
 use sonic_error::{Error, ErrorCode};
 use std::alloc::AllocError;
-use std::simd::prelude::*;
 
 /// What each letter after a backslash denotes (RFC 8259, section 7), and 0 for a byte that
 /// denotes nothing there: at `n` a line feed, at `"` itself, and at `u` and `x` 0.
@@ -102,28 +101,6 @@ pub(crate) fn escape_at(text: &[u8], place: usize) -> (u32, usize)
     (escaped_of(letter) as u32, place + 2)
 }
 
-/// Bit k of the answer says that byte k is a backslash.
-#[inline(always)]
-fn backslashes(v: u8x32) -> u64
-    ensures { result ≡ mask_l (map (λ x. x == 92) v) }
-{
-    v.simd_eq(u8x32::splat(b'\\')).to_bitmask()
-}
-
-/// As `plain_end`, for the few bytes that are no whole vector.
-fn plain_end_slowly(text: &[u8], place: usize, end: usize) -> usize
-    requires { (place < end) × (end ≤ length text.now) }
-    ensures within { (place ≤ result) × (result < end) }
-    ensures plain { (k : ℕ) → place ≤ k → k < result → byte text.now k ≢ 92 }
-    ensures stop { result + 1 ≢ end → byte text.now result ≡ 92 }
-{
-    let mut stop = place;
-    while stop + 1 < end && text[stop] != b'\\' {
-        stop += 1;
-    }
-    stop
-}
-
 /// The place of the first backslash from `place` on, or of the closing quote before `end`.
 pub(crate) fn plain_end(text: &[u8], place: usize, end: usize) -> usize
     requires { (place < end) × (end ≤ length text.now) }
@@ -131,15 +108,7 @@ pub(crate) fn plain_end(text: &[u8], place: usize, end: usize) -> usize
     ensures plain { (k : ℕ) → place ≤ k → k < result → byte text.now k ≢ 92 }
     ensures stop { result + 1 ≢ end → byte text.now result ≡ 92 }
 {
-    let mut stop = place;
-    while end - stop > 32 {
-        let found = backslashes(u8x32::from_slice(&text[stop..]));
-        if found != 0 {
-            return stop + found.trailing_zeros() as usize;
-        }
-        stop += 32;
-    }
-    plain_end_slowly(text, stop, end)
+    first_backslash(&text[..end - 1], place)
 }
 
 /// Appends the bytes that a string denotes; where memory is wanting, some of the first of them.

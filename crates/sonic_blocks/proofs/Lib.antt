@@ -1,0 +1,11 @@
+mod BoolLemmas
+mod BitLemmas
+mod CountLemmas
+mod SumLemmas
+mod ParityLemmas
+mod EscapeLemmas
+mod InsideLemmas
+mod LaneLemmas
+mod LowestLemmas
+mod StringBlockLemmas
+pub mod RunLemmas

@@ -1,0 +1,18 @@
+use Rattle.std.proofs.Common.{◌≡◌, Bool, true, false, cond, refl, ◌∙◌, ap}
+use mir.Val.{bool_byte}
+use Rattle.sonic_blocks.proofs.EscapeLemmas.{escaped_bits, escaped_carry}
+use Rattle.sonic_blocks.proofs.bits.get_escaped.Goals as goal
+
+one_or_zero : (b : Bool) → bool_byte b ≡ cond b 1 0
+one_or_zero true = refl
+one_or_zero false = refl
+
+pub returns-clause-bits : goal.returns-clause-bits
+returns-clause-bits c =
+    escaped_bits c.args.prev_escaped.now c.args.backslash c.requires c.ranges.backslash.fits c.overflowing_add-runs_from_even_bits.result.0 c.overflowing_add-runs_from_even_bits.ensures.value
+
+pub returns-clause-carry : goal.returns-clause-carry
+returns-clause-carry c =
+    ap bool_byte
+    (escaped_carry c.args.prev_escaped.now c.args.backslash c.requires c.ranges.backslash.fits c.overflowing_add-runs_from_even_bits.result.1 c.overflowing_add-runs_from_even_bits.ensures.overflow)
+    ∙ one_or_zero _

@@ -1,0 +1,4 @@
+pub mod Bits
+pub mod Firsts
+pub mod Runs
+pub mod StringBlocks

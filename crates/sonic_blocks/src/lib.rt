@@ -1,0 +1,23 @@
+//! Blocks of a text as words of bits, one bit for each byte: which bytes are escaped, which are
+//! inside a string, and where the first byte of a kind is.
+#![tactic(auto)]
+
+// Escapes and strings in a block of 64 bytes, and what carries over to the next block.
+mod bits;
+// How often a byte occurs.
+mod count;
+// White space in a block of 64 bytes, as bits.
+mod lanes;
+// Where a run of bytes of one kind ends, and where the first byte of another kind is.
+mod runs;
+// The backslashes, the quotes and the control bytes among 32 bytes.
+mod string_block;
+// Worked examples.
+#[cfg(test)]
+mod tests;
+
+pub use bits::{get_escaped, get_string_bits, prefix_xor};
+pub use count::count_of;
+pub use lanes::get_nonspace_bits;
+pub use runs::{digits_end, first_backslash, first_of, plain_end, space_end};
+pub use string_block::StringBlock;
