@@ -1,155 +1,150 @@
-"""Makes the documents that are missing, and times the program, `cat` and `jq` on them."""
+"""Measures the commands on the documents: measure.py PROGRAM FOLDER RUNS
+
+Each command reads the file of a document as its standard input, with nothing between: what counts is
+the processor time of that process alone, the user's and the system's. The commands take turns, so
+that a noisy machine hits all alike, and the best run of each counts. A first round, which doesn't
+count, brings the file into memory and compares the reports.
+
+`cat` shows what reading alone takes. jq reads the document without the path lines before it, and
+writes the values without their lengths.
+"""
+import filecmp
+import json
 import os
-import random
-import shutil
-import subprocess
+import resource
 import sys
-import time
+from dataclasses import dataclass
 
-SIZE = 200_000_000
-BEST_OF = 5
-WORDS = ["alder", "birch", "cedar", "elm", "hazel", "larch", "maple", "rowan"]
+import documents
+import peers
 
-
-def array(out, row):
-    """An array of rows, one a line."""
-    rng = random.Random(7)
-    out.write("[")
-    size = 0
-    while size < SIZE:
-        text = row(rng)
-        out.write(text if size == 0 else ",\n" + text)
-        size += len(text) + 2
-    out.write("]\n")
+OURS = "ours"
+# Bytes of memory that a command may take: jq would take all for many arrays, and ends with an error.
+MOST_MEMORY = 4 * 10**9
 
 
-def record(rng):
-    name = " ".join(rng.choice(WORDS) for _ in range(3))
-    tags = ", ".join(f'"{rng.choice(WORDS)}"' for _ in range(4))
-    points = ", ".join(f"[{rng.randrange(10**4)}, {rng.random():.6f}]" for _ in range(3))
-    place = f'{{"city": "{rng.choice(WORDS)}", "track": {{"points": [{points}], "closed": false}}}}'
-    return f'{{"id": {rng.randrange(10**8)}, "name": "{name}", "ok": true, "tags": [{tags}], "place": {place}, "note": null}}'
+@dataclass
+class Command:
+    name: str
+    words: list
+    # Where in the file it begins to read.
+    start: int = 0
+    # Whether it writes the reports that the program writes.
+    reports: bool = True
+    # Whether it takes so long that two runs have to do.
+    slow: bool = False
+    # What the runs came to.
+    seconds: float = float("inf")
+    peak: float = 0
+    status: int = 0
+    same: str = ""
+
+    def run(self, path, out):
+        """Runs once on a file."""
+        source = os.open(path, os.O_RDONLY)
+        os.lseek(source, self.start, os.SEEK_SET)
+        none = os.open(os.devnull, os.O_WRONLY)
+        streams = [(os.POSIX_SPAWN_DUP2, file, stream) for stream, file in enumerate((source, out, none))]
+        process = os.posix_spawnp(self.words[0], self.words, os.environ, file_actions=streams)
+        _, status, usage = os.wait4(process, 0)
+        os.close(source)
+        os.close(none)
+        self.status = os.waitstatus_to_exitcode(status)
+        return usage.ru_utime + usage.ru_stime, megabytes(usage)
+
+    def count(self, path):
+        """Runs once more, and keeps the least time and the highest peak."""
+        out = os.open(os.devnull, os.O_WRONLY)
+        seconds, peak = self.run(path, out)
+        os.close(out)
+        self.seconds = min(self.seconds, seconds)
+        self.peak = max(self.peak, peak)
+
+    def report(self, path, into):
+        """Runs once, and keeps what it writes."""
+        out = os.open(into, os.O_WRONLY | os.O_CREAT | os.O_TRUNC)
+        self.run(path, out)
+        os.close(out)
 
 
-def row_of_numbers(rng):
-    numbers = ",".join(str(rng.randrange(10**7)) for _ in range(40))
-    nested = f"[{rng.randrange(10**9)}, {-rng.randrange(10**4)}, [{rng.randrange(10)}]]"
-    return f"[{rng.randrange(10**6)}, {nested}, null, [{numbers}]]"
+def megabytes(usage):
+    """The peak of memory."""
+    return usage.ru_maxrss * 1024 / 10**6
 
 
-def long_string(rng):
-    return '"' + "".join(rng.choice("abcdefgh ijklmnop") for _ in range(100)) * 100 + '"'
+def head_of(path):
+    """The paths of a document's file, and where the document begins."""
+    paths = []
+    with open(path, "rb") as lines:
+        for line in iter(lines.readline, b"\n"):
+            paths.append(json.loads(line))
+        return paths, lines.tell()
 
 
-def string_with_escapes(rng):
-    return f'"key {rng.randrange(10**6)}\\n\\u00e9 \\"quoted\\" \\ud83d\\ude00"'
+def filter_of(paths):
+    """The paths as jq says them."""
+    return ",".join("." + "".join(f"[{json.dumps(step)}]" for step in path) for path in paths)
 
 
-def nested(out, opening, closing, depth):
-    """So many brackets, one inside the other."""
-    for _ in range(depth // 1000):
-        out.write(opening * 1000)
-    out.write("1")
-    for _ in range(depth // 1000):
-        out.write(closing * 1000)
+def commands_for(path, program, others):
+    paths, start = head_of(path)
+    yield Command("cat", ["cat"], reports=False)
+    yield Command(OURS, [program])
+    for name, command in others.items():
+        if name == "jq":
+            yield Command(name, [command, "-c", filter_of(paths)], start, reports=False, slow=True)
+        else:
+            yield Command(name, [command])
 
 
-# Each document, and how it is written.
-DOCUMENTS = {
-    # Objects with strings, numbers and arrays, four levels deep.
-    "records": lambda out: array(out, record),
-    # Rows of numbers, four levels deep.
-    "numbers": lambda out: array(out, row_of_numbers),
-    # Strings of 10,000 bytes.
-    "strings": lambda out: array(out, long_string),
-    # Strings of some 40 bytes with escapes in them.
-    "escapes": lambda out: array(out, string_with_escapes),
-    # As many arrays as fit, one inside the other.
-    "brackets": lambda out: nested(out, "[", "]", SIZE // 2),
-    # A million arrays and objects, one inside the other.
-    "million": lambda out: nested(out, '[{"":', "}]", 500_000),
-}
+def compare_reports(commands, path, folder):
+    ours = os.path.join(folder, "ours.out")
+    other = os.path.join(folder, "other.out")
+    for command in commands:
+        if command.name == OURS:
+            command.report(path, ours)
+        elif command.reports:
+            command.report(path, other)
+            command.same = "same" if filecmp.cmp(ours, other, shallow=False) else "differs"
+            os.remove(other)
+    os.remove(ours)
 
 
-def document(folder, name):
-    path = os.path.join(folder, name + ".json")
-    if not os.path.exists(path):
-        with open(path, "w") as out:
-            DOCUMENTS[name](out)
-    return path
+def ratio(ours, other):
+    """Of the processor times, where both came to an answer."""
+    return "-" if ours.status or other.status else f"{ours.seconds / other.seconds:.2f}"
 
 
-def head(folder, name, lines):
-    """A file of path lines and the empty line after them."""
-    path = os.path.join(folder, name + ".head")
-    with open(path, "w") as out:
-        out.write("".join(line + "\n" for line in lines) + "\n")
-    return path
+def peak_of(command):
+    """A process begins with the peak of the one that starts it, and less can't be seen."""
+    least = megabytes(resource.getrusage(resource.RUSAGE_SELF)) + 1
+    return f"{command.peak:.0f}" if command.peak > least else f"<{least:.0f}"
 
 
-def rows_of(path):
-    """The number of rows of an array."""
-    with open(path, "rb") as rows:
-        return sum(block.count(b"\n") for block in iter(lambda: rows.read(2**20), b""))
+def measure(name, folder, program, others, runs):
+    path = documents.path_of(folder, name)
+    commands = list(commands_for(path, program, others))
+    compare_reports(commands, path, folder)
+    for turn in range(runs):
+        for command in commands:
+            if turn < 2 or not command.slow:
+                command.count(path)
 
-
-def deep(row):
-    return f'[{row},"place","track","points",2,1]'
-
-
-def run(command, files):
-    """Seconds, and the peak of memory in MB, of a command that reads the files through a pipe."""
-    feed = subprocess.Popen(["cat", *files], stdout=subprocess.PIPE)
-    start = time.perf_counter()
-    process = subprocess.Popen(command, stdin=feed.stdout, stdout=subprocess.DEVNULL)
-    feed.stdout.close()
-    _, status, usage = os.wait4(process.pid, 0)
-    seconds = time.perf_counter() - start
-    feed.wait()
-    return seconds, usage.ru_maxrss / 1024, os.waitstatus_to_exitcode(status)
-
-
-def best(command, files, runs=BEST_OF):
-    """The shortest of some runs, the highest peak, and how the last one ended."""
-    all_runs = [run(command, files) for _ in range(runs)]
-    return min(r[0] for r in all_runs), max(r[1] for r in all_runs), all_runs[-1][2]
-
-
-def measure(program, folder, name, lines, text):
-    """Prints a row, and answers the seconds of the program."""
-    files = [head(folder, name, lines), document(folder, text)]
-    size = sum(os.path.getsize(path) for path in files) / 2**20
-    plain, _, _ = best(["cat"], files)
-    seconds, peak, status = best([program], files)
-    print(f"{name:10} {text:9} {size:5.0f} {plain:7.3f} {seconds:7.3f} {seconds / plain:6.1f} {peak:8.0f} {status:7}", flush=True)
-    return seconds
+    size = os.path.getsize(path) / 10**6
+    cat, ours = commands[:2]
+    for it in commands:
+        row = f"{name:9} {size:4.0f} {it.name:11} {it.seconds:7.3f} {it.seconds / cat.seconds:7.1f}"
+        row += f" {peak_of(it):>8} {it.status:7} {it.same:>8}"
+        print(row + (f" {ratio(ours, it):>10}" if it.name in others else ""), flush=True)
 
 
 def main():
-    program, folder = sys.argv[1:]
-    records = document(folder, "records")
-    rows = rows_of(records)
-    last = rows - 10
-    past = ["[99999999]"]
-    paths = [deep(rows * i // 1000) for i in range(999)] + [deep(last)]
-    four = [deep(last), f'[{last},"id"]', f'[{last},"tags",0]', f'[{last},"missing"]']
-
-    print(f"{'paths':10} {'document':9} {'MB':>5} {'cat s':>7} {'run s':>7} {'ratio':>6} {'peak MB':>8} {'status':>7}")
-    measure(program, folder, "start", [deep(5)], "records")
-    one = measure(program, folder, "one", [deep(last)], "records")
-    measure(program, folder, "four", four, "records")
-    thousand = measure(program, folder, "thousand", paths, "records")
-    for text in ("records", "numbers", "strings", "escapes"):
-        measure(program, folder, "past", past, text)
-    for text in ("brackets", "million"):
-        measure(program, folder, "all", ["[]"], text)
-
-    print(f"a thousand paths take {thousand / one:.2f} times the seconds of one")
-    if shutil.which("jq"):
-        seconds, _, _ = best(["jq", "-c", f".[{last}].place.track.points[2][1]"], [records], 2)
-        print(f"jq takes {seconds:.1f} s for the one path, {seconds / one:.0f} times as long")
-    else:
-        print("jq isn't here, and isn't measured")
+    program, folder, runs = sys.argv[1], sys.argv[2], int(sys.argv[3])
+    others = peers.build(folder)
+    resource.setrlimit(resource.RLIMIT_AS, (MOST_MEMORY, MOST_MEMORY))
+    print(f"{'document':9} {'MB':>4} {'command':11} {'cpu s':>7} {'to cat':>7} {'peak MB':>8} {'status':>7} {'report':>8} {'ours to it':>10}")
+    for name in documents.DOCUMENTS:
+        measure(name, folder, program, others, runs)
 
 
 main()

@@ -7,5 +7,6 @@ mod EscapeLemmas
 mod InsideLemmas
 mod LaneLemmas
 mod LowestLemmas
+mod NextBitLemmas
 mod StringBlockLemmas
 pub mod RunLemmas

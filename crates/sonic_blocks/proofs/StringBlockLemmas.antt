@@ -1,17 +1,19 @@
 -- The first places of kinds of bytes, by the words of a `StringBlock`.
-use Rattle.std.proofs.Common.{◌≡◌, ◌≢◌, inl, inr, ◌↔◌, ℕ, zero, suc, ◌+◌, ◌-◌, ◌%◌, ◌^◌, ◌<◌, ◌==◌, ◌&&◌, Bool, true, false, not, eqb, List, [], ◌∷◌, map, length, get_or, refl, sym, ap, ap₂, ◌∙◌, arith, subst, w32, IsTrue}
+use Rattle.std.proofs.Common.{◌≡◌, ◌≢◌, inl, inr, ◌↔◌, ℕ, zero, suc, ◌+◌, ◌-◌, ◌%◌, ◌^◌, ◌<◌, ◌≤◌, ◌==◌, ◌&&◌, ◌||◌, nat_lt, Bool, true, false, not, eqb, List, [], ◌∷◌, map, length, get_or, refl, sym, ap, ap₂, ◌∙◌, arith, subst, w32, IsTrue}
 use Rattle.std.proofs.lemmas.Bool.{cases_lt, false≢true}
 use Rattle.std.proofs.lemmas.Bool.Decides.{nat_tests}
-use Rattle.std.proofs.lemmas.List.{length-map}
+use Rattle.std.proofs.lemmas.List.{length-map, get_or_past}
 use Rattle.std.proofs.lemmas.Simd.{mask_l-lt, leading_from_mask_l, trailing_mask_l}
 use Rattle.std.proofs.lemmas.Nat.Bits.{bit_at-zero, bit_at-lt, same_from_bits}
 use Rattle.std.specs.Int.{bit_at, trailing_zeros}
-use lib.Bits.{bit_and, and_le_r}
+use lib.Bits.{bit_and, bit_or, and_le_r}
 use lib.Count.{trailing_of_zero, trailing_le}
 use lib.Lanes.{mask_l}
 use Rattle.sonic_blocks.specs.Bits.{is_set}
 use Rattle.sonic_blocks.specs.Firsts.{first_place}
-use Rattle.sonic_blocks.proofs.BitLemmas.{zero_or_one, set_and, set_zero, set_mask}
+use Rattle.sonic_blocks.specs.Runs.{is_plain}
+use Rattle.sonic_blocks.proofs.BitLemmas.{zero_or_one, set_and, set_or, set_zero, set_mask}
+use Rattle.sonic_blocks.proofs.LaneLemmas.{set_tested}
 use Rattle.sonic_blocks.proofs.LowestLemmas.{lowest_within, lowest_set, lowest_first, wrapped_below, wrapped_above}
 
 pub mask_small : (test : ℕ → Bool) (xs : List ℕ) → length xs ≡ 32 → mask_l (map test xs) < 2 ^ 32
@@ -37,6 +39,34 @@ masks_apart p q xs never =
 
     clear : (n k : ℕ) → (bit_at n k == 1) ≡ false → bit_at n k ≡ 0
     clear n k = zero_or_one (λ b. (b == 1) ≡ false → b ≡ 0) (λ e. refl) (λ e. absurd (false≢true (sym e))) (bit_at n k) (bit_at-lt n k)
+
+-- the word of all three kinds
+abbrev pub all_special : List ℕ → ℕ
+all_special xs = bit_or (bit_or (mask_l (map (λ x. x == 92) xs)) (mask_l (map (λ x. x == 34) xs))) (mask_l (map (λ x. nat_lt x 32) xs))
+
+set_special : (xs : List ℕ) (k : ℕ) → is_set (all_special xs) k ≡ ((is_set (mask_l (map (λ x. x == 92) xs)) k || is_set (mask_l (map (λ x. x == 34) xs)) k) || is_set (mask_l (map (λ x. nat_lt x 32) xs)) k)
+set_special xs k =
+    set_or (bit_or (mask_l (map (λ x. x == 92) xs)) (mask_l (map (λ x. x == 34) xs))) _ k
+    ∙ ap (λ b. b || is_set (mask_l (map (λ x. nat_lt x 32) xs)) k) (set_or (mask_l (map (λ x. x == 92) xs)) (mask_l (map (λ x. x == 34) xs)) k)
+
+-- has the bits of those that aren't plain
+pub special_set : (xs : List ℕ) (k : ℕ) → k < length xs → is_set (all_special xs) k ≡ not (is_plain (get_or xs k 0))
+special_set xs k within =
+    set_special xs k ∙ ap₂ (λ a b. a || b) (ap₂ (λ a b. a || b) (set_tested (λ x. x == 92) xs k within) (set_tested (λ x. x == 34) xs k within)) (set_tested (λ x. nat_lt x 32) xs k within)
+    ∙ is_special (get_or xs k 0)
+  where
+    is_special : (b : ℕ) → ((b == 92 || b == 34) || nat_lt b 32) ≡ not (is_plain b)
+    is_special b = grind (arith, nat_tests)
+
+-- and no other
+pub special_few : (xs : List ℕ) → length xs ≡ 32 → (k : ℕ) → is_set (all_special xs) k ≡ true → k < 32
+special_few xs long k set = elim (cases_lt k 32) [
+  | inl within ↦ within
+  | inr past ↦ absurd (false≢true (sym (set_special xs k ∙ ap₂ (λ a b. a || b) (ap₂ (λ a b. a || b) (none (λ x. x == 92) past) (none (λ x. x == 34) past)) (none (λ x. nat_lt x 32) past)) ∙ set))
+]
+  where
+    none : (test : ℕ → Bool) → 32 ≤ k → is_set (mask_l (map test xs)) k ≡ false
+    none test past = set_mask (map test xs) k ∙ get_or_past (map test xs) k false (omega (arith, length-map xs test))
 
 module _ (b a : ℕ) (small_b : b < 2 ^ 32) (small_a : a < 2 ^ 32) (apart : bit_and b a ≡ 0) where
   abbrev lower : ℕ

@@ -1,10 +1,17 @@
 -- Bytes of a text as bits: which are escaped, and which are inside a string.
-use Rattle.std.specs.Prelude.{ℕ, zero, suc, ◌%◌, ◌==◌, ◌&&◌, ◌||◌, Bool, not, if◌then◌else◌}
+use Rattle.std.specs.Prelude.{◌≡◌, ℕ, zero, suc, ◌%◌, ◌<◌, ◌≤◌, ◌==◌, ◌&&◌, ◌||◌, Bool, true, false, not, if◌then◌else◌}
 use Rattle.std.specs.Int.{bit_at}
 
 -- bit k of n is set
 unfoldable pub is_set : ℕ → ℕ → Bool
 is_set n k = bit_at n k == 1
+
+-- from `from` on, k is the lowest bit of n that is set
+pub record IsNextBit (n from k : ℕ) : Type 0 where
+  pub later : from ≤ k
+  pub within : k < 64
+  pub here : is_set n k ≡ true
+  pub before : (j : ℕ) → from ≤ j → j < k → is_set n j ≡ false
 
 -- the number is odd
 abbrev pub is_odd : ℕ → Bool
@@ -32,6 +39,6 @@ is_quote backslash quote c k = quote k && not (is_escaped backslash c k)
 abbrev pub is_inside : (ℕ → Bool) → (ℕ → Bool) → ℕ → ℕ → ℕ → Bool
 is_inside backslash quote c s k = is_odd (count_below (is_quote backslash quote c) s (suc k))
 
--- white space: a blank, a tab, a line feed or a carriage return
+-- white space: a blank, a tab, a line feed or a carriage return (RFC 8259, section 2)
 abbrev pub is_space : ℕ → Bool
 is_space b = b == 0x20 || b == 0x09 || b == 0x0A || b == 0x0D

@@ -21,8 +21,9 @@ pub record IsFirst (test : ℕ → Bool) (t : List ℕ) (p i : ℕ) : Type 0 whe
 abbrev pub first_place : (ℕ → Bool) → List ℕ → ℕ
 first_place test bytes = prefix_len (λ b. not (test b)) bytes
 
--- the first places of a backslash, a quote and a control byte
+-- the first places of a backslash, a quote and a control byte, and a word with a bit for each of these bytes
 pub record FirstPlaces : Type 0 where
   pub backslash : ℕ
   pub quote : ℕ
   pub control : ℕ
+  pub special : ℕ

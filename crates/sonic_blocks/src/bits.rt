@@ -1,6 +1,6 @@
 // Escapes and strings in a block of 64 bytes, and what carries over to the next block.
-ghost use Rattle.std.specs.Prelude.{◌≡◌, ℕ, ◌+◌, ◌<◌, ◌⊎◌, ◌%◌, if◌then◌else◌};
-ghost use Rattle.sonic_blocks.specs.Bits.{is_set, is_odd, count_below, is_escaped, is_inside};
+ghost use Rattle.std.specs.Prelude.{◌≡◌, ℕ, ◌+◌, ◌<◌, ◌≤◌, ◌⊎◌, ◌%◌, if◌then◌else◌, false, MatchOption};
+ghost use Rattle.sonic_blocks.specs.Bits.{is_set, is_odd, count_below, is_escaped, is_inside, IsNextBit};
 
 // The bits with an even number.
 const EVEN_BITS: u64 = 0x5555_5555_5555_5555;
@@ -73,4 +73,20 @@ pub fn get_string_bits(
     let inside = prefix_xor(quote & !escaped) ^ *prev_instring;
     *prev_instring = 0u64.wrapping_sub(inside >> 63);
     inside
+}
+
+/// The lowest bit from `from` on that is set, or `None` where there is none.
+///
+/// Of 34, the bits 1 and 5, the next one from 2 on is 5.
+#[inline(always)]
+pub fn next_bit(bits: u64, from: usize) -> Option<usize>
+    requires { from < 64 }
+    ensures { MatchOption result ((k : ℕ) → from ≤ k → k < 64 → is_set bits k ≡ false) (IsNextBit bits from) }
+{
+    let left = bits & (u64::MAX << from);
+    if left == 0 {
+        None
+    } else {
+        Some(left.trailing_zeros() as usize)
+    }
 }

@@ -16,7 +16,7 @@ mod string_block;
 #[cfg(test)]
 mod tests;
 
-pub use bits::{get_escaped, get_string_bits, prefix_xor};
+pub use bits::{get_escaped, get_string_bits, next_bit, prefix_xor};
 pub use count::count_of;
 pub use lanes::get_nonspace_bits;
 pub use runs::{digits_end, first_backslash, first_of, plain_end, space_end};

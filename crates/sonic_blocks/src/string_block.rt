@@ -1,9 +1,11 @@
 // The backslashes, the quotes and the control bytes among 32 bytes.
-ghost use Rattle.std.specs.Prelude.{◌≡◌, ◌<◌, ◌==◌, ◌↔◌, nat_lt, map, IsTrue, bit_and};
+ghost use Rattle.std.specs.Prelude.{◌≡◌, ◌<◌, ◌==◌, ◌↔◌, ℕ, true, not, nat_lt, map, slice_index, IsTrue, bit_and};
 ghost use Rattle.std.specs.Int.{trailing_zeros};
 ghost use mir.Syntax.{w32};
 ghost use lib.Lanes.{mask_l};
+ghost use Rattle.sonic_blocks.specs.Bits.{is_set};
 ghost use Rattle.sonic_blocks.specs.Firsts.{first_place};
+ghost use Rattle.sonic_blocks.specs.Runs.{is_plain};
 
 use std::marker::Model;
 use std::simd::prelude::*;
@@ -39,10 +41,14 @@ impl Model for StringBlock {
 
 impl StringBlock {
     /// The bits of these bytes.
+    #[inline(always)]
     pub fn new(v: &[u8; 32]) -> StringBlock
         ensures backslash { result.backslash ≡ first_place (λ b. b == 92) v.now }
         ensures quote { result.quote ≡ first_place (λ b. b == 34) v.now }
         ensures control { result.control ≡ first_place (λ b. nat_lt b 32) v.now }
+        ensures special { (k : ℕ) → k < 32
+            → is_set result.special k ≡ not (is_plain (slice_index v.now k)) }
+        ensures few { (k : ℕ) → is_set result.special k ≡ true → k < 32 }
     {
         let lanes = u8x32::from_array(*v);
         StringBlock {
@@ -50,6 +56,17 @@ impl StringBlock {
             quote_bits: equal_to(lanes, b'"'),
             unescaped_bits: controls(lanes),
         }
+    }
+
+    /// The special bytes, one bit for each: those of the three kinds, which a string doesn't have as they
+    /// are.
+    ///
+    /// Of the block above it is the bit 15 alone.
+    #[inline(always)]
+    pub fn special_bits(&self) -> u64
+        ensures { result ≡ self.now.special }
+    {
+        (self.bs_bits | self.quote_bits | self.unescaped_bits) as u64
     }
 
     /// Whether a control byte comes before every quote, so that it is inside the string.
@@ -98,6 +115,7 @@ impl StringBlock {
 }
 
 // The lanes that hold the byte.
+#[inline(always)]
 fn equal_to(lanes: u8x32, byte: u8) -> u32
     ensures { result ≡ mask_l (map (λ x. x == byte) lanes) }
 {
@@ -105,6 +123,7 @@ fn equal_to(lanes: u8x32, byte: u8) -> u32
 }
 
 // The lanes that hold a byte below 0x20.
+#[inline(always)]
 fn controls(lanes: u8x32) -> u32
     ensures { result ≡ mask_l (map (λ x. nat_lt x 32) lanes) }
 {

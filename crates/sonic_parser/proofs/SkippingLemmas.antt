@@ -1,33 +1,53 @@
 -- The steps of the loop that skips a container: what is known before a step and what the step found give what is known after it.
 use Rattle.std.proofs.Common.{◌≡◌, ◌≢◌, ◌∙◌, sym, ℕ, ◌+◌, ◌-◌, ◌<◌, ◌≤◌, Bool, List, [], ◌∷◌, ◌++◌, length, take, get_or, arith, refl}
 use Rattle.std.proofs.Math.Seq.{get_or-append_seam, take-append_seam}
-use Rattle.std.proofs.lemmas.List.{length-append}
+use Rattle.std.proofs.lemmas.List.{length-append, length-take, get_or-take, get_or_default, take-take, take_all}
 use Rattle.std.specs.Prelude.{Option}
 use Rattle.sonic_text.specs.declared.kind.Kind.{Kind}
-use Rattle.sonic_text.specs.declared.kind.Kind.TheVariants.{Object}
+use Rattle.sonic_text.specs.declared.kind.Kind.TheVariants.{Array, Object}
 use Rattle.sonic_text.specs.declared.stop.Stop.{Stop}
 use Rattle.sonic_text.specs.Values.{ItemHead, IsValue, ItemsFit, next_item, filled}
 use Rattle.sonic_text.specs.Faults.{IsFault, in_key, in_value, after_item}
 use Rattle.sonic_parser.specs.declared.begin.Begun.TheVariants.{Inside}
 use Rattle.sonic_parser.specs.declared.begin.Skipped.{Skipped}
 use Rattle.sonic_parser.specs.declared.container.Next.TheVariants.{Item, End}
+use Rattle.sonic_parser.specs.declared.skip.Reached.TheVariants.{Expected, Closed}
 use Rattle.sonic_parser.specs.Containers.{IsNext, IsSeparatorFault}
-use Rattle.sonic_parser.specs.Skipping.{IsComplete, IsBegun, IsItem, IsItemFault, IsOpen, here, inside, IsItemExpected, IsItemEnded, IsLeft}
+use Rattle.sonic_parser.specs.Skipping.{IsComplete, IsBegun, IsItem, IsItemFault, IsOpen, here, inside, IsItemExpected, IsItemEnded, IsTop, IsReached, IsValueEnd}
 
 -- a container whose first item is expected is open alone
-pub first_item_expected : {m : Bool} {t : List ℕ} {kind : Kind} {i h : ℕ} → h ≤ length t → ItemsFit m t kind i 0 h → IsLeft m t i (kind ∷ []) (Item h)
+pub first_item_expected : {m : Bool} {t : List ℕ} {kind : Kind} {i h : ℕ} → h ≤ length t → ItemsFit m t kind i 0 h → IsReached m t i (kind ∷ []) (Expected h)
 first_item_expected {kind = kind} {i} l is = (l, record { kind = kind; p = i; n = 0; outer = []; around = here refl refl; fit = is; kinds_are = refl })
 
--- the last of the kinds
-abbrev pub IsTop : List Kind → Kind → Type 0
-IsTop kinds kind = get_or kinds (length kinds - 1) kind ≡ kind
-
--- is the one that was added
+-- the last of the kinds is the one that was added
 top : (kinds outer : List Kind) (k kind : Kind) → kinds ≡ outer ++ k ∷ [] → IsTop kinds kind → k ≡ kind
 top kinds outer k kind e h =
     let n : length (outer ++ k ∷ []) - 1 ≡ length outer = omega (arith, length-append outer (k ∷ [])) in
     let last : get_or kinds (length kinds - 1) kind ≡ k = rw (e, n) (get_or-append_seam outer k [] kind) in
     sym last ∙ h
+
+-- one kind alone is the last
+pub top_is : (kinds : List Kind) (k kind : Kind) → 0 < length kinds → IsTop kinds k → IsTop kinds kind → k ≡ kind
+top_is kinds k kind some g h = sym g ∙ get_or_default kinds (length kinds - 1) k kind (omega arith) ∙ h
+
+-- the last of the first n kinds
+abbrev pub last_of : List Kind → ℕ → Kind
+last_of kinds n = get_or kinds (n - 1) Array
+
+pub top_of_first : (kinds : List Kind) (n : ℕ) → 0 < n → n ≤ length kinds → IsTop (take n kinds) (last_of kinds n)
+top_of_first kinds n some room =
+    let long : length (take n kinds) ≡ n = omega (arith, length-take n kinds, room) in
+    rw long (get_or-take n kinds (n - 1) (last_of kinds n) (omega arith) ∙ get_or_default kinds (n - 1) (last_of kinds n) Array (omega arith))
+
+-- and all before it
+pub first_of_first : (kinds : List Kind) (n : ℕ) → 0 < n → n ≤ length kinds → take (n - 1) kinds ≡ take (length (take n kinds) - 1) (take n kinds)
+first_of_first kinds n some room =
+    let long : length (take n kinds) ≡ n = omega (arith, length-take n kinds, room) in
+    rw long (sym (take-take (n - 1) n kinds (omega arith)))
+
+-- with more room after them the kinds are the same
+pub kinds_first : (kinds more : List Kind) (n : ℕ) → length kinds ≤ n → take (length kinds) (take n kinds ++ more) ≡ kinds
+kinds_first kinds more n room = rw (take_all n kinds room) (take-append_seam kinds more)
 
 -- without it the others are left
 below : (kinds outer : List Kind) (k : Kind) → kinds ≡ outer ++ k ∷ [] → take (length kinds - 1) kinds ≡ outer
@@ -52,6 +72,13 @@ head_top : {m : Bool} {t : List ℕ} {i h v : ℕ} {kinds : List Kind} {kind : K
     → (label : Option (List ℕ)) × ItemHead m t d.kind h v label
 head_top {kinds = kinds} {kind} d last y = (y.label, rw (top kinds d.outer d.kind kind d.kinds_are last) y.head)
 
+-- what is at the place of the item's value is its value
+pub item_ended : {m : Bool} {t : List ℕ} {i h v e : ℕ} {kinds : List Kind} {kind : Kind} → IsItemExpected m t i kinds h → IsTop kinds kind → IsItem m t kind h v
+    → IsValueEnd m t v e → IsItemEnded m t i kinds e
+item_ended {h = h} {v} d last y x =
+    let head = head_top d last y in
+    record { h = h; v = v; label = head.0; item = d; head = head.1; value = x.2 }
+
 -- the value of an item is read
 pub item_complete : {m : Bool} {t : List ℕ} {i h v : ℕ} {kinds : List Kind} {kind : Kind} {x : Skipped} → IsItemExpected m t i kinds h → IsTop kinds kind
     → IsItem m t kind h v → IsComplete m t v x → IsItemEnded m t i kinds x.end
@@ -61,7 +88,7 @@ item_complete {h = h} {v} d last y x =
 
 -- or it is one more open container
 pub item_inside : {m : Bool} {t : List ℕ} {i h v g : ℕ} {kinds : List Kind} {kind inner : Kind} → IsItemExpected m t i kinds h → IsTop kinds kind
-    → IsItem m t kind h v → IsBegun m t v (Inside inner g) → IsLeft m t i (kinds ++ inner ∷ []) (Item g)
+    → IsItem m t kind h v → IsBegun m t v (Inside inner g) → IsReached m t i (kinds ++ inner ∷ []) (Expected g)
 item_inside {v = v} {kinds = kinds} {inner = inner} d last y b = (
   b.1,
   record { kind = inner; p = v; n = 0; outer = kinds; around = inside d.around d.fit (head_top d last y).1 d.kinds_are; fit = b.2; kinds_are = refl },
@@ -69,7 +96,7 @@ item_inside {v = v} {kinds = kinds} {inner = inner} d last y b = (
 
 -- after a comma the next item is expected
 pub next_expected : {m : Bool} {t : List ℕ} {i e h : ℕ} {kinds : List Kind} (kind : Kind) → IsItemEnded m t i kinds e → IsNext t kind e (Item h)
-    → IsLeft m t i kinds (Item h)
+    → IsReached m t i kinds (Expected h)
 next_expected kind x b =
     let d = x.item in
     (b.1, record { kind = d.kind; p = d.p; n = d.n + 1; outer = d.outer; around = d.around; fit = next_item d.fit x.head x.value b.2.0 b.2.1 refl; kinds_are = d.kinds_are })
@@ -90,7 +117,7 @@ last_ended {kinds = kinds} {kind = kind} x last b left =
     record { p = d.p; around = rw (left, below kinds d.outer d.kind d.kinds_are) d.around; value = filled (fit_top d last) head x.value b.2.0 b.2.1; within = b.1 }
 
 -- with nothing open the whole value ended
-pub closed_all : {m : Bool} {t : List ℕ} {i j : ℕ} {kinds : List Kind} → IsClosed m t i kinds j → length kinds ≡ 0 → IsLeft m t i kinds (End j)
+pub closed_all : {m : Bool} {t : List ℕ} {i j : ℕ} {kinds : List Kind} → IsClosed m t i kinds j → length kinds ≡ 0 → IsReached m t i kinds (Closed j)
 closed_all {kinds = kinds} c z = elim c.around [
   | here e none ↦ (c.within, rw (← e) c.value)
   | inside {kind} {outer = outer} o is y k ↦ absurd (omega (arith, one_more kinds outer kind k))

@@ -1,16 +1,18 @@
 -- What the loop knows that goes through a value from left to right: invariants, on which no public clause rests.
-use Rattle.std.specs.Prelude.{◌≡◌, ◌↔◌, ℕ, ◌<◌, ◌≤◌, Bool, List, [], ◌∷◌, ◌++◌, Option, length}
+use Rattle.std.specs.Prelude.{◌≡◌, ◌↔◌, ℕ, ◌-◌, ◌<◌, ◌≤◌, Bool, List, [], ◌∷◌, ◌++◌, Option, length, get_or}
 use Rattle.sonic_text.specs.declared.kind.Kind.{Kind}
 use Rattle.sonic_text.specs.declared.kind.Kind.TheVariants.{Object}
 use Rattle.sonic_text.specs.declared.stop.Stop.{Stop}
 use Rattle.sonic_text.specs.Strings.{IsEscapedString}
-use Rattle.sonic_text.specs.Values.{ItemHead, IsValue, ItemsFit}
-use Rattle.sonic_text.specs.Faults.{IsKeyFault}
+use Rattle.sonic_text.specs.Values.{closing, ItemHead, IsValue, ItemsFit}
+use Rattle.sonic_text.specs.Faults.{IsKeyFault, NothingFits}
 use Rattle.sonic_parser.specs.declared.begin.Begun.{Begun}
 use Rattle.sonic_parser.specs.declared.begin.Begun.TheVariants.{Complete, Inside}
 use Rattle.sonic_parser.specs.declared.begin.Skipped.{Skipped}
-use Rattle.sonic_parser.specs.declared.container.Next.{Next}
-use Rattle.sonic_parser.specs.declared.container.Next.TheVariants.{Item, End}
+use Rattle.sonic_parser.specs.declared.quick.Ahead.{Ahead}
+use Rattle.sonic_parser.specs.declared.quick.Ahead.TheVariants.{Value, Inside as Within, Other}
+use Rattle.sonic_parser.specs.declared.skip.Reached.{Reached}
+use Rattle.sonic_parser.specs.declared.skip.Reached.TheVariants.{Expected, Ended, Closed}
 use Rattle.sonic_parser.specs.declared.status.ParseStatus.TheVariants.{HasEscaped}
 
 -- the value at i was read, and this is its end and its status
@@ -61,12 +63,35 @@ pub record IsItemEnded (m : Bool) (t : List ℕ) (i : ℕ) (kinds : List Kind) (
   pub head : ItemHead m t item.kind h v label
   pub value : IsValue m t v e
 
--- after the end of a value inside the value at i, with these containers still open, an item is expected, or the value at i ended
-abbrev pub IsLeft : Bool → List ℕ → ℕ → List Kind → Next → Type 0
-IsLeft m t i kinds (Item h) = (h ≤ length t) × IsItemExpected m t i kinds h
-IsLeft m t i kinds (End j) = (j ≤ length t) × IsValue m t i j
+-- the last of the kinds is this one
+abbrev pub IsTop : List Kind → Kind → Type 0
+IsTop kinds kind = get_or kinds (length kinds - 1) kind ≡ kind
 
--- the place from which it goes on
-abbrev pub place_of : Next → ℕ
-place_of (Item h) = h
-place_of (End j) = j
+-- the items of the containers inside the value at i fit so far, with these still open: up to an item that is expected, to the end of one that nothing
+-- follows, or to the end of the value at i
+abbrev pub IsReached : Bool → List ℕ → ℕ → List Kind → Reached → Type 0
+IsReached m t i kinds (Expected h) = (h ≤ length t) × IsItemExpected m t i kinds h
+IsReached m t i kinds (Ended e) = IsItemEnded m t i kinds e × ((kind : Kind) → IsTop kinds kind → NothingFits t e (closing kind))
+IsReached m t i kinds (Closed j) = (j ≤ length t) × IsValue m t i j
+
+-- unless the outermost container ended, one is open
+abbrev pub IsOngoing : ℕ → Reached → Type 0
+IsOngoing depth (Expected h) = 0 < depth
+IsOngoing depth (Ended e) = 0 < depth
+IsOngoing depth (Closed j) = Unit {0}
+
+-- the place up to which they fit
+abbrev pub place_of : Reached → ℕ
+place_of (Expected h) = h
+place_of (Ended e) = e
+place_of (Closed j) = j
+
+-- the value at i ends at e
+abbrev pub IsValueEnd : Bool → List ℕ → ℕ → ℕ → Type 0
+IsValueEnd m t i e = (i < e) × (e ≤ length t) × IsValue m t i e
+
+-- what is at the place i of a value: a value, or a container whose first item is expected, or nothing is known
+abbrev pub IsAhead : Bool → List ℕ → ℕ → Ahead → Type 0
+IsAhead m t i (Value e) = IsValueEnd m t i e
+IsAhead m t i (Within kind h) = (i < h) × (h ≤ length t) × ItemsFit m t kind i 0 h
+IsAhead m t i Other = Unit {0}

@@ -1,6 +1,6 @@
 // The syntax of containers: what comes before the first item, before a member's value, and after
 // an item.
-ghost use Rattle.std.specs.Prelude.{◌≡◌, ◌<◌, ◌≤◌, ◌↔◌, ℕ, List, length, IfOk, IfErr, IsTrue};
+ghost use Rattle.std.specs.Prelude.{◌≡◌, ◌<◌, ◌≤◌, ◌↔◌, ℕ, List, length, IfOk, IfErr, IfSome, IsTrue};
 ghost use Rattle.sonic_text.specs.Places.{byte};
 ghost use Rattle.sonic_text.specs.Strings.{IsString, IsEscapedString};
 ghost use Rattle.sonic_text.specs.Values.{opening, IsKey};
@@ -8,7 +8,7 @@ ghost use Rattle.sonic_text.specs.Faults.{IsKeyFault};
 ghost use Rattle.sonic_parser.specs.Containers.{IsFirst, IsNext, IsSeparatorFault};
 
 use sonic_error::ErrorCode;
-use sonic_text::{Kind, Stop, StringEnd, byte_at, skip_space, stop_at, string_end};
+use sonic_text::{Kind, Stop, StringEnd, byte_at, skip_space, skip_string, stop_at, string_end};
 
 // How a container goes on.
 #[derive(Clone, Copy)]
@@ -20,7 +20,7 @@ pub(crate) enum Next {
 }
 
 // How the container goes on whose bracket is at a place.
-#[inline]
+#[inline(always)]
 pub(crate) fn first_item(text: &[u8], place: usize, kind: Kind) -> Next
     requires within { place ≤ length text.now }
     requires bracket { byte text.now place ≡ opening kind }
@@ -35,7 +35,7 @@ pub(crate) fn first_item(text: &[u8], place: usize, kind: Kind) -> Next
 }
 
 // How a container goes on after the item whose value ended at a place.
-#[inline]
+#[inline(always)]
 pub(crate) fn next_item(text: &[u8], end: usize, kind: Kind) -> Result<Next, Stop>
     requires { end ≤ length text.now }
     ensures ok { IfOk result (λ next. IsNext text.now kind end next) }
@@ -81,4 +81,23 @@ pub(crate) fn key_end(text: &[u8], place: usize, lossy: bool) -> Result<KeyEnd, 
     }
     let value = skip_space(text, colon + 1);
     Ok(KeyEnd { string, value })
+}
+
+// The same without the reason: the place where the value is expected of the member whose key is
+// expected at a place, or `None` where there is no key with a colon.
+#[inline(always)]
+pub(crate) fn skip_key(text: &[u8], place: usize, lossy: bool) -> Option<usize>
+    requires { place ≤ length text.now }
+    ensures { IfSome result (λ value. (place < value) × (value ≤ length text.now)
+        × (b : List ℕ) × IsKey lossy text.now place value b) }
+{
+    if byte_at(text, place) != b'"' {
+        return None;
+    }
+    let end = skip_string(text, place, lossy)?;
+    let colon = skip_space(text, end);
+    match byte_at(text, colon) {
+        b':' => Some(skip_space(text, colon + 1)),
+        _ => None,
+    }
 }

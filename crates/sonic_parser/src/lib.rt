@@ -9,6 +9,8 @@ mod container;
 mod fault;
 // The calls, over a cursor.
 mod parser;
+// The loop over items that fit.
+mod quick;
 // The loop over open containers.
 mod skip;
 // What a skipped value needs.

@@ -1,14 +1,15 @@
 // The loop that skips a container, however deep it is.
-ghost use Rattle.std.specs.Prelude.{◌<◌, ◌≤◌, ℕ, Bool, length, vec_len, IfOk, IfErr};
+ghost use Rattle.std.specs.Prelude.{◌≡◌, ◌<◌, ◌≤◌, ℕ, Bool, length, take, vec_len, IfOk, IfErr};
 ghost use Rattle.sonic_text.specs.Values.{IsValue};
 ghost use Rattle.sonic_text.specs.Faults.{IsFault};
 ghost use Rattle.sonic_parser.specs.Faults.{IsStopFor};
-ghost use Rattle.sonic_parser.specs.Skipping.{IsItem, IsItemFault, IsItemEnded, IsLeft, place_of};
+ghost use Rattle.sonic_parser.specs.Skipping.{IsItem, IsItemFault, IsItemEnded, IsReached, IsOngoing, place_of};
 
 use crate::begin::{Begun, begin};
 use crate::container::{Next, key_end, next_item};
 use crate::fault::Fault;
-use sonic_text::{Kind, Stop};
+use crate::quick::close_quickly;
+use sonic_text::{Kind, Stop, skip_space, stop_at};
 
 // The place where the value is expected of the item that is expected at a place.
 #[inline]
@@ -24,48 +25,75 @@ pub(crate) fn item_value(text: &[u8], place: usize, kind: Kind, lossy: bool) -> 
     }
 }
 
+// How far the items of the open containers fit.
+#[derive(Clone, Copy)]
+pub(crate) enum Reached {
+    // Up to here, where an item of the innermost is expected.
+    Expected(usize),
+    // Up to here, where the value of an item of the innermost ended, and neither a comma nor the
+    // closing bracket comes.
+    Ended(usize),
+    // To here, where the outermost ended.
+    Closed(usize),
+}
+
+// How far they fit, and how many containers are open there.
+#[derive(Clone, Copy)]
+pub(crate) struct Extent {
+    pub(crate) reached: Reached,
+    pub(crate) depth: usize,
+}
+
 // How the innermost container that is still open goes on, after the value of an item ended at a
-// place: with an item, or, where no container is left, with the end of the outermost.
+// place.
 //
-// `opened` has the kinds of the containers that are open, the outermost first. Those that end here
-// are taken off.
-#[inline]
-fn leave(text: &[u8], opened: &mut Vec<Kind>, ended: usize) -> Result<Next, Stop>
+// `kinds` begins with the kinds of the containers that are open, the outermost first; so many are.
+#[inline(always)]
+pub(crate) fn leave(text: &[u8], kinds: &[Kind], depth: usize, ended: usize) -> Extent
     requires within { ended ≤ length text.now }
-    requires some { 0 < vec_len opened.old }
-    ensures later { IfOk result (λ next. ended < place_of next) }
-    ensures ok { (m : Bool) (root : ℕ) → IsItemEnded m text.now root opened.old.items ended
-        → IfOk result (IsLeft m text.now root opened.new.items) }
-    ensures err { (m : Bool) (root : ℕ) → IsItemEnded m text.now root opened.old.items ended
-        → IfErr result (λ s. IsFault m text.now root s) }
+    requires some { 0 < depth }
+    requires room { depth ≤ length kinds.now }
+    ensures fewer { result.depth ≤ depth }
+    ensures some { IsOngoing result.depth result.reached }
+    ensures within { place_of result.reached ≤ length text.now }
+    ensures further { (h : ℕ) → result.reached ≡ Reached.Expected h → ended < h }
+    ensures reached { (m : Bool) (root : ℕ)
+        → IsItemEnded m text.now root (take depth kinds.now) ended
+        → IsReached m text.now root (take result.depth kinds.now) result.reached }
 {
     let mut end = ended;
+    let mut depth = depth;
     'containers: loop {
-        let kind = opened[opened.len() - 1];
-        match next_item(text, end, kind)? {
-            Next::Item(next) => return Ok(Next::Item(next)),
-            Next::End(close) => end = close,
+        match next_item(text, end, kinds[depth - 1]) {
+            Ok(Next::Item(next)) => {
+                let reached = Reached::Expected(next);
+                return Extent { reached, depth };
+            }
+            Ok(Next::End(close)) => end = close,
+            Err(_) => {
+                let reached = Reached::Ended(end);
+                return Extent { reached, depth };
+            }
         }
-        opened.truncate(opened.len() - 1);
-        if opened.is_empty() {
-            return Ok(Next::End(end));
+        depth -= 1;
+        if depth == 0 {
+            let reached = Reached::Closed(end);
+            return Extent { reached, depth };
         }
     }
 }
 
-// The end of the container that begins at `root`, whose first item is expected at `first`.
-//
-// `opened` has the kind of that container. While the loop runs, it has the kinds of all containers
-// that are open, the outermost first. It is all that grows.
+// The end of the container that begins at `root`, an item of which is expected at `first`, item by
+// item.
 #[tactic(auto, using(crate::proofs::SkippingLemmas::steps))]
-pub(crate) fn close(
+fn close_slowly(
     text: &[u8],
     root: usize,
     opened: &mut Vec<Kind>,
     first: usize,
     lossy: bool,
 ) -> Result<usize, Fault>
-    requires { IsLeft lossy text.now root opened.old.items (Next.Item first) }
+    requires { IsReached lossy text.now root opened.old.items (Reached.Expected first) }
     ensures within { IfOk result (λ end. end ≤ length text.now) }
     ensures ok { IfOk result (λ end. IsValue lossy text.now root end) }
     ensures err { IfErr result (IsStopFor (λ s. IsFault lossy text.now root s)) }
@@ -81,9 +109,46 @@ pub(crate) fn close(
                 continue 'items;
             }
         };
-        match leave(text, opened, ended)? {
-            Next::Item(next) => place = next,
-            Next::End(end) => return Ok(end),
+        let extent = leave(text, opened, opened.len(), ended);
+        opened.truncate(extent.depth);
+        match extent.reached {
+            Reached::Expected(next) => place = next,
+            Reached::Ended(end) => return Err(Fault::At(separator_stop(text, end, opened))),
+            Reached::Closed(end) => return Ok(end),
         }
+    }
+}
+
+// Why nothing fits after the value of an item of the innermost container that ended at a place.
+fn separator_stop(text: &[u8], end: usize, opened: &[Kind]) -> Stop
+    requires within { end ≤ length text.now }
+    requires some { 0 < length opened.now }
+    ensures { (m : Bool) (root : ℕ) → IsReached m text.now root opened.now (Reached.Ended end)
+        → IsFault m text.now root result }
+{
+    let kind = opened[opened.len() - 1];
+    stop_at(text, skip_space(text, end), kind.code_after_item())
+}
+
+// The end of the container that begins at `root`, whose first item is expected at `first`.
+//
+// `opened` has the kind of that container. While the loops run, it has the kinds of all containers
+// that are open, the outermost first. It is all that grows.
+pub(crate) fn close(
+    text: &[u8],
+    root: usize,
+    opened: &mut Vec<Kind>,
+    first: usize,
+    lossy: bool,
+) -> Result<usize, Fault>
+    requires { IsReached lossy text.now root opened.old.items (Reached.Expected first) }
+    ensures within { IfOk result (λ end. end ≤ length text.now) }
+    ensures ok { IfOk result (λ end. IsValue lossy text.now root end) }
+    ensures err { IfErr result (IsStopFor (λ s. IsFault lossy text.now root s)) }
+{
+    match close_quickly(text, opened, first, lossy) {
+        Reached::Expected(place) => close_slowly(text, root, opened, place, lossy),
+        Reached::Ended(end) => Err(Fault::At(separator_stop(text, end, opened))),
+        Reached::Closed(end) => Ok(end),
     }
 }

@@ -1,4 +1,5 @@
 // What no clause says: that calls answer the worked examples, and succeed where nothing is wrong.
+mod blocks;
 mod calls;
 mod depth;
 mod faults;

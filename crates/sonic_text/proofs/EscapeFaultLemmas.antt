@@ -8,8 +8,8 @@ use Rattle.sonic_error.specs.declared.code.ErrorCode.{ErrorCode}
 use Rattle.sonic_error.specs.declared.code.ErrorCode.TheVariants.{InvalidEscape, InvalidUnicodeCodePoint, InvalidSurrogateUnicodeCodePoint}
 use Rattle.sonic_text.specs.declared.stop.Stop.{Stop}
 use Rattle.sonic_text.specs.Places.{byte, bad}
-use Rattle.sonic_text.specs.Strings.{hex_digit, hex_within, is_low_byte, escaped, escape_fault, IsHex4, IsHigh, IsEscapeFault}
-use Rattle.sonic_text.proofs.HexDigitLemmas.{hex_small, hex_of, hex_none, Digits, digits_of, high_digits}
+use Rattle.sonic_text.specs.Strings.{hex_digit, hex_within, is_low_byte, escaped, escape_fault, IsHex4, IsHigh, IsLow, IsEscapeFault}
+use Rattle.sonic_text.proofs.HexDigitLemmas.{hex_small, hex_of, hex_none, Digits, digits_of, hex4_of, high_digits, low_digits}
 
 -- the first n - 1 bytes after the backslash at k are right
 abbrev pub Right : Bool → List ℕ → ℕ → ℕ → Type 0
@@ -58,6 +58,11 @@ letter_fault m t k e u = fault_at (right_none m t k) (omega arith) (omega arith)
 no_value : (o : Option ℕ) → is_some o ≡ false → o ≡ None
 no_value None h = refl
 no_value (Some c) h = absurd (cc)
+
+-- a value, or none
+pub known : (o : Option ℕ) → (o ≡ None) ⊎ ((a : ℕ) × (o ≡ Some a))
+known None = inl refl
+known (Some a) = inr (a, refl)
 
 -- such a letter, by its test
 pub letter_missing : (m : Bool) (t : List ℕ) (k : ℕ) → is_some (escaped (byte t (k + 1))) ≡ false → byte t (k + 1) ≢ 117
@@ -151,6 +156,18 @@ module _ (m : Bool) (t : List ℕ) (k : ℕ) (u : byte t (k + 1) ≡ 117) where
   pub right_five : {a b c : ℕ} → hex_digit (byte t (k + 2)) ≡ Some a → hex_digit (byte t (k + 3)) ≡ Some b → (m ≡ false → a ≡ 13 → b < 12)
       → hex_digit (byte t (k + 4)) ≡ Some c → Right m t k 5
   right_five e f l g = right_more m t k 4 (right_four e f l) (digit_right 4 (inr (inl refl)) g)
+
+  -- no digit at the fourth place, where the four bytes are none of a number that may be there
+  pub last_missing : {a b c : ℕ} → hex_digit (byte t (k + 2)) ≡ Some a → hex_digit (byte t (k + 3)) ≡ Some b → (m ≡ false → a ≡ 13 → b < 12)
+      → hex_digit (byte t (k + 4)) ≡ Some c → ((n : ℕ) → IsHex4 t (k + 2) n → (m ≡ false) × IsLow n) → IsEscapeFault m t k (bad t (k + 5) InvalidUnicodeCodePoint)
+  last_missing e f l g wrong = elim (known (hex_digit (byte t (k + 5)))) [
+    | inl h ↦ digit_missing 5 (inr (inr refl)) (right_five e f l g) h
+    | inr (d, h) ↦
+        let z : Digits t k _ _ _ d = record { first = e; second = f; third = g; fourth = h } in
+        let w = wrong _ (hex4_of z) in
+        let v = low_digits z refl w.1 in
+        absurd (omega (arith, l w.0 v.0, v.1))
+  ]
 
   -- all is right up to the end of the four digits
   right_six : {a b c d : ℕ} → Digits t k a b c d → (m ≡ false → a ≡ 13 → b < 12) → Right m t k 6

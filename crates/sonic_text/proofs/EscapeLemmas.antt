@@ -1,15 +1,14 @@
 -- After a backslash is a char of a string, or a first wrong byte, and never both.
 use Rattle.std.proofs.Common.{◌≡◌, ◌⊎◌, ℕ, zero, suc, ◌+◌, ◌<◌, ◌≤◌, Bool, true, false, inl, inr, List, arith, refl}
 use Rattle.std.proofs.lemmas.Bool.{cases_Bool, cases_lt, cases_eq, cases_order}
-use Rattle.std.specs.Prelude.{is_some, Some, None}
-use Rattle.std.specs.declared.option.Option.{Option}
+use Rattle.std.specs.Prelude.{is_some, Some}
 use Rattle.sonic_text.specs.declared.stop.Stop.{Stop}
 use Rattle.sonic_text.specs.Places.{byte, bad}
 use Rattle.sonic_text.specs.Strings.{hex_digit, is_low_byte, escaped, escape_fault, IsEscape, IsHigh, IsLow, IsLowEscape, IsUnicodeChar, IsChar, IsEscapeFault}
 use Rattle.sonic_text.specs.Strings.IsUnicodeChar.{scalar, pair, lone_high, lone_low}
 use Rattle.sonic_text.specs.Strings.IsChar.{unescaped, short_escape, unicode_escape}
 use Rattle.sonic_text.proofs.HexDigitLemmas.{escape_one, Digits, digits_of, hex4_of, high_digits, digits_high, low_digits, digits_low, low_right, low_all}
-use Rattle.sonic_text.proofs.EscapeFaultLemmas.{Right, escaped_letter, short_right, letter_fault, right_two, right_four, right_five, digit_missing, second_missing, second_half, half_missing, all_right}
+use Rattle.sonic_text.proofs.EscapeFaultLemmas.{Right, escaped_letter, short_right, letter_fault, right_two, right_four, right_five, digit_missing, second_missing, second_half, half_missing, all_right, known}
 
 -- an escape denotes one char
 unicode_one : (m : Bool) (t : List ℕ) (p n : ℕ) {q r : ℕ} {b c : List ℕ} → IsUnicodeChar m t p n q b → IsUnicodeChar m t p n r c → (q ≡ r) × (b ≡ c)
@@ -90,11 +89,6 @@ escape_fault_one {m} {t} {p} f g = elim (cases_order f.n g.n) [
       cc (f.stop, g.stop)
 ]
 
--- a value, or none
-known : (o : Option ℕ) → (o ≡ None) ⊎ ((a : ℕ) × (o ≡ Some a))
-known None = inl refl
-known (Some a) = inr (a, refl)
-
 -- a letter that denotes a char after a backslash
 pub short_char : {m : Bool} {t : List ℕ} {k : ℕ} → is_some (escaped (byte t (k + 1))) ≡ true → byte t k ≡ 92 → (q : ℕ) → q ≡ k + 2 → (b : List ℕ) × IsChar m t k q b
 short_char {t = t} {k} h o q f = elim (known (escaped (byte t (k + 1)))) [
@@ -118,16 +112,12 @@ plain_char {m} {n = n} h x y q e = elim (cases_lt n 0xDC00) [
 ]
 
 -- the escapes of both halves denote a char
-pub paired_char : {m : Bool} {t : List ℕ} {k n : ℕ} → IsEscape t k n → IsHigh n → ((d : ℕ) → d < 6 → is_low_byte d (byte t (k + 6 + d)) ≡ true)
-    → (q : ℕ) → q ≡ k + 12 → (b : List ℕ) × IsChar m t k q b
-paired_char {t = t} {k} h x w q e = let (l, y, z) = low_all t (k + 6) w in (_, unicode_escape h (pair x y z e refl))
+pub paired_char : {m : Bool} {t : List ℕ} {k n : ℕ} → IsEscape t k n → IsHigh n → IsLowEscape t (k + 6) → (q : ℕ) → q ≡ k + 12 → (b : List ℕ) × IsChar m t k q b
+paired_char h x (l, y, z) q e = (_, unicode_escape h (pair x y z e refl))
 
 -- the escape of a first half that no second one follows denotes a char in a lossy reader
-pub lone_char : {m : Bool} {t : List ℕ} {k n : ℕ} → m ≡ true → IsEscape t k n → IsHigh n → (j : ℕ) → j < 6 → is_low_byte j (byte t (k + 6 + j)) ≡ false
-    → (q : ℕ) → q ≡ k + 6 → (b : List ℕ) × IsChar m t k q b
-lone_char {t = t} {k} s h x j o w q e =
-    let no : ¬ IsLowEscape t (k + 6) = λ (l, y, z). (let v = low_right t (k + 6) y z j o in absurd (cc)) in
-    (_, unicode_escape h (lone_high s x no e refl))
+pub lone_char : {m : Bool} {t : List ℕ} {k n : ℕ} → m ≡ true → IsEscape t k n → IsHigh n → ¬ IsLowEscape t (k + 6) → (q : ℕ) → q ≡ k + 6 → (b : List ℕ) × IsChar m t k q b
+lone_char s h x none q e = (_, unicode_escape h (lone_high s x none e refl))
 
 -- what is expected after a backslash: a char, or a first wrong byte
 abbrev pub Outcome : Bool → List ℕ → ℕ → Type 0
@@ -147,7 +137,7 @@ first_false P (suc n) = elim (first_false P n) [
 -- after a first half without a second one
 lone_some : (m : Bool) {t : List ℕ} {k n : ℕ} → IsEscape t k n → IsHigh n → (j : ℕ) → j < 6 → ((d : ℕ) → d < j → is_low_byte d (byte t (k + 6 + d)) ≡ true)
     → is_low_byte j (byte t (k + 6 + j)) ≡ false → Outcome m t k
-lone_some true {t} {k} h x j l w e = inl (k + 6, lone_char refl h x j l e (k + 6) refl)
+lone_some true {t} {k} h x j l w e = inl (k + 6, lone_char refl h x (λ (n, y, z). (let v = low_right t (k + 6) y z j l in absurd (cc))) (k + 6) refl)
 lone_some false {t} {k} h x j l w e = inr (_, half_missing false t k h.1 refl h.2 x j l w e)
 
 -- after four digits
@@ -157,7 +147,7 @@ number_some m {t} {k} {n} h x = elim (cases_lt n 0xD800) [
   | inr l ↦ elim (cases_lt 0xDBFF n) [
     | inl o ↦ inl (k + 6, plain_char h (λ w. omega arith) x (k + 6) refl)
     | inr o ↦ elim (first_false (λ d. is_low_byte d (byte t (k + 6 + d))) 6) [
-      | inl w ↦ inl (k + 12, paired_char h (l, o) w (k + 12) refl)
+      | inl w ↦ inl (k + 12, paired_char h (l, o) (low_all t (k + 6) w) (k + 12) refl)
       | inr (j, v, w, e) ↦ lone_some m h (l, o) j v w e
     ]
   ]

@@ -1,8 +1,11 @@
 -- Hexadecimal digits, and the number of four of them.
-use Rattle.std.proofs.Common.{◌≡◌, ℕ, zero, suc, ◌+◌, ◌*◌, ◌==◌, ◌<◌, ◌≤◌, ◌&&◌, true, false, List, length, arith, refl}
+use Rattle.std.proofs.Common.{◌≡◌, ℕ, zero, suc, ◌+◌, ◌*◌, ◌==◌, ◌<◌, ◌≤◌, ◌&&◌, true, false, inl, inr, List, length, arith, refl}
+use Rattle.std.proofs.lemmas.Bool.{cases_lt}
 use Rattle.std.proofs.lemmas.Bool.Decides.{nat_tests}
 use Rattle.std.specs.Prelude.{nat_le, is_some, unwrap_or, Some, None}
 use Rattle.std.specs.declared.option.Option.{Option}
+use Rattle.std.proofs.lemmas.Nat.{le_or_l, le_or_r}
+use lib.Bits.{bit_or, or_lt}
 use Rattle.sonic_text.specs.Places.{byte}
 use Rattle.sonic_text.specs.Strings.{hex_digit, hex_within, is_low_byte, IsHex4, IsEscape, IsHigh, IsLow, IsLowEscape}
 use Rattle.sonic_text.proofs.Places.{byte_within}
@@ -16,6 +19,20 @@ hex_small b a h = grind (arith, nat_tests)
 pub hex_some : (b a : ℕ) → hex_digit b ≡ Some a → 0 < b
 unfolding hex_digit
 hex_some b a h = grind (arith, nat_tests)
+
+-- what is below 16 is a digit, where the table has 255 for each other byte
+pub table_digit : (b x : ℕ) → x ≡ unwrap_or (hex_digit b) 255 → x < 16 → hex_digit b ≡ Some x
+unfolding hex_digit
+table_digit b x e l = grind (arith, nat_tests)
+
+-- and what isn't below 16 is none
+pub table_other : (b x : ℕ) → x ≡ unwrap_or (hex_digit b) 255 → 15 < x → hex_digit b ≡ None
+unfolding hex_digit
+table_other b x e l = grind (arith, nat_tests)
+
+-- so what a digit denotes is below 16
+pub not_other : (b a x : ℕ) → hex_digit b ≡ Some a → (15 < x → hex_digit b ≡ None) → x < 16
+not_other b a x h other = elim (cases_lt x 16) [ inl l ↦ l | inr l ↦ (let none = other (omega arith) in absurd (cc)) ]
 
 -- a digit in a range
 pub hex_of : (b : ℕ) {a : ℕ} (low high : ℕ) → hex_digit b ≡ Some a → low ≤ a → a ≤ high → hex_within low high b ≡ true
@@ -70,6 +87,21 @@ hex4_of {t} {k} {a} {b} {c} {d} h =
     let g : k + 5 ≡ k + 2 + 3 = omega arith in
     record { a = a; b = b; c = c; d = d; first = h.first; second = rw e at h.second; third = rw f at h.third; fourth = rw g at h.fourth; number = refl }
 
+-- four numbers below 16
+abbrev pub Small : ℕ → ℕ → ℕ → ℕ → Type 0
+Small a b c d = (a < 16) × (b < 16) × (c < 16) × (d < 16)
+
+-- have an OR below 16
+pub or_small : (a b c d : ℕ) → Small a b c d → bit_or (bit_or (bit_or a b) c) d < 16
+or_small a b c d h = or_lt 4 (bit_or (bit_or a b) c) d (or_lt 4 (bit_or a b) c (or_lt 4 a b h.0 h.1) h.2) h.3
+
+-- and no others have
+pub or_each : (a b c d : ℕ) → bit_or (bit_or (bit_or a b) c) d < 16 → Small a b c d
+or_each a b c d l =
+    let x = le_or_l (bit_or (bit_or a b) c) d in
+    let y = le_or_l (bit_or a b) c in
+    (omega (arith, x, y, le_or_l a b), omega (arith, x, y, le_or_r a b), omega (arith, x, le_or_r (bit_or a b) c), omega (arith, le_or_r (bit_or (bit_or a b) c) d))
+
 -- four digits have one number
 pub hex4_one : {t : List ℕ} {p n l : ℕ} → IsHex4 t p n → IsHex4 t p l → n ≡ l
 hex4_one h g = cc
@@ -85,10 +117,7 @@ hex4_within {t} {p} h =
 pub escape_one : (t : List ℕ) (p : ℕ) {n l : ℕ} → IsEscape t p n → IsEscape t p l → n ≡ l
 escape_one t p h g = hex4_one h.2 g.2
 
--- the digits and their number, each below 16
-abbrev Small : ℕ → ℕ → ℕ → ℕ → Type 0
-Small a b c d = (a < 16) × (b < 16) × (c < 16) × (d < 16)
-
+-- each digit is below 16
 small : {t : List ℕ} {k a b c d : ℕ} → Digits t k a b c d → Small a b c d
 small {t} {k} {a} {b} {c} {d} h = (
   hex_small (byte t (k + 2)) a h.first,

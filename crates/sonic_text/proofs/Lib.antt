@@ -15,6 +15,7 @@ pub mod Outcomes
 pub mod Parts
 pub mod Places
 pub mod Stops
+mod ReadingLemmas
 mod StringPartLemmas
 mod StringReadingLemmas
 pub mod StringTexts

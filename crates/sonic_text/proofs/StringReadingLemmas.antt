@@ -102,6 +102,15 @@ char_plain e (IsChar.unescaped u x y) = (x, y)
 char_plain e (IsChar.short_escape o l x y) = absurd (e o)
 char_plain e (IsChar.unicode_escape u x) = absurd (e u.0)
 
+-- so the string goes on with this byte
+pub reached_byte : {m : Bool} {t : List ℕ} {start end p : ℕ} {b c : List ℕ} → byte t p ≢ 92 → p + 1 ≢ end → IsReached m t start end p b c
+    → (rest : List ℕ) × (b ≡ c ++ byte t p ∷ rest)
+reached_byte {t = t} {p = p} {b = b} {c = c} e o s =
+    let v = reached_char s o in
+    let w = char_plain e v.char in
+    let x : b ≡ (c ++ byte t p ∷ []) ++ v.next.rest = rw (← w.1) v.next.both in
+    (v.next.rest, x ∙ append_assoc c (byte t p ∷ []) v.next.rest)
+
 -- bytes before the closing quote of which none is a backslash denote themselves
 pub reached_run : {m : Bool} {t : List ℕ} {start end p : ℕ} {b c : List ℕ} (n r : ℕ) → r ≡ p + n → r < end → ((k : ℕ) → p ≤ k → k < r → byte t k ≢ 92)
     → IsReached m t start end p b c → IsReached m t start end r b (c ++ slice_range t p r)

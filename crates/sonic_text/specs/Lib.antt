@@ -5,6 +5,7 @@ pub mod Literals
 pub mod Numbers
 pub mod Paths
 pub mod Places
+pub mod Reading
 pub mod Strings
 pub mod Trees
 pub mod Values

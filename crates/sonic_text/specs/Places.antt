@@ -1,7 +1,9 @@
 -- A text is a list of bytes, and a place in it is a number from 0 to its length.
-use Rattle.std.specs.Prelude.{ℕ, ◌+◌, ◌≤◌, ◌==◌, ◌||◌, Bool, List, length, drop, slice_index, nat_lt, if◌then◌else◌}
+use Rattle.std.specs.Prelude.{ℕ, ◌+◌, ◌≤◌, List, length, drop, slice_index, nat_lt, if◌then◌else◌}
 use Rattle.std.specs.List.{prefix_len}
 use Rattle.std.specs.Char.{is_ascii_digit}
+-- white space (RFC 8259, section 2)
+pub use Rattle.sonic_blocks.specs.Bits.{is_space}
 use Rattle.sonic_error.specs.declared.code.ErrorCode.{ErrorCode}
 use Rattle.sonic_error.specs.declared.code.ErrorCode.TheVariants.{EofWhileParsing}
 use Rattle.sonic_text.specs.declared.stop.Stop.{Stop}
@@ -9,10 +11,6 @@ use Rattle.sonic_text.specs.declared.stop.Stop.{Stop}
 -- the byte at p, and 0 after the end, where no rule asks for a 0
 abbrev pub byte : List ℕ → ℕ → ℕ
 byte t p = slice_index t p
-
--- white space: a blank, a tab, a line feed or a carriage return (RFC 8259, section 2)
-abbrev pub is_space : ℕ → Bool
-is_space b = b == 0x20 || b == 0x09 || b == 0x0A || b == 0x0D
 
 -- the least place from i on that holds no white space, or the end
 abbrev pub after_space : List ℕ → ℕ → ℕ

@@ -1,11 +1,12 @@
 // Keys compared as they are read (RFC 8259, section 8.3: names are equal if their chars are).
-ghost use Rattle.std.specs.Prelude.{◌≡◌, ◌≢◌, ℕ, ◌+◌, ◌≤◌, ◌++◌, List, length, take, false, IsTrue, ◌↔◌};
+ghost use Rattle.std.specs.Prelude.{◌≡◌, ◌≢◌, ℕ, ◌+◌, ◌<◌, ◌≤◌, ◌∷◌, ◌++◌, List, length, take, false, IsTrue, ◌↔◌};
 ghost use Rattle.std.specs.Bool.{OnTrue};
 ghost use Rattle.std.specs.Ordering.{nat_cmp};
 ghost use Rattle.std.specs.Cmp.Lexicographic.{slice_cmp};
+ghost use Rattle.sonic_text.specs.Places.{byte};
 ghost use Rattle.sonic_text.specs.Strings.{IsString, strict};
 
-use crate::unescape::{escape_at, plain_end};
+use crate::unescape::escape_at;
 use crate::utf8::codepoint_to_utf8;
 use std::cmp::Ordering;
 
@@ -30,6 +31,38 @@ fn piece_order(key: &[u8], done: usize, piece: &[u8]) -> Ordering
     piece.cmp(&left)
 }
 
+// How many bytes the two begin with in common, before the first backslash.
+#[inline]
+fn common_len(text: &[u8], key: &[u8]) -> usize
+    ensures within { (result ≤ length text.now) × (result ≤ length key.now) }
+    ensures same { take result key.now ≡ take result text.now }
+    ensures plain { (k : ℕ) → k < result → byte text.now k ≢ 92 }
+    ensures differs { result < length text.now → byte text.now result ≢ 92
+        → result < length key.now → byte key.now result ≢ byte text.now result }
+{
+    let most = text.len().min(key.len());
+    let mut n = 0;
+    while n < most && text[n] == key[n] && text[n] != b'\\' {
+        n += 1;
+    }
+    n
+}
+
+// How a text that goes on with the byte, where the key doesn't, compares with the key.
+#[inline]
+fn byte_order(key: &[u8], done: usize, next: u8) -> Ordering
+    requires inside { done ≤ length key.now }
+    requires differs { done < length key.now → byte key.now done ≢ next }
+    ensures { (rest : List ℕ)
+        → result ≡ slice_cmp nat_cmp (take done key.now ++ next ∷ rest) key.now }
+{
+    if done < key.len() {
+        next.cmp(&key[done])
+    } else {
+        Ordering::Greater
+    }
+}
+
 /// How the text that the string from `start` to `end`, both quotes included, denotes compares
 /// with the key, byte by byte.
 ///
@@ -44,16 +77,17 @@ pub fn compare_key(text: &[u8], start: usize, end: usize, key: &str) -> Ordering
     let mut place = start + 1;
     let mut done = 0;
     'chars: loop {
-        let stop = plain_end(text, place, end);
-        let piece = &text[place..stop];
-        if !goes_on(key, done, piece) {
-            return piece_order(key, done, piece);
-        }
-        done += stop - place;
-        if stop + 1 == end {
+        let same = common_len(&text[place..end - 1], &key[done..]);
+        place += same;
+        done += same;
+        if place + 1 == end {
             return done.cmp(&key.len());
         }
-        let (code, next) = escape_at(text, stop);
+        let byte = text[place];
+        if byte != b'\\' {
+            return byte_order(key, done, byte);
+        }
+        let (code, next) = escape_at(text, place);
         let mut buffer = [0; 4];
         let count = codepoint_to_utf8(code, &mut buffer);
         if !goes_on(key, done, &buffer[..count]) {

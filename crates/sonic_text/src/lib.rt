@@ -37,12 +37,12 @@ pub use kind::Kind;
 pub use law::{
     literal_has_one_outcome, number_has_one_outcome, value_has_one_outcome, value_means_one_tree,
 };
-pub use literal::literal_end;
-pub use number::{number_end, whole_i64, whole_u64};
+pub use literal::{literal_end, skip_literal};
+pub use number::{number_end, skip_number, whole_i64, whole_u64};
 pub use scan::{byte_at, skip_digits, skip_space, stop_at};
 pub use space::is_whitespace;
 pub use stop::Stop;
-pub use string::{StringEnd, string_end};
+pub use string::{StringEnd, skip_string, string_end};
 pub use string_law::{string_denotes_one_text, string_has_one_outcome};
 pub use unescape::{ESCAPED_TAB, unescape_into};
 pub use utf8::codepoint_to_utf8;

@@ -1,4 +1,5 @@
-ghost use Rattle.std.specs.Prelude.{◌≤◌, length, IfOk, IfErr};
+ghost use Rattle.std.specs.Prelude.{◌≡◌, ◌≤◌, length, None, IfOk, IfErr, IfSome};
+ghost use Rattle.sonic_text.specs.declared.stop.Stop.{Stop};
 ghost use Rattle.sonic_text.specs.Literals.{IsLiteral, IsLiteralFault};
 
 use crate::stop::Stop;
@@ -28,4 +29,20 @@ pub fn literal_end(text: &[u8], start: usize, literal: &str) -> Result<usize, St
         place += 1;
     }
     Ok(place)
+}
+
+/// The place after the word at `start`, or `None` where it isn't there: what [`literal_end`]
+/// answers, without the reason.
+///
+/// `skip_literal(b"nullx", 0, "null")` is `Some(4)`, and `skip_literal(b"nul", 0, "null")` is `None`.
+#[inline(always)]
+pub fn skip_literal(text: &[u8], start: usize, literal: &str) -> Option<usize>
+    requires { start ≤ length text.now }
+    ensures some { IfSome result (λ j. IsLiteral literal.now text.now start j) }
+    ensures none { result ≡ None → (s : Stop) × IsLiteralFault literal.now text.now start s }
+{
+    match literal_end(text, start, literal) {
+        Ok(end) => Some(end),
+        Err(_) => None,
+    }
 }

@@ -1,15 +1,18 @@
-ghost use Rattle.std.specs.Prelude.{◌≡◌, ◌≢◌, ◌<◌, ◌≤◌, ◌^◌, length, IfOk, IfErr, FitsSigned};
+ghost use Rattle.std.specs.Prelude.{◌≡◌, ◌≢◌, ◌<◌, ◌≤◌, ◌^◌, length, None, IfOk, IfErr, IfSome, FitsSigned};
 ghost use Rattle.std.specs.Int.{w64};
 ghost use Rattle.std.specs.Option.{SomeIff};
 ghost use Rattle.std.specs.Str.Parse.{digits_value, signed_digits_value};
-ghost use Rattle.sonic_text.specs.Places.{byte, IsDigit};
-ghost use Rattle.sonic_text.specs.Numbers.{after_minus, after_sign, IsInt, IsIntFault, IsFraction, IsFractionFault, IsExponent, IsExponentFault, IsNumber, IsNumberFault, IsWholeText};
+ghost use Rattle.sonic_error.specs.declared.code.ErrorCode.TheVariants.{InvalidNumber};
+ghost use Rattle.sonic_text.specs.declared.stop.Stop.{Stop};
+ghost use Rattle.sonic_text.specs.Places.{byte, bad, IsDigit};
+ghost use Rattle.sonic_text.specs.Numbers.{after_minus, after_sign, IsInt, IsIntFault, IsFraction, IsFractionFault, IsE, IsExponent, IsExponentFault, IsNumber, IsNumberFault, IsWholeText};
 
 use crate::scan::{byte_at, skip_digits, stop_at};
 use crate::stop::Stop;
 use sonic_error::ErrorCode;
 
 // The place after the minus sign, if one is at `start`.
+#[inline(always)]
 fn skip_minus(text: &[u8], start: usize) -> usize
     requires { start ≤ length text.now }
     ensures place { result ≡ after_minus text.now start }
@@ -36,27 +39,29 @@ fn skip_sign(text: &[u8], start: usize) -> usize
     }
 }
 
-// The end of the integer without a sign at a place.
-fn int_end(text: &[u8], start: usize) -> Result<usize, Stop>
+// The end of the integer without a sign at a place, or the first place that doesn't fit.
+#[inline(always)]
+fn int_end(text: &[u8], start: usize) -> Result<usize, usize>
     requires { start ≤ length text.now }
     ensures ok { IfOk result (λ j. (start < j) × (j ≤ length text.now) × IsInt text.now start j) }
-    ensures err { IfErr result (λ s. IsIntFault text.now start s) }
+    ensures err { IfErr result (λ p. (p ≤ length text.now)
+        × IsIntFault text.now start (bad text.now p InvalidNumber)) }
 {
     match byte_at(text, start) {
-        b'0' if byte_at(text, start + 1).is_ascii_digit() => {
-            Err(stop_at(text, start + 1, ErrorCode::InvalidNumber))
-        }
+        b'0' if byte_at(text, start + 1).is_ascii_digit() => Err(start + 1),
         b'0' => Ok(start + 1),
         b'1'..=b'9' => Ok(skip_digits(text, start)),
-        _ => Err(stop_at(text, start, ErrorCode::InvalidNumber)),
+        _ => Err(start),
     }
 }
 
 // The end of the fraction at a place, or the place itself where there is none.
-fn fraction_end(text: &[u8], start: usize) -> Result<usize, Stop>
+#[inline(always)]
+fn fraction_end(text: &[u8], start: usize) -> Result<usize, usize>
     requires { start ≤ length text.now }
     ensures ok { IfOk result (λ j. (start ≤ j) × (j ≤ length text.now) × IsFraction text.now start j) }
-    ensures err { IfErr result (λ s. IsFractionFault text.now start s) }
+    ensures err { IfErr result (λ p. (p ≤ length text.now)
+        × IsFractionFault text.now start (bad text.now p InvalidNumber)) }
 {
     if byte_at(text, start) != b'.' {
         return Ok(start);
@@ -65,25 +70,51 @@ fn fraction_end(text: &[u8], start: usize) -> Result<usize, Stop>
     if byte_at(text, digits).is_ascii_digit() {
         Ok(skip_digits(text, digits))
     } else {
-        Err(stop_at(text, digits, ErrorCode::InvalidNumber))
+        Err(digits)
     }
 }
 
-// The end of the exponent at a place, or the place itself where there is none.
-fn exponent_end(text: &[u8], start: usize) -> Result<usize, Stop>
-    requires { start ≤ length text.now }
+// The end of the exponent whose `e` is at a place.
+#[inline(never)]
+fn power_end(text: &[u8], start: usize) -> Result<usize, usize>
+    requires { IsE (byte text.now start) }
     ensures ok { IfOk result (λ j. (start ≤ j) × (j ≤ length text.now) × IsExponent text.now start j) }
-    ensures err { IfErr result (λ s. IsExponentFault text.now start s) }
+    ensures err { IfErr result (λ p. (p ≤ length text.now)
+        × IsExponentFault text.now start (bad text.now p InvalidNumber)) }
 {
-    if !matches!(byte_at(text, start), b'e' | b'E') {
-        return Ok(start);
-    }
     let digits = skip_sign(text, start + 1);
     if byte_at(text, digits).is_ascii_digit() {
         Ok(skip_digits(text, digits))
     } else {
-        Err(stop_at(text, digits, ErrorCode::InvalidNumber))
+        Err(digits)
     }
+}
+
+// The end of the exponent at a place, or the place itself where there is none.
+#[inline(always)]
+fn exponent_end(text: &[u8], start: usize) -> Result<usize, usize>
+    requires { start ≤ length text.now }
+    ensures ok { IfOk result (λ j. (start ≤ j) × (j ≤ length text.now) × IsExponent text.now start j) }
+    ensures err { IfErr result (λ p. (p ≤ length text.now)
+        × IsExponentFault text.now start (bad text.now p InvalidNumber)) }
+{
+    match byte_at(text, start) {
+        b'e' | b'E' => power_end(text, start),
+        _ => Ok(start),
+    }
+}
+
+// The end of the number at a place, or the first place that doesn't fit, in registers.
+#[inline(always)]
+fn parts_end(text: &[u8], start: usize) -> Result<usize, usize>
+    requires { start ≤ length text.now }
+    ensures ok { IfOk result (λ j. (start < j) × (j ≤ length text.now) × IsNumber text.now start j) }
+    ensures err { IfErr result (λ p. (p ≤ length text.now)
+        × IsNumberFault text.now start (bad text.now p InvalidNumber)) }
+{
+    let whole = int_end(text, skip_minus(text, start))?;
+    let fraction = fraction_end(text, whole)?;
+    exponent_end(text, fraction)
 }
 
 /// The end of the number at `start`, or the first place where a digit is expected and none
@@ -98,9 +129,26 @@ pub fn number_end(text: &[u8], start: usize) -> Result<usize, Stop>
     ensures ok { IfOk result (λ j. (start < j) × (j ≤ length text.now) × IsNumber text.now start j) }
     ensures err { IfErr result (λ s. IsNumberFault text.now start s) }
 {
-    let whole = int_end(text, skip_minus(text, start))?;
-    let fraction = fraction_end(text, whole)?;
-    exponent_end(text, fraction)
+    match parts_end(text, start) {
+        Ok(end) => Ok(end),
+        Err(place) => Err(stop_at(text, place, ErrorCode::InvalidNumber)),
+    }
+}
+
+/// The end of the number at `start`, or `None` where none is: what [`number_end`] answers, without
+/// the reason.
+///
+/// `skip_number(b"1.2.3", 0)` is `Some(3)`, and `skip_number(b"01", 0)` is `None`.
+#[inline(always)]
+pub fn skip_number(text: &[u8], start: usize) -> Option<usize>
+    requires { start ≤ length text.now }
+    ensures some { IfSome result (λ j. (start < j) × (j ≤ length text.now) × IsNumber text.now start j) }
+    ensures none { result ≡ None → (s : Stop) × IsNumberFault text.now start s }
+{
+    match parts_end(text, start) {
+        Ok(end) => Some(end),
+        Err(_) => None,
+    }
 }
 
 /// The value of the number, where it is an integer with no sign that fits in 64 bits.

@@ -40,7 +40,7 @@ fn escaped_of(letter: u8) -> u8
 }
 
 /// The second half of a surrogate pair whose escape is at `place`, if there is one (RFC 7493, 2.1).
-fn low_at(text: &[u8], place: usize) -> Option<u16>
+pub(crate) fn low_at(text: &[u8], place: usize) -> Option<u32>
     requires { place ≤ length text.now }
     ensures some { IfSome result (λ l. IsEscape text.now place l × IsLow l) }
     ensures none { result ≡ None → ¬ (IsLowEscape text.now place) }
@@ -70,7 +70,6 @@ fn unicode_at(text: &[u8], place: usize) -> (u32, usize)
     let Some(unit) = hex4_at(text, place + 2) else {
         return (0, place);
     };
-    let unit = unit as u32;
     if unit < 0xD800 || unit > 0xDFFF {
         return (unit, place + 6);
     }
@@ -79,7 +78,7 @@ fn unicode_at(text: &[u8], place: usize) -> (u32, usize)
     }
     match low_at(text, place + 6) {
         Some(half) => {
-            let code = 0x1_0000 + (unit - 0xD800) * 0x400 + (half as u32 - 0xDC00);
+            let code = 0x1_0000 + (unit - 0xD800) * 0x400 + (half - 0xDC00);
             (code, place + 12)
         }
         None => (0xFFFD, place + 6),
@@ -102,7 +101,7 @@ pub(crate) fn escape_at(text: &[u8], place: usize) -> (u32, usize)
 }
 
 /// The place of the first backslash from `place` on, or of the closing quote before `end`.
-pub(crate) fn plain_end(text: &[u8], place: usize, end: usize) -> usize
+fn plain_end(text: &[u8], place: usize, end: usize) -> usize
     requires { (place < end) × (end ≤ length text.now) }
     ensures within { (place ≤ result) × (result < end) }
     ensures plain { (k : ℕ) → place ≤ k → k < result → byte text.now k ≢ 92 }

@@ -1,3 +1,4 @@
+mod BufferLemmas
 mod CommandLemmas
 mod GetLemmas
 mod OutsideLemmas

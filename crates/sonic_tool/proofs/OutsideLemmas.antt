@@ -1,12 +1,10 @@
 -- What a source over memory gave, and what a sink took of several pieces.
-use Rattle.std.proofs.Common.{◌≡◌, ℕ, ◌+◌, ◌-◌, ◌<◌, List, [], ◌++◌, length, get_or, take, drop, sym, ap, ◌∙◌, append_assoc, append-nil, arith, drop-drop, take-add, take-append-drop}
-use Rattle.std.specs.Prelude.{Some, None, Ok, Err, OnErr}
+use Rattle.std.proofs.Common.{◌≡◌, ℕ, ◌+◌, ◌-◌, List, [], ◌++◌, length, take, drop, sym, ap, ◌∙◌, append_assoc, append-nil, arith, drop-drop, take-add, take-append-drop}
+use Rattle.std.specs.Prelude.{Some, None, Ok, Err, OnOk, OnErr}
 use Rattle.std.specs.declared.result.Result.{Result}
-use Rattle.std.specs.List.{flat_map}
 use Rattle.std.specs.declared.option.Option.{Option}
 use Rattle.std.specs.Io.KnownBytes.{append_known}
-use Rattle.std.proofs.lemmas.Grind.{flat_map-append}
-use Rattle.std.proofs.lemmas.List.{take_rest, at_drop_more}
+use Rattle.std.proofs.lemmas.List.{take_rest}
 use Rattle.sonic_tool.specs.Outside.{Rose, Gave, Took, TookPrefix}
 
 -- where the first bytes of a room were copied from the rest of the bytes, they were the next of what was left
@@ -20,10 +18,20 @@ given_prefix bytes at count room copied =
     ∙ ap (λ rest. take count (drop at bytes) ++ rest) (drop-drop count at bytes)
     ∙ ap (λ piece. piece ++ drop (at + count) bytes) (sym prefix))
 
+-- what holds at all holds of a value
+pub on_ok : {A E : Type 0} (result : Result A E) (P : Type 0) → P → OnOk result P
+on_ok (Ok value) P holds = holds
+on_ok (Err error) P holds = tt
+
 -- what holds at all holds of an error
 pub on_err : {A E : Type 0} (result : Result A E) (P : Type 0) → P → OnErr result P
 on_err (Ok value) P holds = tt
 on_err (Err error) P holds = holds
+
+-- what follows from what holds of a value holds of it
+pub if_ok : {A E : Type 0} (result : Result A E) {P Q : Type 0} → (P → Q) → OnOk result P → OnOk result Q
+if_ok (Ok value) follows holds = follows holds
+if_ok (Err error) follows holds = tt
 
 -- what follows from what holds of an error holds of it
 pub if_err : {A E : Type 0} (result : Result A E) {P Q : Type 0} → (P → Q) → OnErr result P → OnErr result Q
@@ -61,27 +69,6 @@ pub prefix_of_both : (before between after : Option (List ℕ)) (xs ys : List �
     → TookPrefix before after (xs ++ ys)
 prefix_of_both before between after xs ys first (part, rest, e, taken) =
     (xs ++ part, rest, ap (λ all. xs ++ all) e ∙ sym (append_assoc xs part rest), took_both before between after xs part first taken)
-
--- the pieces below an index, the piece there, and those after it
-split_pieces : {P : Type 0} (text : P → List ℕ) (pieces : List P) (i : ℕ) (d : P)
-    → i < length pieces
-    → flat_map text pieces
-    ≡ flat_map text (take i pieces) ++ (text (get_or pieces i d) ++ flat_map text (drop (i + 1) pieces))
-split_pieces text pieces i d below =
-    ap (flat_map text) (sym (take-append-drop i pieces))
-    ∙ flat_map-append text (take i pieces) (drop i pieces)
-    ∙ ap (λ rest. flat_map text (take i pieces) ++ rest) (at_drop_more (flat_map text) pieces i d below)
-
--- all pieces below an index, and a prefix of the piece there, are a prefix of all pieces
-pub took_pieces : {P : Type 0} (text : P → List ℕ) (before between after : Option (List ℕ))
-    (pieces : List P) (i : ℕ) (d : P)
-    → i < length pieces
-    → Took before between (flat_map text (take i pieces))
-    → TookPrefix between after (text (get_or pieces i d))
-    → TookPrefix before after (flat_map text pieces)
-took_pieces text before between after pieces i d below first second =
-    let both = prefix_of_both before between after _ _ first (prefix_of_first between after _ (flat_map text (drop (i + 1) pieces)) second) in
-    rw (split_pieces text pieces i d below) both
 
 -- no count is the next one after itself
 pub rose_shows : (count : ℕ) → ¬ Rose count count

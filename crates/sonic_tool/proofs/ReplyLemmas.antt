@@ -40,6 +40,13 @@ module _ {document : List ℕ} {paths : List Path} where
       → text ≡ flat_map line_of_value values → status ≡ Done → ReportsPaths document paths text status
   report_values v q s = record { answer = spans v.entries; answers = v.answer; report = entry_lines (q ∙ lines_same v.shown) s }
 
+  -- so is a reply of those lines, if there is memory for it
+  pub report_done : {E : Type 0} (result : Result Reply E) {values : List (Option LazyValue)} → AreValues document true paths values
+      → IfOk result (λ reply. text_of reply ≡ flat_map line_of_value values) → IfOk result (λ reply. reply.status ≡ Done)
+      → IfOk result (λ reply. ReportsPaths document paths (text_of reply) reply.status)
+  report_done (Ok reply) v q s = report_values v q s
+  report_done (Err none) v q s = tt
+
   -- the line of the error is the report of the paths
   pub report_refusal : {refusal : Error} (reply : Reply) → IsRefusal document true paths refusal → IsErrorReply reply refusal
       → ReportsPaths document paths (text_of reply) reply.status

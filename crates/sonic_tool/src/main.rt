@@ -9,7 +9,7 @@ mod error_line;
 mod law;
 // Where the input comes from and the report goes.
 mod outside;
-// What is written: pieces of text, borrowed where they can be.
+// A report that is ready, and its delivery.
 mod reply;
 // The top call.
 mod run;

@@ -1,5 +1,7 @@
 //! Where the input comes from and the report goes.
 
+// A buffer before a sink.
+pub(crate) mod buffer;
 // A count of faults.
 pub mod faults;
 // The source and the sink over memory.

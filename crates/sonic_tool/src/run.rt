@@ -10,8 +10,7 @@ use crate::commands::{Command, asked_command, get};
 use crate::outside::reading::{ReadError, read_all};
 use crate::outside::sink::Sink;
 use crate::outside::source::{Failed, Source};
-use crate::outside::writing::deliver;
-use crate::reply::Reply;
+use crate::reply::{Reply, deliver};
 use crate::status::Status;
 use std::alloc::{AllocError, Global};
 use std::borrow::CowStr;
@@ -46,8 +45,9 @@ pub fn run<S: Source, K: Sink>(
     let Ok(reply) = answer(alloc, &request) else {
         return Status::NoMemory;
     };
-    match deliver(sink, &reply) {
-        Ok(()) => reply.status,
+    let status = reply.status;
+    match deliver(sink, reply) {
+        Ok(()) => status,
         Err(Failed) => Status::WriteFault,
     }
 }

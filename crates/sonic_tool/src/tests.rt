@@ -5,3 +5,4 @@ mod format;
 mod outside;
 mod paths;
 mod rows;
+mod writing;

@@ -1,5 +1,5 @@
 // What no clause says: that the calls answer the worked examples of their documents.
-use crate::{get_escaped, get_nonspace_bits, get_string_bits, prefix_xor};
+use crate::{get_escaped, get_nonspace_bits, get_string_bits, next_bit, prefix_xor};
 use std::process::Abort;
 
 #[test]
@@ -71,4 +71,14 @@ fn finds_bytes_that_are_no_space(rt: HostRuntime) {
     for byte in *b" \t\n\r" {
         assert_eq!(rt; get_nonspace_bits(&[byte; 64]), 0, "{byte}");
     }
+}
+
+#[test]
+fn finds_the_next_bit(rt: HostRuntime) {
+    assert_eq!(rt; next_bit(34, 0), Some(1));
+    assert_eq!(rt; next_bit(34, 1), Some(1));
+    assert_eq!(rt; next_bit(34, 2), Some(5));
+    assert_eq!(rt; next_bit(34, 6), None);
+    assert_eq!(rt; next_bit(0, 0), None);
+    assert_eq!(rt; next_bit(1 << 63, 63), Some(63));
 }

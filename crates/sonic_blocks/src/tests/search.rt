@@ -43,6 +43,14 @@ fn finds_the_first_of_each_kind(rt: HostRuntime) {
 }
 
 #[test]
+fn finds_all_special_bytes(rt: HostRuntime) {
+    let block = StringBlock::new(b"no escape in it\" and 16 bytes on");
+    assert_eq!(rt; block.special_bits(), 1 << 15);
+    let block = StringBlock::new(b"\\\"\x1f #[]!\x7f\x80\xa0\xffxxxxxxxxxxxxxxxxxxx\\");
+    assert_eq!(rt; block.special_bits(), 7 + (1 << 31));
+}
+
+#[test]
 fn finds_the_first_of_three_bytes(rt: HostRuntime) {
     assert_eq!(rt; first_of(b"{\"a\":1}", 2, b'"', b':', b','), Some(3));
     assert_eq!(rt; first_of(b"{\"a\":1}", 7, b'"', b':', b','), None);

@@ -48,14 +48,18 @@ fn text_of_number(alloc: Global, mut n: usize, length: u8) -> Result<Vec<u8>, Fa
 }
 
 // What the plain program finds in a text: where the value begins and ends, or its fault.
-fn plain_answer(text: &[u8], lossy: bool) -> Result<(usize, usize), Stop> {
+pub(super) fn plain_answer(text: &[u8], lossy: bool) -> Result<(usize, usize), Stop> {
     let start = skip_space(text, 0);
     let end = value_end(text, start, lossy)?;
     Ok((start, end))
 }
 
 // What the parser finds in it, with the cursor after it or at the fault.
-fn parser_answer(alloc: Global, text: &[u8], lossy: bool) -> Result<(usize, usize), Stop> {
+pub(super) fn parser_answer(
+    alloc: Global,
+    text: &[u8],
+    lossy: bool,
+) -> Result<(usize, usize), Stop> {
     let mut parser = Parser::new(Read::from(text));
     if lossy {
         parser = parser.utf8_lossy();

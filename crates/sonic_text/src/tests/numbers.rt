@@ -2,7 +2,9 @@
 ghost use Rattle.std.specs.Prelude.{length, IsTrue};
 ghost use Rattle.sonic_text.specs.Numbers.{IsNumber};
 
-use crate::{Stop, is_whitespace, literal_end, number_end, whole_i64, whole_u64};
+use crate::{
+    Stop, is_whitespace, literal_end, number_end, skip_literal, skip_number, whole_i64, whole_u64,
+};
 use sonic_error::ErrorCode;
 use std::process::Abort;
 
@@ -22,12 +24,15 @@ fn check_stop(rt: &impl Abort, text: &[u8], literal: &str, place: usize, code: E
         Err(Stop { place, code }),
         "{text:?}"
     );
+    assert_eq!(rt; skip_literal(text, 0, literal), None, "{text:?}");
 }
 
 #[test]
 fn ends_literals(rt: HostRuntime) {
     assert_eq!(rt; literal_end(b"nullx", 0, "null"), Ok(4));
     assert_eq!(rt; literal_end(b"[true", 1, "true"), Ok(5));
+    assert_eq!(rt; skip_literal(b"nullx", 0, "null"), Some(4));
+    assert_eq!(rt; skip_literal(b"[true", 1, "true"), Some(5));
     check_stop(&rt, b"nul", "null", 3, ErrorCode::EofWhileParsing);
     check_stop(&rt, b"", "false", 0, ErrorCode::EofWhileParsing);
     check_stop(&rt, b"nx", "null", 1, ErrorCode::InvalidLiteral);
@@ -36,6 +41,7 @@ fn ends_literals(rt: HostRuntime) {
 
 fn check_end(rt: &impl Abort, text: &[u8], end: usize) {
     assert_eq!(rt; number_end(text, 0), Ok(end), "{text:?}");
+    assert_eq!(rt; skip_number(text, 0), Some(end), "{text:?}");
 }
 
 #[test]
@@ -54,6 +60,7 @@ fn ends_numbers(rt: HostRuntime) {
 
 fn check_number_stop(rt: &impl Abort, text: &[u8], place: usize, code: ErrorCode) {
     assert_eq!(rt; number_end(text, 0), Err(Stop { place, code }), "{text:?}");
+    assert_eq!(rt; skip_number(text, 0), None, "{text:?}");
 }
 
 #[test]

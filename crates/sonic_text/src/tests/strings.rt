@@ -1,6 +1,6 @@
 // What no clause says: that the reader of strings answers the worked examples of its documents,
 // at every state of its escapes.
-use crate::{Stop, StringEnd, string_end};
+use crate::{Stop, StringEnd, skip_string, string_end};
 use sonic_error::ErrorCode;
 use std::process::Abort;
 
@@ -27,14 +27,25 @@ fn answer(text: &[u8], lossy: bool) -> Option<Result<StringEnd, Stop>> {
     }
 }
 
+// What the reader that tells no reason answers there.
+fn quick_end(text: &[u8], lossy: bool) -> Option<usize> {
+    if !text.is_empty() && text[0] == b'"' {
+        skip_string(text, 0, lossy)
+    } else {
+        None
+    }
+}
+
 fn check_end(rt: &impl Abort, text: &[u8], lossy: bool, end: usize, escaped: bool) {
     let wanted = Some(Ok(StringEnd { end, escaped }));
     assert_eq!(rt; answer(text, lossy), wanted, "{text:?} {lossy}");
+    assert_eq!(rt; quick_end(text, lossy), Some(end), "{text:?} {lossy}");
 }
 
 fn check_stop(rt: &impl Abort, text: &[u8], lossy: bool, place: usize, code: ErrorCode) {
     let wanted = Some(Err(Stop { place, code }));
     assert_eq!(rt; answer(text, lossy), wanted, "{text:?} {lossy}");
+    assert_eq!(rt; quick_end(text, lossy), None, "{text:?} {lossy}");
 }
 
 // The same end for both ways of reading.

@@ -12,7 +12,12 @@ fn reads_four_digits(rt: HostRuntime) {
     assert_eq!(rt; hex4(b"00e9"), Some(0xE9));
     assert_eq!(rt; hex4(b"FfFf"), Some(0xFFFF));
     assert_eq!(rt; hex4(b"00g0"), None);
-    assert_eq!(rt; hex4(b"000/"), None);
+    assert_eq!(rt; hex4(b"Abcd"), Some(0xABCD));
+    for digits in [
+        b"000/", b":000", b"0@00", b"00G0", b"`000", b"0g00", b"00\xff0",
+    ] {
+        assert_eq!(rt; hex4(digits), None, "{digits:?}");
+    }
 }
 
 fn check_utf8(rt: &impl Abort, cp: u32, bytes: &[u8]) {
@@ -117,6 +122,10 @@ fn compares_keys(rt: HostRuntime) {
         (&b"\"\\u0061b\""[..], "aa", Ordering::Greater),
         (&b"\"\\u0061b\""[..], "ac", Ordering::Less),
         (&b"\"\\u0061b\""[..], "abc", Ordering::Less),
+        (&b"\"a\\\\b\""[..], "a\\b", Ordering::Equal),
+        (&b"\"a\\\\b\""[..], "a\\\\b", Ordering::Greater),
+        (&b"\"\\u0061\""[..], "\\u0061", Ordering::Greater),
+        (&b"\"ab\\u0063d\""[..], "abc", Ordering::Greater),
         (&b"\"x\\u00e9\""[..], "x", Ordering::Greater),
         (&b"\"x\\u00e9\""[..], "x\u{c3}", Ordering::Greater),
         (&b"\"x\\u00e9\""[..], "x\u{ea}", Ordering::Less),

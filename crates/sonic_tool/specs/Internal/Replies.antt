@@ -14,14 +14,14 @@ use Rattle.sonic_tool.specs.declared.status.Status.TheVariants.{DocumentError}
 use Rattle.sonic_tool.specs.Commands.Get.{line_of_text}
 use Rattle.sonic_tool.specs.ErrorLines.{position_text, error_text}
 
--- the bytes of a report
-abbrev pub text_of : Reply → List ℕ
-text_of reply = cow_str_bytes reply.first ++ flat_map cow_str_bytes reply.rest.items
-
 -- the line of a value, or of none
 abbrev pub line_of_value : Option LazyValue → List ℕ
 line_of_value None = codes "-\n"
 line_of_value (Some value) = line_of_text (raw_bytes value)
+
+-- the bytes of a report
+abbrev pub text_of : Reply → List ℕ
+text_of reply = cow_str_bytes reply.first ++ flat_map line_of_value reply.values.items
 
 -- the report is the line of this error, and memory didn't run out
 pub record IsErrorReply (reply : Reply) (error : Error) : Type 0 where

@@ -87,7 +87,7 @@ fn read_some<S: Source>(
 }
 
 // So many zeros.
-fn zeros(alloc: Global, count: usize) -> Result<Vec<u8>, AllocError>
+pub(crate) fn zeros(alloc: Global, count: usize) -> Result<Vec<u8>, AllocError>
     ensures { IfOk result (λ row. vec_len row ≡ count) }
 {
     vec![in alloc; 0u8; count]

@@ -1,18 +1,11 @@
-use Rattle.std.proofs.Common.{◌≡◌, ℕ, true, sym, ◌∙◌, length, inl, inr, arith}
+use Rattle.std.proofs.Common.{sym, ◌∙◌, length, inl, inr, arith}
 use Rattle.std.proofs.lemmas.Bool.{cases_lt, false≢true}
-use Rattle.std.proofs.lemmas.Bool.Decides.{nat_tests}
 use Rattle.std.proofs.lemmas.List.{get_or_past}
 use Rattle.sonic_blocks.specs.Runs.{is_plain}
 use Rattle.sonic_blocks.proofs.RunLemmas.{run_passes, run_fails}
 use Rattle.sonic_text.specs.Places.{byte}
-use Rattle.sonic_text.specs.Strings.{IsUnescaped}
+use Rattle.sonic_text.proofs.ReadingLemmas.{plain_unescaped, unescaped_plain}
 use Rattle.sonic_text.proofs.string.skip_plain.Goals as goal
-
-plain_unescaped : (b : ℕ) → is_plain b ≡ true → IsUnescaped b
-plain_unescaped b h = grind (arith, nat_tests)
-
-unescaped_plain : (b : ℕ) → IsUnescaped b → is_plain b ≡ true
-unescaped_plain b h = grind (arith, nat_tests)
 
 pub returns-clause-plain : goal.returns-clause-plain
 returns-clause-plain c k from to = plain_unescaped (byte c.args.text.now k) (run_passes is_plain c.args.text.now c.args.place k from (omega (arith, c.plain_end.ensures.run)))

@@ -4,7 +4,7 @@ use Rattle.sonic_text.proofs.StringReadingLemmas.{unicode_single}
 use Rattle.sonic_text.proofs.unescape.unicode_at.Goals as goal
 
 pub hex4_at-requires : goal.hex4_at-requires
-hex4_at-requires c = hex4_within c.requires.1.2
+hex4_at-requires c = omega (arith, hex4_within c.requires.1.2)
 
 pub low_at-requires : goal.low_at-requires
 low_at-requires c = omega (arith, hex4_within c.requires.1.2)

@@ -1,0 +1,74 @@
+"""Builds the other readers of JSON. Each is a command behind the contract of the program, but jq."""
+import os
+import shutil
+import subprocess
+
+HERE = os.path.dirname(os.path.abspath(__file__))
+# Where Debian's packages librust-*-dev put the sources of crates.
+CRATES = "/usr/share/cargo/registry"
+# The peers may use all that this machine's processor has.
+OPTIMIZED = ["-O3", "-march=native", "-DNDEBUG"]
+
+
+class LeftOut(Exception):
+    """Why a peer isn't measured."""
+
+
+def tool(*names):
+    for name in names:
+        if shutil.which(name):
+            return name
+    raise LeftOut(f"no {names[0]}")
+
+
+def compiled(command, **options):
+    done = subprocess.run(command, stdout=subprocess.PIPE, stderr=subprocess.STDOUT, text=True, **options)
+    if done.returncode != 0:
+        errors = [line for line in done.stdout.splitlines() if "error" in line]
+        raise LeftOut(errors[0].strip() if errors else f"{command[0]} failed")
+
+
+def simdjson(folder):
+    out = os.path.join(folder, "simdjson")
+    source = os.path.join(HERE, "peers", "simdjson.cpp")
+    compiled([tool("c++", "g++", "clang++"), "-std=c++17", *OPTIMIZED, source, "-lsimdjson", "-o", out])
+    return out
+
+
+def serde_json(folder):
+    cargo = tool("cargo")
+    if not os.path.isdir(CRATES):
+        raise LeftOut(f"no {CRATES}")
+    # cargo writes beside the manifest, so it gets a copy.
+    project = os.path.join(folder, "serde_json.project")
+    shutil.copytree(os.path.join(HERE, "peers", "serde_json"), project, dirs_exist_ok=True)
+    source = ["--config", "source.crates-io.replace-with='debian'", "--config", f"source.debian.directory='{CRATES}'"]
+    native = {**os.environ, "RUSTFLAGS": "-C target-cpu=native"}
+    compiled([cargo, "build", "--release", "--offline", *source, "--target-dir", "target"], cwd=project, env=native)
+    return os.path.join(project, "target", "release", "serde_json_peer")
+
+
+def yyjson(folder):
+    sources = os.environ.get("YYJSON")
+    if not sources:
+        raise LeftOut("YYJSON names no folder of its sources")
+    sources = os.path.abspath(sources)
+    out = os.path.join(folder, "yyjson")
+    files = [os.path.join(HERE, "peers", "yyjson.c"), os.path.join(sources, "yyjson.c")]
+    compiled([tool("cc", "gcc", "clang"), *OPTIMIZED, f"-I{sources}", *files, "-o", out])
+    return out
+
+
+def jq(folder):
+    return tool("jq")
+
+
+def build(folder):
+    """The peers that are here, by name, and the command of each. Says which are left out, and why."""
+    commands = {}
+    for peer in (simdjson, serde_json, yyjson, jq):
+        try:
+            commands[peer.__name__] = peer(folder)
+        except LeftOut as why:
+            print(f"{peer.__name__} is left out: {why}")
+    return commands
