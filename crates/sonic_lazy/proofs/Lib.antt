@@ -1,5 +1,7 @@
 -- What the answers of a list of paths rest on: one answer, the answer of a walk, and the causes of a refusal.
 pub mod AnswerLemmas
+-- Whether a text is a valid document, and the one reason why it is none.
+pub mod DocumentLemmas
 -- Where a node leads on to, and the one outcome of a path.
 pub mod PathLemmas
 -- Which lazy values show an answer.

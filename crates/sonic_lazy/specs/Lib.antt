@@ -1,5 +1,6 @@
 pub mod Answers
 pub mod Causes
+pub mod Documents
 pub mod Internal
 pub mod Laws
 pub mod LazyValues

@@ -111,7 +111,7 @@ fn further(reach: usize, value: Option<Located>) -> usize
 }
 
 // Looks at a prefix of a text, whether it is UTF-8.
-fn check(text: &[u8], reach: usize) -> Result<(), Stop>
+pub(crate) fn check(text: &[u8], reach: usize) -> Result<(), Stop>
     requires { reach ≤ length text.now }
     ensures ok { OnOk result (IsUtf8 (take reach text.now)) }
     ensures err { IfErr result (λ s. (IsUtf8 (take reach text.now) → ⊥)

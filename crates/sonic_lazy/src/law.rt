@@ -1,9 +1,11 @@
-ghost use Rattle.std.specs.Prelude.{◌≡◌, ◌<◌, ℕ, Bool, List};
+ghost use Rattle.std.specs.Prelude.{◌≡◌, ◌<◌, ℕ, Bool, List, false};
+ghost use Rattle.std.specs.Str.{IsUtf8};
 ghost use Rattle.sonic_text.specs.declared.stop.Stop.{Stop};
 ghost use Rattle.sonic_text.specs.Documents.{IsRootFault};
 ghost use Rattle.sonic_text.specs.Paths.{Node};
 ghost use Rattle.sonic_lazy.specs.Answers.{IsAnswer};
-ghost use Rattle.sonic_lazy.specs.Laws.{ExactlyOne, MixNowhere};
+ghost use Rattle.sonic_lazy.specs.Documents.{IsValidDocument, IsInvalid};
+ghost use Rattle.sonic_lazy.specs.Laws.{ExactlyOne, HoldsOrHasOneReason, MixNowhere};
 ghost use Rattle.sonic_lazy.specs.Paths.{Evaluates, Leads, lacks, fails, cut};
 
 /// The law of paths, for every text, every place and every path: it leads to an outcome, and there
@@ -52,4 +54,14 @@ pub fn fails_at_one_place_agree()
 /// part, as the object ends before it.
 pub fn paths_have_one_answer()
     ensures { (t : List ℕ) (is_bytes : Bool) (paths : List (List Node)) → ExactlyOne (IsAnswer t is_bytes paths) }
+{}
+
+/// The law of documents, for every text, whether it came as bytes or not: it is a valid document,
+/// or it is none for exactly one reason, and never both.
+///
+/// The reason is a place and a code. So `[1] x` is none for the `x` alone, and a broken byte after
+/// that has no part in it.
+pub fn document_is_valid_or_has_one_reason()
+    ensures { (t : List ℕ) (is_bytes : Bool) → (is_bytes ≡ false → IsUtf8 t)
+        → HoldsOrHasOneReason (IsValidDocument t) (IsInvalid t is_bytes) }
 {}

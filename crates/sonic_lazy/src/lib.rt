@@ -3,9 +3,11 @@
 
 // The answer of a list of paths.
 mod answer;
+// Whether an input is a valid document.
+mod document;
 // The lazy value of a span that was found.
 mod entry;
-// The laws of outcomes and answers.
+// The laws of outcomes, answers and documents.
 mod law;
 // One value that was found in a text and isn't read yet.
 mod lazyvalue;
@@ -23,9 +25,10 @@ mod tests;
 // One walk that finds what all paths of a tree lead to.
 mod walk;
 
+pub use document::validate;
 pub use law::{
-    a_cut_is_the_root_fault, fails_at_one_place_agree, outcomes_come_before_the_fault,
-    path_has_one_outcome, paths_have_one_answer,
+    a_cut_is_the_root_fault, document_is_valid_or_has_one_reason, fails_at_one_place_agree,
+    outcomes_come_before_the_fault, path_has_one_outcome, paths_have_one_answer,
 };
 pub use lazyvalue::LazyValue;
 pub use many::get_many;

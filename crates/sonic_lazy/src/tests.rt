@@ -1,5 +1,6 @@
 // What no clause says: worked examples over each kind of input, that calls succeed where memory is
 // ample, and that the walk agrees with a plain program.
+mod document;
 mod lazyvalue;
 mod lookups;
 mod reference;

@@ -76,20 +76,18 @@ fn value(end: Option<usize>) -> Ahead
 }
 
 // The kind of container that a bracket opens.
-//
-// Both brackets are told from all other bytes first: they differ in one bit, so that this is one
-// comparison.
 #[inline(always)]
 fn kind_of(byte: u8) -> Option<Kind>
     ensures { MatchOption result ((kind : Kind) → byte ≢ opening kind) (λ kind. byte ≡ opening kind) }
 {
-    if byte != b'[' && byte != b'{' {
-        return None;
-    }
-    if byte == b'{' {
-        Some(Kind::Object)
+    if byte == b'[' || byte == b'{' {
+        Some(if byte == b'{' {
+            Kind::Object
+        } else {
+            Kind::Array
+        })
     } else {
-        Some(Kind::Array)
+        None
     }
 }
 
@@ -128,31 +126,28 @@ fn pass_items(text: &[u8], kinds: &mut [Kind], depth: usize, first: usize, lossy
 {
     let mut depth = depth;
     let mut place = first;
-    'items: loop {
+    'items: while depth < kinds.len() {
         let Some(value) = value_place(text, place, kinds[depth - 1], lossy) else {
-            let reached = Reached::Expected(place);
-            return Extent { reached, depth };
+            return Extent::new(Reached::Expected(place), depth);
         };
-        let ended = match look(text, value, lossy) {
-            Ahead::Value(end) => end,
-            Ahead::Inside(inner, first) if depth < kinds.len() => {
-                kinds[depth] = inner;
-                depth += 1;
-                place = first;
-                continue 'items;
-            }
-            _ => {
-                let reached = Reached::Expected(place);
-                return Extent { reached, depth };
-            }
+        let ahead = look(text, value, lossy);
+        if let Ahead::Inside(inner, first) = ahead {
+            kinds[depth] = inner;
+            depth += 1;
+            place = first;
+            continue 'items;
+        }
+        let Ahead::Value(ended) = ahead else {
+            return Extent::new(Reached::Expected(place), depth);
         };
         let extent = leave(text, kinds, depth, ended);
         depth = extent.depth;
         match extent.reached {
             Reached::Expected(next) => place = next,
-            reached => return Extent { reached, depth },
+            reached => return Extent::new(reached, depth),
         }
     }
+    Extent::new(Reached::Expected(place), depth)
 }
 
 // How far the items fit of the containers that are open, of the innermost of which the next one is

@@ -44,6 +44,16 @@ pub(crate) struct Extent {
     pub(crate) depth: usize,
 }
 
+impl Extent {
+    // So far, with so many containers open.
+    #[inline(always)]
+    pub(crate) fn new(reached: Reached, depth: usize) -> Extent
+        ensures { result ≡ record { reached = reached; depth = depth } }
+    {
+        Extent { reached, depth }
+    }
+}
+
 // How the innermost container that is still open goes on, after the value of an item ended at a
 // place.
 //
@@ -65,20 +75,13 @@ pub(crate) fn leave(text: &[u8], kinds: &[Kind], depth: usize, ended: usize) -> 
     let mut depth = depth;
     'containers: loop {
         match next_item(text, end, kinds[depth - 1]) {
-            Ok(Next::Item(next)) => {
-                let reached = Reached::Expected(next);
-                return Extent { reached, depth };
-            }
+            Ok(Next::Item(next)) => return Extent::new(Reached::Expected(next), depth),
             Ok(Next::End(close)) => end = close,
-            Err(_) => {
-                let reached = Reached::Ended(end);
-                return Extent { reached, depth };
-            }
+            Err(_) => return Extent::new(Reached::Ended(end), depth),
         }
         depth -= 1;
         if depth == 0 {
-            let reached = Reached::Closed(end);
-            return Extent { reached, depth };
+            return Extent::new(Reached::Closed(end), depth);
         }
     }
 }

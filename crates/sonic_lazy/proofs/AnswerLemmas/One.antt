@@ -222,7 +222,7 @@ utf8_by_test bytes true e = inl (IsUtf8-from_is_utf8 bytes e)
 utf8_by_test bytes false e = inr (λ u. let t = is_utf8-from_IsUtf8 bytes u in absurd cc)
 
 -- bytes are UTF-8 or they aren't
-utf8_or_not : (bytes : List ℕ) → IsUtf8 bytes ⊎ ¬ IsUtf8 bytes
+pub utf8_or_not : (bytes : List ℕ) → IsUtf8 bytes ⊎ ¬ IsUtf8 bytes
 utf8_or_not bytes = utf8_by_test bytes (is_utf8 bytes) refl
 
 -- what outcomes come to, over a text that came as bytes or not

@@ -9,9 +9,6 @@ use Rattle.sonic_lazy.proofs.PathLemmas.Outcome.{cut_is_fault, evaluates_one}
 use Rattle.sonic_lazy.specs.Internal.Walk.{Findings, Point, child_point, IsPath, AreFindings, IsLater, IsSettled, was_found, was_lacked, AllSettled, ComesTo, IsStopped, fails_so, cut_so, IsCause, path_stops, value_stops}
 use Rattle.sonic_lazy.specs.Paths.{found, lacks, fails, cut, LeadsOn, Evaluates}
 use Rattle.sonic_lazy.specs.Paths.Evaluates.{goes_on, cut_before}
-use Rattle.sonic_parser.specs.Faults.{IsStopFor}
-use Rattle.sonic_parser.specs.declared.fault.Fault.{Fault}
-use Rattle.sonic_parser.specs.declared.fault.Fault.TheVariants.{OutOfMemory, At}
 use Rattle.sonic_pointer.specs.Paths.{IsChildren}
 use Rattle.sonic_text.specs.Faults.{IsFault}
 use Rattle.sonic_text.specs.Paths.{Node, Path}

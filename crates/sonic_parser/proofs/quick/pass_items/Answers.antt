@@ -11,8 +11,8 @@ items-preserved-in-Inside c =
       within = c.in-Inside.ensures.1;
       some = omega arith;
       long = length-set c.items.kinds c.items.depth c.in-Inside.inner ∙ i.long;
-      room = omega (arith, length-set c.items.kinds c.items.depth c.in-Inside.inner, c.if-depth-kinds.true);
-      reached = λ root before. rw (take_more_set c.items.kinds c.items.depth c.in-Inside.inner c.if-depth-kinds.true) (item_inside (i.reached root before).1 last c.in-Some.ensures c.in-Inside.ensures);
+      room = omega (arith, length-set c.items.kinds c.items.depth c.in-Inside.inner, c.items-test.true);
+      reached = λ root before. rw (take_more_set c.items.kinds c.items.depth c.in-Inside.inner c.items-test.true) (item_inside (i.reached root before).1 last c.in-Some.ensures c.in-Inside.ensures);
     }
 
 pub items-preserved : goal.items-preserved
@@ -33,7 +33,7 @@ returns-in_default-reached c =
     let i = c.items.invariant in
     let last = top_of_first c.items.kinds c.items.depth i.some i.room in
     let left = c.leave-extent.ensures in
-    record {
+    rw c.new-in_default-reached.ensures record {
       long = i.long;
       room = omega (arith, left.fewer, i.room);
       some = left.some;

@@ -1,0 +1,118 @@
+-- Whether a text is a valid document, and the one reason why it is none.
+use Rattle.std.proofs.Common.{◌≡◌, ◌⊎◌, inl, inr, ap, ℕ, ◌<◌, ◌≤◌, List, Bool, true, false, length, take, arith, refl, sym, ◌∙◌}
+use Rattle.std.proofs.Math.Seq.{take-length}
+use Rattle.std.proofs.lemmas.Bool.{cases_lt}
+use Rattle.std.specs.Str.{IsUtf8}
+use Rattle.sonic_error.specs.Errors.{IsPlainError}
+use Rattle.sonic_error.specs.Texts.{valid_up_to}
+use Rattle.sonic_error.specs.declared.code.ErrorCode.TheVariants.{InvalidUTF8, TrailingCharacters, NoMemory}
+use Rattle.sonic_error.specs.declared.error.Error.{Error}
+use Rattle.sonic_lazy.proofs.AnswerLemmas.One.{utf8_or_not}
+use Rattle.sonic_lazy.specs.Documents.{IsAfterRoot, IsValidDocument, IsInvalid, no_root, text_after, broken_text, IsInvalidError, out_of_memory, invalid}
+use Rattle.sonic_lazy.specs.Laws.{HoldsOrHasOneReason}
+use Rattle.sonic_parser.specs.Faults.{IsStopFor, IsErrorOf}
+use Rattle.sonic_parser.specs.Parsers.{Parsing, moved, value_start, IsPassed}
+use Rattle.sonic_parser.specs.declared.fault.Fault.{Fault}
+use Rattle.sonic_parser.specs.declared.fault.Fault.TheVariants.{OutOfMemory, At}
+use Rattle.sonic_parser.specs.declared.status.ParseStatus.{ParseStatus}
+use Rattle.sonic_text.proofs.Outcomes.{value_some_outcome}
+use Rattle.sonic_text.proofs.Values.{value_end_one, value_fault_one, value_never_both}
+use Rattle.sonic_text.proofs.Within.{after_space_within, value_within}
+use Rattle.sonic_text.specs.Documents.{IsWhole}
+use Rattle.sonic_text.specs.Places.{after_space}
+use Rattle.sonic_text.specs.Strings.{strict}
+use Rattle.sonic_text.specs.declared.stop.Stop.{Stop}
+
+-- a valid document, or a reason why the text is none
+abbrev HasVerdict : List ℕ → Bool → Type 0
+HasVerdict t is_bytes = IsValidDocument t ⊎ ((s : Stop) × IsInvalid t is_bytes s)
+
+-- where nothing follows the root, UTF-8 decides
+alone_decided : {t : List ℕ} (is_bytes : Bool) → (is_bytes ≡ false → IsUtf8 t) → IsAfterRoot t (length t) → HasVerdict t is_bytes
+alone_decided false text x = inl (record { alone = x; utf8 = text refl })
+alone_decided {t} true text x = elim (utf8_or_not t) [
+  | inl u ↦ inl (record { alone = x; utf8 = u })
+  | inr n ↦ inr (record { place = valid_up_to t; code = InvalidUTF8 }, broken_text x refl n refl)
+]
+
+-- where there is a root, what follows it decides
+root_decided : {t : List ℕ} {j : ℕ} (is_bytes : Bool) → (is_bytes ≡ false → IsUtf8 t) → IsWhole t j → HasVerdict t is_bytes
+root_decided {t} {j} is_bytes text x = elim (cases_lt (after_space t j) (length t)) [
+  | inl l ↦ inr (record { place = after_space t j; code = TrailingCharacters }, text_after (record { end = j; root = x; place = refl }) l refl)
+  | inr l ↦ (let within = after_space_within t j (value_within x) in alone_decided is_bytes text (record { end = j; root = x; place = omega (arith, l, within) }))
+]
+
+-- each text is decided
+decided : (t : List ℕ) (is_bytes : Bool) → (is_bytes ≡ false → IsUtf8 t) → HasVerdict t is_bytes
+decided t is_bytes text = elim (value_some_outcome strict t (after_space t 0)) [
+  | inl x ↦ root_decided is_bytes text x.1
+  | inr f ↦ inr (f.0, no_root f.1)
+]
+
+-- one place comes after the root
+after_one : {t : List ℕ} {p q : ℕ} → IsAfterRoot t p → IsAfterRoot t q → p ≡ q
+after_one {t} x y = sym x.place ∙ (ap (after_space t) (value_end_one x.root y.root) ∙ y.place)
+
+-- it is the end, or text is there
+alone_or_after : {t : List ℕ} {p : ℕ} → IsAfterRoot t (length t) → IsAfterRoot t p → p < length t → ⊥
+alone_or_after x y l = let e = after_one x y in omega (arith, e, l)
+
+-- a text has one reason
+reason_one : {t : List ℕ} {is_bytes : Bool} {s r : Stop} → IsInvalid t is_bytes s → IsInvalid t is_bytes r → s ≡ r
+reason_one (no_root f) (no_root g) = value_fault_one f g
+reason_one (no_root f) (text_after y l e) = absurd (value_never_both y.root f)
+reason_one (no_root f) (broken_text y b n e) = absurd (value_never_both y.root f)
+reason_one (text_after x l e) (no_root g) = absurd (value_never_both x.root g)
+reason_one (text_after x l e) (text_after y m f) = rw (e, f, after_one x y) refl
+reason_one (text_after x l e) (broken_text y b n f) = absurd (alone_or_after y x l)
+reason_one (broken_text x b n e) (no_root g) = absurd (value_never_both x.root g)
+reason_one (broken_text x b n e) (text_after y l f) = absurd (alone_or_after x y l)
+reason_one (broken_text x b n e) (broken_text y c m f) = e ∙ sym f
+
+-- and a valid document has none
+never_invalid : {t : List ℕ} {is_bytes : Bool} {s : Stop} → IsValidDocument t → IsInvalid t is_bytes s → ⊥
+never_invalid x (no_root f) = value_never_both x.alone.root f
+never_invalid x (text_after y l e) = alone_or_after x.alone y l
+never_invalid x (broken_text y b n e) = n x.utf8
+
+-- so each text is valid or has one reason
+pub document_one : (t : List ℕ) (is_bytes : Bool) → (is_bytes ≡ false → IsUtf8 t) → HoldsOrHasOneReason (IsValidDocument t) (IsInvalid t is_bytes)
+document_one t is_bytes text = record {
+  some_reason = decided t is_bytes text;
+  one_reason = λ s r x y. reason_one x y;
+  never_both = λ s x y. never_invalid x y;
+}
+
+-- a parser that skipped the root, and then white space, has come after it
+pub after_root : {t : List ℕ} {p q r s : Parsing} {needs : ParseStatus} → p.text ≡ t → p.place ≡ 0 → p.lossy ≡ false → q ≡ moved p (value_start p)
+    → IsPassed q r needs → r ≡ moved q r.place → s ≡ moved r (value_start r) → IsAfterRoot t s.place
+after_root {t} {p} {q} {r} {s} text start lossy first passed kept last =
+    let same : q.text ≡ t = ap (λ (x : Parsing). x.text) first ∙ text in
+    let later : r.text ≡ t = ap (λ (x : Parsing). x.text) kept ∙ same in
+    let place : q.place ≡ after_space t 0 = ap (λ (x : Parsing). x.place) first ∙ rw (text, start) refl in
+    let way : q.lossy ≡ false = ap (λ (x : Parsing). x.lossy) first ∙ lossy in
+    record {
+      end = r.place;
+      root = rw (way, same, place) at passed.value;
+      place = sym (ap (λ (x : Parsing). x.place) last ∙ rw later refl);
+    }
+
+-- where no text follows the root, the end does
+pub alone_after : {t : List ℕ} {p : ℕ} → IsAfterRoot t p → length t ≤ p → p ≤ length t → IsAfterRoot t (length t)
+alone_after {t} {p} x l within = let e : p ≡ length t = omega (arith, l, within) in rw e at x
+
+-- broken bytes are the reason
+pub reason_broken : {t : List ℕ} {is_bytes : Bool} {s : Stop} → IsAfterRoot t (length t) → is_bytes ≡ true → ¬ IsUtf8 (take (length t) t)
+    → s ≡ record { place = valid_up_to (take (length t) t); code = InvalidUTF8 } → IsInvalid t is_bytes s
+reason_broken {t} x b n e = let whole = take-length t in broken_text x b (rw whole at n) (rw whole at e)
+
+-- the error of a fault says why
+pub invalid_error : {t : List ℕ} {is_bytes : Bool} {e : Error} (fault : Fault) → IsStopFor (IsInvalid t is_bytes) fault → IsErrorOf t fault e
+    → IsInvalidError t is_bytes e
+invalid_error OutOfMemory h e = out_of_memory e
+invalid_error (At s) h e = invalid s h e
+
+-- and of a valid document there is none but running out of memory
+pub valid_but_memory : {t : List ℕ} {is_bytes : Bool} {e : Error} → IsValidDocument t → IsInvalidError t is_bytes e → IsPlainError e NoMemory
+valid_but_memory x (out_of_memory e) = e
+valid_but_memory x (invalid s h e) = absurd (never_invalid x h)

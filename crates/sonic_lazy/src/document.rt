@@ -1,0 +1,73 @@
+// Whether an input is one value with white space round it, in UTF-8.
+ghost use Rattle.std.specs.Prelude.{◌≡◌, ◌≤◌, false, length, IfOk, IfErr, OnOk};
+ghost use Rattle.std.specs.Str.{IsUtf8};
+ghost use Rattle.sonic_error.specs.Errors.{IsPlainError};
+ghost use Rattle.sonic_text.specs.Documents.{IsRootFault};
+ghost use Rattle.sonic_parser.specs.Faults.{IsStopFor};
+ghost use Rattle.sonic_lazy.specs.Documents.{IsAfterRoot, IsValidDocument, IsInvalid, IsInvalidError};
+
+use crate::answer::check;
+use sonic_error::{Error, ErrorCode};
+use sonic_input::{JsonInput, Read};
+use sonic_parser::{Fault, Parser};
+use sonic_text::Stop;
+use std::alloc::Global;
+
+// Passes the root and the white space after it, and gives the place after these.
+fn pass_root(alloc: Global, read: Read<'_>) -> Result<usize, Fault>
+    requires { read.place ≡ 0 }
+    ensures ok { IfOk result (IsAfterRoot read.entry.text) }
+    ensures inside { IfOk result (λ place. place ≤ length read.entry.text) }
+    ensures err { IfErr result (IsStopFor (IsRootFault read.entry.text)) }
+    ensures within { IfErr result (IsStopFor (λ s. s.place ≤ length read.entry.text)) }
+{
+    let mut parser = Parser::new(read);
+    parser.skip_space_peek();
+    parser.skip_value(alloc)?;
+    parser.skip_space_peek();
+    Ok(parser.offset())
+}
+
+// Passes a whole document, or stops at the reason why the text is none.
+fn pass_document(alloc: Global, read: Read<'_>, is_bytes: bool) -> Result<(), Fault>
+    requires start { read.place ≡ 0 }
+    requires utf8 { is_bytes ≡ false → IsUtf8 read.text }
+    ensures ok { OnOk result (IsValidDocument read.entry.text) }
+    ensures err { IfErr result (IsStopFor (IsInvalid read.entry.text is_bytes)) }
+    ensures within { IfErr result (IsStopFor (λ s. s.place ≤ length read.entry.text)) }
+{
+    let text = read.as_u8_slice();
+    let place = pass_root(alloc, read)?;
+    if place < text.len() {
+        let code = ErrorCode::TrailingCharacters;
+        return Err(Fault::At(Stop { place, code }));
+    }
+    if is_bytes {
+        check(text, text.len())?;
+    }
+    Ok(())
+}
+
+/// Whether an input is a valid document (RFC 8259, sections 2 and 8.1): one value with nothing but
+/// white space round it, in UTF-8.
+///
+/// Else the error is the first of these: the fault of the value; `ErrorCode::TrailingCharacters` at
+/// the first byte after it that is no white space; and, for `&[u8]` and `&Bytes`,
+/// `ErrorCode::InvalidUTF8` at the first broken place of the whole input. Running out of memory is
+/// `ErrorCode::NoMemory` without a place.
+///
+/// ` [1, 2] ` is valid, and of `[1] x` the error has the offset 4.
+pub fn validate<'de, I: JsonInput<'de>>(alloc: Global, json: I) -> Result<(), Error>
+    ensures ok { OnOk result (IsValidDocument (I.JsonInput.content json)) }
+    ensures err { IfErr result (λ error.
+        IsInvalidError (I.JsonInput.content json) I.JsonInput.is_bytes error) }
+    ensures complete { IsValidDocument (I.JsonInput.content json)
+        → IfErr result (λ error. IsPlainError error ErrorCode.NoMemory) }
+{
+    let text = json.to_u8_slice();
+    let read = Read::unscanned(json.to_json_slice());
+    match pass_document(alloc, read, json.need_utf8_valid()) {
+        Ok(()) => Ok(()),
+        Err(fault) => Err(fault.error(text)),
+    }
+}
