@@ -2,6 +2,8 @@
 pub mod AnswerLemmas
 -- Whether a text is a valid document, and the one reason why it is none.
 pub mod DocumentLemmas
+-- What one path alone comes to, and where it stops.
+pub mod GetLemmas
 -- Where a node leads on to, and the one outcome of a path.
 pub mod PathLemmas
 -- Which lazy values show an answer.

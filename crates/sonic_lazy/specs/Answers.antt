@@ -1,7 +1,7 @@
 -- What a list of paths is answered. Each path is read by itself, and the nearest place decides.
 use Rattle.std.specs.Prelude.{◌≡◌, ℕ, ◌<◌, ◌≤◌, Bool, true, List, [], ◌∷◌, Option, Some, None, Contains, map, take}
 use Rattle.std.specs.Str.{IsUtf8}
-use Rattle.sonic_error.specs.declared.code.ErrorCode.TheVariants.{InvalidUTF8}
+use Rattle.sonic_error.specs.declared.code.ErrorCode.TheVariants.{InvalidUTF8, GetUnknownKeyInObject}
 use Rattle.sonic_error.specs.Texts.{valid_up_to}
 use Rattle.sonic_text.specs.declared.stop.Stop.{Stop}
 use Rattle.sonic_text.specs.Documents.{IsWhole, IsRootFault}
@@ -74,3 +74,22 @@ pub record IsAnswer (t : List ℕ) (is_bytes : Bool) (paths : List Path) (a : An
   pub outcomes : List Outcome
   pub lead : AllLead t paths outcomes
   pub come_to : ComeTo t is_bytes outcomes a
+
+-- what the outcome of one path alone comes to, over the text, which came as bytes that may be no UTF-8 or not
+pub data ComesToAlone (t : List ℕ) (is_bytes : Bool) : Outcome → Answer → Type 0 where
+  -- the span of its value, up to whose end the text is UTF-8
+  value_found : {i j : ℕ} → (is_bytes ≡ true → IsUtf8 (take j t)) → ComesToAlone t is_bytes (found i j) (spans (Some (i, j) ∷ []))
+  -- or the first place where that is broken
+  value_broken : {i j : ℕ} {s : Stop} → is_bytes ≡ true → ¬ IsUtf8 (take j t) → s ≡ record { place = valid_up_to (take j t); code = InvalidUTF8 }
+      → ComesToAlone t is_bytes (found i j) (error s)
+  -- the closing brace of the object that lacks its key
+  key_lacked : {q : ℕ} {s : Stop} → s ≡ record { place = q; code = GetUnknownKeyInObject } → ComesToAlone t is_bytes (lacks q) (error s)
+  -- where it fails, or the fault that cuts it
+  path_failed : {s : Stop} → ComesToAlone t is_bytes (fails s) (error s)
+  path_cut : {s : Stop} → ComesToAlone t is_bytes (cut s) (error s)
+
+-- the answer of one path alone
+pub record IsGetAnswer (t : List ℕ) (is_bytes : Bool) (path : Path) (a : Answer) : Type 0 where
+  pub outcome : Outcome
+  pub leads : Leads t path outcome
+  pub come_to : ComesToAlone t is_bytes outcome a

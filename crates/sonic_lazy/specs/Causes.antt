@@ -1,12 +1,12 @@
 -- When a list of paths is answered with spans, and what an error says otherwise.
-use Rattle.std.specs.Prelude.{◌≡◌, ℕ, Bool, true, List, [], take}
+use Rattle.std.specs.Prelude.{◌≡◌, ℕ, Bool, true, List, [], ◌∷◌, Some, take}
 use Rattle.std.specs.Str.{IsUtf8}
 use Rattle.sonic_error.specs.declared.error.Error.{Error}
 use Rattle.sonic_error.specs.declared.code.ErrorCode.TheVariants.{NoMemory}
 use Rattle.sonic_error.specs.Errors.{IsErrorAt, IsPlainError}
 use Rattle.sonic_text.specs.declared.stop.Stop.{Stop}
 use Rattle.sonic_text.specs.Paths.{Path}
-use Rattle.sonic_lazy.specs.Answers.{Answer, IsAnswer, AllLead, NoneFails, NoneCut, IsReach}
+use Rattle.sonic_lazy.specs.Answers.{Answer, IsAnswer, IsGetAnswer, AllLead, NoneFails, NoneCut, IsReach}
 use Rattle.sonic_lazy.specs.Paths.{Outcome}
 
 -- each path finds a value or lacks its key, the text is whole if one does, and it is UTF-8 as far as it is needed
@@ -19,3 +19,14 @@ pub data IsAnswerable (t : List ℕ) (is_bytes : Bool) (paths : List Path) : Typ
 pub data IsRefusal (t : List ℕ) (is_bytes : Bool) (paths : List Path) (e : Error) : Type 0 where
   out_of_memory : IsPlainError e NoMemory → IsRefusal t is_bytes paths e
   answered : (s : Stop) → IsAnswer t is_bytes paths (Answer.error s) → IsErrorAt e s.code t s.place → IsRefusal t is_bytes paths e
+
+-- there is no memory, or the error is the answer of the path
+pub data IsGetRefusal (t : List ℕ) (is_bytes : Bool) (path : Path) (e : Error) : Type 0 where
+  no_memory : IsPlainError e NoMemory → IsGetRefusal t is_bytes path e
+  refused : (s : Stop) → IsGetAnswer t is_bytes path (Answer.error s) → IsErrorAt e s.code t s.place → IsGetRefusal t is_bytes path e
+
+-- the path finds a value, up to whose end the text is UTF-8
+pub record IsGettable (t : List ℕ) (is_bytes : Bool) (path : Path) : Type 0 where
+  pub start : ℕ
+  pub end : ℕ
+  pub answer : IsGetAnswer t is_bytes path (Answer.spans (Some (start, end) ∷ []))

@@ -4,7 +4,7 @@ use Rattle.std.specs.declared.option.Option.{Option}
 use Rattle.std.specs.declared.option.Option.TheVariants.{Some, None}
 use Rattle.sonic_text.specs.Paths.{Path}
 use Rattle.sonic_lazy.specs.declared.lazyvalue.LazyValue.{LazyValue}
-use Rattle.sonic_lazy.specs.Answers.{Span, IsAnswer, spans}
+use Rattle.sonic_lazy.specs.Answers.{Span, IsAnswer, IsGetAnswer, spans}
 use Rattle.sonic_lazy.specs.LazyValues.{raw_bytes}
 
 -- the value shows the span, or none shows none
@@ -31,3 +31,10 @@ span_text t span = slice_range t span.0 span.1
 -- the values have the texts of the spans, one by one, and there is none where there is no span
 abbrev pub HaveTexts : List ℕ → List (Option LazyValue) → List (Option Span) → Type 0
 HaveTexts t values entries = map (option_map raw_bytes) values ≡ map (option_map (span_text t)) entries
+
+-- the value is the answer of the path
+pub record IsValueOf (t : List ℕ) (is_bytes : Bool) (path : Path) (value : LazyValue) : Type 0 where
+  pub start : ℕ
+  pub end : ℕ
+  pub answer : IsGetAnswer t is_bytes path (spans (Some (start, end) ∷ []))
+  pub shown : raw_bytes value ≡ slice_range t start end

@@ -3,7 +3,7 @@ ghost use Rattle.std.specs.Str.{IsUtf8};
 ghost use Rattle.sonic_text.specs.declared.stop.Stop.{Stop};
 ghost use Rattle.sonic_text.specs.Documents.{IsRootFault};
 ghost use Rattle.sonic_text.specs.Paths.{Node};
-ghost use Rattle.sonic_lazy.specs.Answers.{IsAnswer};
+ghost use Rattle.sonic_lazy.specs.Answers.{IsAnswer, IsGetAnswer};
 ghost use Rattle.sonic_lazy.specs.Documents.{IsValidDocument, IsInvalid};
 ghost use Rattle.sonic_lazy.specs.Laws.{ExactlyOne, HoldsOrHasOneReason, MixNowhere};
 ghost use Rattle.sonic_lazy.specs.Paths.{Evaluates, Leads, lacks, fails, cut};
@@ -54,6 +54,14 @@ pub fn fails_at_one_place_agree()
 /// part, as the object ends before it.
 pub fn paths_have_one_answer()
     ensures { (t : List ℕ) (is_bytes : Bool) (paths : List (List Node)) → ExactlyOne (IsAnswer t is_bytes paths) }
+{}
+
+/// The law of the answer of one path, for every text, whether it came as bytes or not, and every
+/// path: it has an answer, and no other.
+///
+/// So `["b"]` over `{"a":1}x` is answered by the lack of the key, at the closing brace.
+pub fn path_has_one_answer()
+    ensures { (t : List ℕ) (is_bytes : Bool) (path : List Node) → ExactlyOne (IsGetAnswer t is_bytes path) }
 {}
 
 /// The law of documents, for every text, whether it came as bytes or not: it is a valid document,

@@ -15,6 +15,8 @@ mod lazyvalue;
 mod located;
 // What many paths find in an input.
 mod many;
+// What one path finds in an input, without a tree.
+mod one;
 // Which children of a prefix of the tree were visited.
 mod visited;
 // What a walk has come to, and its steps through the text.
@@ -28,7 +30,9 @@ mod walk;
 pub use document::validate;
 pub use law::{
     a_cut_is_the_root_fault, document_is_valid_or_has_one_reason, fails_at_one_place_agree,
-    outcomes_come_before_the_fault, path_has_one_outcome, paths_have_one_answer,
+    outcomes_come_before_the_fault, path_has_one_answer, path_has_one_outcome,
+    paths_have_one_answer,
 };
 pub use lazyvalue::LazyValue;
 pub use many::get_many;
+pub use one::get;

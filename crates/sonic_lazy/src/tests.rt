@@ -3,4 +3,5 @@
 mod document;
 mod lazyvalue;
 mod lookups;
+mod one;
 mod reference;

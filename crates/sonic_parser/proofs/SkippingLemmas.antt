@@ -1,13 +1,16 @@
 -- The steps of the loop that skips a container: what is known before a step and what the step found give what is known after it.
-use Rattle.std.proofs.Common.{◌≡◌, ◌≢◌, ◌∙◌, sym, ℕ, ◌+◌, ◌-◌, ◌<◌, ◌≤◌, Bool, List, [], ◌∷◌, ◌++◌, length, take, get_or, arith, refl}
+use Rattle.std.proofs.Common.{◌≡◌, ◌≢◌, ◌∙◌, sym, ℕ, ◌+◌, ◌-◌, ◌<◌, ◌≤◌, Bool, List, [], ◌∷◌, ◌++◌, zero, suc, length, take, get_or, replicate, arith, refl}
 use Rattle.std.proofs.Math.Seq.{get_or-append_seam, take-append_seam}
-use Rattle.std.proofs.lemmas.List.{length-append, length-take, get_or-take, get_or_default, take-take, take_all}
-use Rattle.std.specs.Prelude.{Option}
+use Rattle.std.proofs.lemmas.List.{append-nil, append_assoc, length-append, length-take, get_or-take, get_or_default, take-take, take_all}
+use Rattle.std.proofs.lemmas.List.Sums.{prefix_len-drop_no}
+use Rattle.std.specs.Prelude.{Option, None}
 use Rattle.sonic_text.specs.declared.kind.Kind.{Kind}
 use Rattle.sonic_text.specs.declared.kind.Kind.TheVariants.{Array, Object}
 use Rattle.sonic_text.specs.declared.stop.Stop.{Stop}
-use Rattle.sonic_text.specs.Values.{ItemHead, IsValue, ItemsFit, next_item, filled}
+use Rattle.sonic_text.specs.Places.{byte, is_space, after_space}
+use Rattle.sonic_text.specs.Values.{ItemHead, no_head, IsValue, ItemsFit, first_item, next_item, filled}
 use Rattle.sonic_text.specs.Faults.{IsFault, in_key, in_value, after_item}
+use Rattle.sonic_text.proofs.Places.{byte_within}
 use Rattle.sonic_parser.specs.declared.begin.Begun.TheVariants.{Inside}
 use Rattle.sonic_parser.specs.declared.begin.Skipped.{Skipped}
 use Rattle.sonic_parser.specs.declared.container.Next.TheVariants.{Item, End}
@@ -93,6 +96,36 @@ item_inside {v = v} {kinds = kinds} {inner = inner} d last y b = (
   b.1,
   record { kind = inner; p = v; n = 0; outer = kinds; around = inside d.around d.fit (head_top d last y).1 d.kinds_are; fit = b.2; kinds_are = refl },
 )
+
+-- a bracket is no white space
+bracket_stays : (t : List ℕ) (q : ℕ) → byte t q ≡ 91 → after_space t q ≡ q
+bracket_stays t q e =
+    let inside : q < length t = byte_within t q (λ z. omega (arith, e, z)) in
+    omega (arith, prefix_len-drop_no is_space t q 0 inside (rw e refl))
+
+-- the kind that was added is the last
+added_top : (kinds : List Kind) (kind : Kind) → IsTop (kinds ++ kind ∷ []) kind
+added_top kinds kind =
+    let n : length (kinds ++ kind ∷ []) - 1 ≡ length kinds = omega (arith, length-append kinds (kind ∷ [])) in
+    rw n (get_or-append_seam kinds kind [] kind)
+
+-- arrays one directly inside the other where an item of an array is expected
+pub arrays_inside : {m : Bool} {t : List ℕ} {i : ℕ} (n p : ℕ) (kinds : List Kind) → ((k : ℕ) → k ≤ n → byte t (p + k) ≡ 91) → IsTop kinds Array
+    → IsReached m t i kinds (Expected p) → IsReached m t i (kinds ++ replicate n Array) (Expected (p + n)) × IsTop (kinds ++ replicate n Array) Array
+arrays_inside zero p kinds brackets last r =
+    let same : p + 0 ≡ p = omega arith in
+    (rw (append-nil kinds, same) r, rw (append-nil kinds) last)
+arrays_inside {m} {t} {i} (suc n) p kinds brackets last r =
+    let first : p + 0 ≡ p = omega arith in
+    let opens : byte t p ≡ 91 = rw first at (brackets 0 (omega arith)) in
+    let next : byte t (p + 1) ≡ 91 = brackets 1 (omega arith) in
+    let fit : ItemsFit m t Array p 0 (p + 1) = first_item opens (sym (bracket_stays t (p + 1) next)) (λ e. omega (arith, e, next)) refl in
+    let within : p < length t = byte_within t p (λ z. omega (arith, opens, z)) in
+    let item : IsItem m t Array p p = record { later = omega arith; within = r.0; label = None; head = no_head refl } in
+    let one : IsReached m t i (kinds ++ Array ∷ []) (Expected (p + 1)) = item_inside r.1 last item (omega arith, omega arith, fit) in
+    let more = arrays_inside n (p + 1) (kinds ++ Array ∷ []) (λ k l. let place : p + 1 + k ≡ p + (k + 1) = omega arith in rw place (brackets (k + 1) (omega (arith, l)))) (added_top kinds Array) one in
+    let sum : p + 1 + n ≡ p + suc n = omega arith in
+    rw (append_assoc kinds (Array ∷ []) (replicate n Array), sum) at more
 
 -- after a comma the next item is expected
 pub next_expected : {m : Bool} {t : List ℕ} {i e h : ℕ} {kinds : List Kind} (kind : Kind) → IsItemEnded m t i kinds e → IsNext t kind e (Item h)

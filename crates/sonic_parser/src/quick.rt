@@ -1,11 +1,11 @@
 // The loop over the items of a container that fit, in registers.
 //
 // It finds no fault: where an item doesn't fit, it says how far it came, and `skip` goes on there.
-ghost use Rattle.std.specs.Prelude.{◌≡◌, ◌≢◌, ◌<◌, ◌≤◌, ℕ, Bool, length, take, vec_len, IfSome, MatchOption};
+ghost use Rattle.std.specs.Prelude.{◌≡◌, ◌≢◌, ◌+◌, ◌<◌, ◌≤◌, ℕ, Bool, true, length, take, vec_len, IfSome, MatchOption};
 ghost use Rattle.sonic_text.specs.declared.kind.Kind.{Kind};
 ghost use Rattle.sonic_text.specs.Places.{byte};
 ghost use Rattle.sonic_text.specs.Values.{opening};
-ghost use Rattle.sonic_parser.specs.Skipping.{IsItem, IsAhead, IsValueEnd, IsReached, IsOngoing, place_of};
+ghost use Rattle.sonic_parser.specs.Skipping.{IsItem, IsAhead, IsTop, IsValueEnd, IsReached, IsOngoing, place_of};
 
 use crate::container::{Next, first_item, skip_key};
 use crate::skip::{Extent, Reached, leave};
@@ -107,6 +107,76 @@ fn look(text: &[u8], place: usize, lossy: bool) -> Ahead
     value(scalar_end(text, place, lossy))
 }
 
+// Whether an array is the first item of the array that is open, and has an array for its own.
+#[inline(always)]
+fn is_nested(text: &[u8], kinds: &[Kind], depth: usize, place: usize) -> bool
+    requires some { 0 < depth }
+    requires room { depth ≤ length kinds.now }
+    ensures { result ≡ true → (depth < length kinds.now) × IsTop (take depth kinds.now) Kind.Array
+        × (byte text.now place ≡ opening Kind.Array) }
+{
+    depth < kinds.len()
+        && matches!(kinds[depth - 1], Kind::Array)
+        && byte_at(text, place) == b'['
+        && byte_at(text, place + 1) == b'['
+}
+
+// How many arrays begin at a place, one directly inside the other, each with an array for its first
+// item; at most so many.
+fn nested_arrays(text: &[u8], place: usize, most: usize) -> usize
+    requires { byte text.now place ≡ opening Kind.Array }
+    ensures few { result ≤ most }
+    ensures nested { (k : ℕ) → k ≤ result → byte text.now (place + k) ≡ opening Kind.Array }
+{
+    let limit = most.min(text.len() - place - 1);
+    let mut count = 0;
+    while count < limit && text[place + count + 1] == b'[' {
+        count += 1;
+    }
+    count
+}
+
+// Opens the arrays that begin one directly inside the other where an item of an array is expected:
+// how many. One place of the room stays free.
+#[inline(never)]
+fn open_nested(text: &[u8], kinds: &mut [Kind], depth: usize, place: usize) -> usize
+    requires bracket { byte text.now place ≡ opening Kind.Array }
+    requires room { depth < length kinds.old }
+    ensures long { length kinds.new ≡ length kinds.old }
+    ensures room { depth + result < length kinds.new }
+    ensures within { place + result ≤ length text.now }
+    ensures reached { (m : Bool) (root : ℕ) → IsTop (take depth kinds.old) Kind.Array
+        → IsReached m text.now root (take depth kinds.old) (Reached.Expected place)
+        → IsReached m text.now root (take (depth + result) kinds.new) (Reached.Expected (place + result)) }
+{
+    let count = nested_arrays(text, place, kinds.len() - depth - 1);
+    kinds[depth..depth + count].fill(Kind::Array);
+    count
+}
+
+// The same, where arrays begin so; else it opens none.
+//
+// Brackets one after the other are the one thing of which a text can have as many as it has bytes,
+// so they are counted first, and their kinds written in one piece.
+#[inline(always)]
+fn open_arrays(text: &[u8], kinds: &mut [Kind], depth: usize, place: usize) -> usize
+    requires some { 0 < depth }
+    requires room { depth ≤ length kinds.old }
+    requires inside { place ≤ length text.now }
+    ensures long { length kinds.new ≡ length kinds.old }
+    ensures room { depth + result ≤ length kinds.new }
+    ensures within { place + result ≤ length text.now }
+    ensures reached { (m : Bool) (root : ℕ)
+        → IsReached m text.now root (take depth kinds.old) (Reached.Expected place)
+        → IsReached m text.now root (take (depth + result) kinds.new) (Reached.Expected (place + result)) }
+{
+    if is_nested(text, kinds, depth, place) {
+        open_nested(text, kinds, depth, place)
+    } else {
+        0
+    }
+}
+
 // How far the items fit of the open containers, of the innermost of which the next one is expected
 // at a place, while there is room for the kinds of those that are open.
 //
@@ -135,6 +205,9 @@ fn pass_items(text: &[u8], kinds: &mut [Kind], depth: usize, first: usize, lossy
             kinds[depth] = inner;
             depth += 1;
             place = first;
+            let count = open_arrays(text, kinds, depth, place);
+            depth += count;
+            place += count;
             continue 'items;
         }
         let Ahead::Value(ended) = ahead else {

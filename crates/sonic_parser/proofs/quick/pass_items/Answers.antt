@@ -7,12 +7,14 @@ pub items-preserved-in-Inside : goal.items-preserved-in-Inside
 items-preserved-in-Inside c =
     let i = c.items.invariant in
     let last = top_of_first c.items.kinds c.items.depth i.some i.room in
+    let opened = c.open_arrays-count.ensures in
     record {
-      within = c.in-Inside.ensures.1;
+      within = opened.within;
       some = omega arith;
-      long = length-set c.items.kinds c.items.depth c.in-Inside.inner ∙ i.long;
-      room = omega (arith, length-set c.items.kinds c.items.depth c.in-Inside.inner, c.items-test.true);
-      reached = λ root before. rw (take_more_set c.items.kinds c.items.depth c.in-Inside.inner c.items-test.true) (item_inside (i.reached root before).1 last c.in-Some.ensures c.in-Inside.ensures);
+      long = opened.long ∙ length-set c.items.kinds c.items.depth c.in-Inside.inner ∙ i.long;
+      room = opened.room;
+      reached = λ root before.
+          opened.reached c.args.lossy root (rw (take_more_set c.items.kinds c.items.depth c.in-Inside.inner c.items-test.true) (item_inside (i.reached root before).1 last c.in-Some.ensures c.in-Inside.ensures));
     }
 
 pub items-preserved : goal.items-preserved
