@@ -1,4 +1,4 @@
-"""Measures the commands on the documents: measure.py PROGRAM FOLDER RUNS
+"""Measures the commands on the documents: measure.py PROGRAM FOLDER RUNS [EXAMPLES]
 
 Each command reads the file of a document as its standard input, with nothing between: what counts is
 the processor time of that process alone, the user's and the system's. The commands take turns, so
@@ -19,6 +19,10 @@ import documents
 import peers
 
 OURS = "ours"
+# The calls of the library that look one path up, and the documents in which they do, near the end of
+# the first and near the start of the second.
+CALLS = ["get", "get_unchecked"]
+CALLED = ["records", "start", "strings", "200-deep"]
 # Bytes of memory that a command may take: jq would take all for many arrays, and ends with an error.
 MOST_MEMORY = 4 * 10**9
 
@@ -138,13 +142,32 @@ def measure(name, folder, program, others, runs):
         print(row + (f" {ratio(ours, it):>10}" if it.name in others else ""), flush=True)
 
 
+def measure_calls(name, folder, examples, runs):
+    """One look-up by a call of the library: what ten more of them take, in a document that was read."""
+    path = documents.path_of(folder, name)
+    paths, start = head_of(path)
+    words = [str(step) for step in paths[0]]
+    for call in CALLS:
+        once, more = (Command(call, [examples, call, times, *words], start, reports=False) for times in ("1", "11"))
+        for _ in range(runs):
+            once.count(path)
+            more.count(path)
+        size = os.path.getsize(path) / 10**6
+        print(f"{name:9} {size:4.0f} {call:13} {(more.seconds - once.seconds) / 10:7.4f}", flush=True)
+
+
 def main():
     program, folder, runs = sys.argv[1], sys.argv[2], int(sys.argv[3])
+    examples = sys.argv[4] if len(sys.argv) > 4 else None
     others = peers.build(folder)
     resource.setrlimit(resource.RLIMIT_AS, (MOST_MEMORY, MOST_MEMORY))
     print(f"{'document':9} {'MB':>4} {'command':11} {'cpu s':>7} {'to cat':>7} {'peak MB':>8} {'status':>7} {'report':>8} {'ours to it':>10}")
     for name in documents.DOCUMENTS:
         measure(name, folder, program, others, runs)
+    if examples:
+        print(f"{'document':9} {'MB':>4} {'call':13} {'cpu s':>7}")
+        for name in CALLED:
+            measure_calls(name, folder, examples, runs)
 
 
 main()

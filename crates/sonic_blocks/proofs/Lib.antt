@@ -1,7 +1,8 @@
-mod BoolLemmas
+pub mod BoolLemmas
 mod BitLemmas
 mod CountLemmas
 mod SumLemmas
+pub mod OutsideLemmas
 mod ParityLemmas
 mod EscapeLemmas
 mod InsideLemmas

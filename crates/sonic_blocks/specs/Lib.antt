@@ -1,4 +1,5 @@
 pub mod Bits
 pub mod Firsts
+pub mod Outside
 pub mod Runs
 pub mod StringBlocks

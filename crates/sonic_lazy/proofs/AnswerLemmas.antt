@@ -5,3 +5,5 @@ pub mod One
 pub mod Walk
 -- the spans of an answer, and the causes of a refusal
 pub mod Cause
+-- where they are those of each path alone
+pub mod Agree

@@ -8,6 +8,7 @@ use Rattle.sonic_error.specs.Texts.{valid_up_to}
 use Rattle.sonic_error.specs.declared.code.ErrorCode.TheVariants.{InvalidUTF8, TrailingCharacters, NoMemory}
 use Rattle.sonic_error.specs.declared.error.Error.{Error}
 use Rattle.sonic_lazy.proofs.AnswerLemmas.One.{utf8_or_not}
+use Rattle.sonic_lazy.proofs.WholeLemmas.{utf8_up_to}
 use Rattle.sonic_lazy.specs.Documents.{IsAfterRoot, IsValidDocument, IsInvalid, no_root, text_after, broken_text, IsInvalidError, out_of_memory, invalid}
 use Rattle.sonic_lazy.specs.Laws.{HoldsOrHasOneReason}
 use Rattle.sonic_parser.specs.Faults.{IsStopFor, IsErrorOf}
@@ -18,7 +19,7 @@ use Rattle.sonic_parser.specs.declared.status.ParseStatus.{ParseStatus}
 use Rattle.sonic_text.proofs.Outcomes.{value_some_outcome}
 use Rattle.sonic_text.proofs.Values.{value_end_one, value_fault_one, value_never_both}
 use Rattle.sonic_text.proofs.Within.{after_space_within, value_within}
-use Rattle.sonic_text.specs.Documents.{IsWhole}
+use Rattle.sonic_text.specs.Documents.{IsWhole, StartsWithUtf8Value}
 use Rattle.sonic_text.specs.Places.{after_space}
 use Rattle.sonic_text.specs.Strings.{strict}
 use Rattle.sonic_text.specs.declared.stop.Stop.{Stop}
@@ -116,3 +117,9 @@ invalid_error (At s) h e = invalid s h e
 pub valid_but_memory : {t : List ℕ} {is_bytes : Bool} {e : Error} → IsValidDocument t → IsInvalidError t is_bytes e → IsPlainError e NoMemory
 valid_but_memory x (out_of_memory e) = e
 valid_but_memory x (invalid s h e) = absurd (never_invalid x h)
+
+-- a valid document starts with its value
+pub document_starts : {t : List ℕ} → IsValidDocument t → StartsWithUtf8Value t
+document_starts {t} x =
+    let within = value_within x.alone.root in
+    record { end = x.alone.end; root = x.alone.root; utf8 = utf8_up_to (length t) (rw (take-length t) x.utf8) x.alone.root within }

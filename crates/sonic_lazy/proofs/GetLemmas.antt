@@ -1,26 +1,25 @@
 -- What one path comes to in a text, and where it stops.
-use Rattle.std.proofs.Common.{◌≡◌, ◌≢◌, ◌↔◌, ◌∙◌, inl, inr, ap, ℕ, ◌+◌, ◌-◌, ◌<◌, ◌≤◌, List, [], ◌∷◌, Bool, true, false, length, take, arith, refl, sym, nat_eq}
-use Rattle.std.specs.Prelude.{Option, Some, None, IsTrue}
+use Rattle.std.proofs.Common.{◌≡◌, ◌↔◌, ◌∙◌, inl, inr, ap, ℕ, ◌+◌, ◌-◌, ◌≤◌, List, [], ◌∷◌, Bool, true, false, length, take, arith, refl, sym, nat_eq}
+use Rattle.std.specs.Prelude.{Some, None, IsTrue}
 use Rattle.std.specs.Str.{IsUtf8}
 use Rattle.std.proofs.lemmas.Bool.Decides.{nat_tests}
-use Rattle.sonic_error.specs.declared.code.ErrorCode.TheVariants.{GetUnknownKeyInObject, GetIndexOutOfArray}
-use Rattle.sonic_lazy.proofs.PathLemmas.Lead.{none_leads, one_more_unnamed, not_named, named_leads, past_value, past_byte, past_key, count_below}
+use Rattle.sonic_lazy.proofs.PathLemmas.Lead.{none_leads, one_more_unnamed, not_named, named_leads, past_value, past_byte, past_key}
 use Rattle.sonic_lazy.proofs.PathLemmas.Outcome.{nowhere_past}
-use Rattle.sonic_lazy.specs.Internal.Get.{IsDeadEnd, stops_so, lacks_so, IsDeadNode, IsTried, IsRest, past_code}
+use Rattle.sonic_lazy.specs.Internal.Follow.{IsDeadEnd, stops_so, lacks_so, IsDeadNode, LacksNode, IsTried, IsRest}
 use Rattle.sonic_lazy.specs.Internal.Walk.{IsStopped, fails_so, cut_so, IsNoEntry}
-use Rattle.sonic_lazy.specs.Paths.{Outcome, lacks, fails, cut, past_end, kind_of, name_of, IsNamed, NoneNamed, LeadsOn, Evaluates}
-use Rattle.sonic_lazy.specs.Paths.Evaluates.{found_here, goes_on, leads_nowhere, cut_here, cut_before}
+use Rattle.sonic_lazy.specs.Paths.{Outcome, lacks, fails, cut, past_end, kind_of, IsNamed, NoneNamed, LeadsOn, Evaluates}
+use Rattle.sonic_lazy.specs.Paths.Evaluates.{found_here, leads_nowhere, cut_here, cut_before}
 use Rattle.sonic_pointer.specs.declared.node.PointerNode.{PointerNode}
 use Rattle.sonic_pointer.specs.declared.node.PointerNode.TheVariants.{Key}
 use Rattle.sonic_error.specs.Errors.{IsPlainError}
 use Rattle.sonic_error.specs.Texts.{valid_up_to}
 use Rattle.sonic_error.specs.declared.error.Error.{Error}
-use Rattle.sonic_error.specs.declared.code.ErrorCode.TheVariants.{InvalidUTF8, NoMemory}
+use Rattle.sonic_error.specs.declared.code.ErrorCode.TheVariants.{InvalidUTF8, NoMemory, GetIndexOutOfArray}
 use Rattle.sonic_lazy.proofs.PathLemmas.Outcome.{evaluates_one, evaluates_some, cut_is_fault, ends_before_end, ends_before_fault, EndsAt}
 use Rattle.sonic_lazy.proofs.AnswerLemmas.One.{utf8_or_not}
 use Rattle.sonic_lazy.proofs.WholeLemmas.{utf8_of_span}
 use Rattle.sonic_lazy.specs.Answers.{Answer, ComesToAlone, value_found, value_broken, key_lacked, path_failed, path_cut, IsGetAnswer}
-use Rattle.sonic_lazy.specs.Causes.{IsGetRefusal, no_memory, refused, IsGettable}
+use Rattle.sonic_lazy.specs.Causes.{IsGetError, IsGetRefusal, no_memory, refused, IsGettable}
 use Rattle.sonic_lazy.specs.Laws.{ExactlyOne}
 use Rattle.sonic_lazy.specs.Paths.{found, Leads}
 use Rattle.sonic_lazy.specs.Wholes.{IsPart}
@@ -30,6 +29,8 @@ use Rattle.sonic_parser.specs.declared.fault.Fault.TheVariants.{OutOfMemory, At}
 use Rattle.sonic_text.proofs.Outcomes.{value_some_outcome}
 use Rattle.sonic_text.proofs.Stops.{fault_within}
 use Rattle.sonic_text.proofs.Within.{value_within}
+use Rattle.sonic_text.proofs.Insides.{item_whole}
+use Rattle.sonic_lazy.specs.Internal.Steps.{HasWhole}
 use Rattle.std.proofs.Math.Seq.{take-length}
 use Rattle.sonic_parser.specs.Containers.{IsEnd, IsSeparated, IsSeparatorFault}
 use Rattle.sonic_text.proofs.Items.{head_never_both, closing_no_comma}
@@ -37,7 +38,7 @@ use Rattle.sonic_text.proofs.Strings.{string_one}
 use Rattle.sonic_text.proofs.Values.{items_open, items_not_empty}
 use Rattle.sonic_text.specs.Faults.{IsFault, IsKeyFault, in_key, in_value, after_item}
 use Rattle.sonic_text.specs.Paths.{Node, Path, key, index}
-use Rattle.sonic_text.specs.Places.{byte, after_space}
+use Rattle.sonic_text.specs.Places.{after_space}
 use Rattle.sonic_text.specs.Strings.{IsString, strict}
 use Rattle.sonic_text.specs.Values.{IsValue, IsKey, ItemsFit, no_head, key_head, next_item, filled}
 use Rattle.sonic_text.specs.declared.kind.Kind.{Kind}
@@ -50,11 +51,11 @@ no_node = Key (record { ref_ptr = (0, 0); now = [] })
 
 -- a fault stops each path by a node that doesn't lead on
 fault_dead : {t : List ℕ} {i : ℕ} {node : Node} {s : Stop} → IsFault strict t i s → ((v : ℕ) → ¬ LeadsOn t i node v) → IsDeadNode t i node s
-fault_dead f none = λ rest. stops_so (cut_so (cut_before f none))
+fault_dead f none = λ rest. cut_so (cut_before f none)
 
 -- no container is entered
 pub entry_dead : {t : List ℕ} {i : ℕ} {node : Node} {s : Stop} → IsNoEntry t i (kind_of node) s → IsDeadNode t i node s
-entry_dead {node = node} f = λ rest. stops_so (f node rest refl)
+entry_dead {node = node} f = λ rest. f node rest refl
 
 -- a key isn't there
 pub key_dead : {t : List ℕ} {i n h : ℕ} {node : Node} {s : Stop} → NoneNamed t i (kind_of node) n h node → kind_of node ≡ Object → IsKeyFault strict t h s
@@ -83,18 +84,23 @@ next_unnamed {n = n} before x y c =
     let more : n + 1 ≡ n + 1 = refl in
     one_more_unnamed before x.item (x.other refl) (next_item before.fit x.item.head y c.0 c.1 more) more
 
--- what is past the end stops a path by its code
-past_dead : {t : List ℕ} {i q : ℕ} {path : Path} (kind : Kind) → Evaluates t i path (past_end kind q) → IsDeadEnd t i path (record { place = q; code = past_code kind })
-past_dead Array e = stops_so (fails_so e)
-past_dead Object e = lacks_so e refl
-
 -- where the container ends, no item is named
-pub end_dead : {t : List ℕ} {i n h v e j : ℕ} {node : Node} → NoneNamed t i (kind_of node) n h node → IsTried t node n h v false → IsValue strict t v e
-    → IsEnd t (kind_of node) e j → IsDeadNode t i node (record { place = j - 1; code = past_code (kind_of node) })
-end_dead {t} {i} {j = j} {node} before x y k = λ rest.
+pub past_items : {t : List ℕ} {i n h v e j : ℕ} {node : Node} → NoneNamed t i (kind_of node) n h node → IsTried t node n h v false → IsValue strict t v e
+    → IsEnd t (kind_of node) e j → (rest : Path) → Evaluates t i (node ∷ rest) (past_end (kind_of node) (j - 1))
+past_items {t} {i} {j = j} {node} before x y k = λ rest.
     let none = none_leads before (not_named x.item (x.other refl)) (past_byte before.fit x.item y (λ e. closing_no_comma (kind_of node) (sym k.0 ∙ e))) in
     let past = nowhere_past t i (j - 1) (kind_of node) (items_open before.fit) (items_not_empty before.fit) in
-    past_dead (kind_of node) (leads_nowhere (filled before.fit x.item.head y k.0 k.1) none (sym past))
+    leads_nowhere (filled before.fit x.item.head y k.0 k.1) none (sym past)
+
+-- past the end of an array each path fails
+pub past_fails : {t : List ℕ} {i q : ℕ} {node : Node} {kind : Kind} → kind ≡ Array → kind_of node ≡ kind → ((rest : Path) → Evaluates t i (node ∷ rest) (past_end (kind_of node) q))
+    → IsDeadNode t i node (record { place = q; code = GetIndexOutOfArray })
+past_fails {t} {i} {q} {node} e same past = λ rest. let known : kind_of node ≡ Array = same ∙ e in fails_so (rw known at (past rest))
+
+-- past the end of an object each path lacks its key
+pub past_lacks : {t : List ℕ} {i q : ℕ} {node : Node} {kind : Kind} → kind ≡ Object → kind_of node ≡ kind → ((rest : Path) → Evaluates t i (node ∷ rest) (past_end (kind_of node) q))
+    → LacksNode t i node q
+past_lacks {t} {i} {q} {node} e same past = λ rest. let known : kind_of node ≡ Object = same ∙ e in rw known at (past rest)
 
 -- the item that is named is led to
 pub tried_leads : {t : List ℕ} {i n h v : ℕ} {node : Node} → NoneNamed t i (kind_of node) n h node → IsTried t node n h v true → LeadsOn t i node v
@@ -102,11 +108,19 @@ tried_leads {t} {n = n} {h} {v} {node} before x =
     let item : IsNamed t (kind_of node) n h v node = rw (x.same refl) at x.item in
     named_leads before item
 
--- a dead end of the rest is one of the whole path
-pub rest_dead : {t : List ℕ} {i v : ℕ} {path rest : Path} {s : Stop} → IsRest t i path v rest → IsDeadEnd t v rest s → IsDeadEnd t i path s
-rest_dead up (stops_so (fails_so e)) = stops_so (fails_so (up _ e))
-rest_dead up (stops_so (cut_so e)) = stops_so (cut_so (up _ e))
-rest_dead up (lacks_so e is) = lacks_so (up _ e) is
+-- where the rest of a path stops, the whole path does
+pub rest_stopped : {t : List ℕ} {i v : ℕ} {path rest : Path} {s : Stop} → IsRest t i path v rest → IsStopped t v rest s → IsStopped t i path s
+rest_stopped up (fails_so e) = fails_so (up _ e)
+rest_stopped up (cut_so e) = cut_so (up _ e)
+
+-- what a node leads on to in a whole value is whole
+pub leads_whole : {t : List ℕ} {i v : ℕ} {node : Node} → LeadsOn t i node v → HasWhole t i → HasWhole t v
+leads_whole l x = item_whole x.1 l.before.fit l.item.head
+
+-- and so is the value of each item
+pub tried_whole : {t : List ℕ} {i n h v : ℕ} {is : Bool} {node : Node} → NoneNamed t i (kind_of node) n h node → IsTried t node n h v is → HasWhole t i
+    → HasWhole t v
+tried_whole before x y = item_whole y.1 before.fit x.item.head
 
 -- a key is named or not
 pub key_tried : {t : List ℕ} {n h e v : ℕ} {b text : List ℕ} {node : Node} (is : Bool) → node ≡ key text → IsString strict t h e b → IsKey strict t h v b
@@ -172,27 +186,34 @@ get_one {t} {is_bytes} {path} {b = b} x y =
 pub get_refusal : {t : List ℕ} {is_bytes : Bool} {path : Path} {e : Error} (fault : Fault) → IsStopFor (λ s. IsGetAnswer t is_bytes path (Answer.error s)) fault
     → IsErrorOf t fault e → IsGetRefusal t is_bytes path e
 get_refusal OutOfMemory h e = no_memory e
-get_refusal (At s) h e = refused s h e
+get_refusal (At s) h e = refused (record { stop = s; answer = h; error = e })
 
--- where a value is found nothing but memory does
+-- where a value is found no error is the answer
+pub never_error : {t : List ℕ} {is_bytes : Bool} {path : Path} {e : Error} → IsGettable t is_bytes path → ¬ IsGetError t is_bytes path e
+never_error x h = (let clash = get_one x.answer h.answer in cc)
+
+-- and nothing but memory refuses
 pub get_but_memory : {t : List ℕ} {is_bytes : Bool} {path : Path} {e : Error} → IsGettable t is_bytes path → IsGetRefusal t is_bytes path e → IsPlainError e NoMemory
 get_but_memory x (no_memory e) = e
-get_but_memory x (refused s h e) = (let clash = get_one x.answer h in absurd cc)
+get_but_memory x (refused h) = absurd (never_error x h)
+
+-- what is found is the answer where the text is UTF-8 so far
+pub found_alone : {t : List ℕ} {is_bytes : Bool} {path : Path} {v e : ℕ} → Leads t path (found v e) → (is_bytes ≡ true → IsUtf8 (take e t))
+    → IsGetAnswer t is_bytes path (Answer.spans (Some (v, e) ∷ []))
+found_alone {v = v} {e} x text = record { outcome = found v e; leads = x; come_to = value_found text }
+
+-- or else that it is broken
+pub broken_alone : {t : List ℕ} {is_bytes : Bool} {path : Path} {v e : ℕ} {s : Stop} → Leads t path (found v e) → is_bytes ≡ true
+    → ¬ IsUtf8 (take e t) → s ≡ record { place = valid_up_to (take e t); code = InvalidUTF8 } → IsGetAnswer t is_bytes path (Answer.error s)
+broken_alone {v = v} {e} x b n is = record { outcome = found v e; leads = x; come_to = value_broken b n is }
 
 -- a value at the end of a path is found
-pub found_alone : {t : List ℕ} {is_bytes : Bool} {path : Path} {v e : ℕ} → IsRest t (after_space t 0) path v [] → IsValue strict t v e
-    → (is_bytes ≡ true → IsUtf8 (take e t)) → IsGetAnswer t is_bytes path (Answer.spans (Some (v, e) ∷ []))
-found_alone {v = v} {e} up x text = record { outcome = found v e; leads = up _ (found_here x); come_to = value_found text }
+pub rest_found : {t : List ℕ} {i v e : ℕ} {path : Path} → IsRest t i path v [] → IsValue strict t v e → Evaluates t i path (found v e)
+rest_found up x = up _ (found_here x)
 
--- or is broken
-pub broken_alone : {t : List ℕ} {is_bytes : Bool} {path : Path} {v e : ℕ} {s : Stop} → IsRest t (after_space t 0) path v [] → IsValue strict t v e → is_bytes ≡ true
-    → ¬ IsUtf8 (take e t) → s ≡ record { place = valid_up_to (take e t); code = InvalidUTF8 } → IsGetAnswer t is_bytes path (Answer.error s)
-broken_alone {v = v} {e} up x b n is = record { outcome = found v e; leads = up _ (found_here x); come_to = value_broken b n is }
-
--- or has a fault
-pub fault_alone : {t : List ℕ} {is_bytes : Bool} {path : Path} {v : ℕ} {s : Stop} → IsRest t (after_space t 0) path v [] → IsFault strict t v s
-    → IsGetAnswer t is_bytes path (Answer.error s)
-fault_alone {s = s} up f = record { outcome = cut s; leads = up _ (cut_here f); come_to = path_cut }
+-- or its fault cuts the path
+pub rest_cut : {t : List ℕ} {i v : ℕ} {path : Path} {s : Stop} → IsRest t i path v [] → IsFault strict t v s → IsDeadEnd t i path s
+rest_cut up f = stops_so (cut_so (up _ (cut_here f)))
 
 -- up to the end of the value that is found the text is UTF-8
 utf8_alone : {t : List ℕ} {is_bytes : Bool} {o : Outcome} {i j : ℕ} → ComesToAlone t is_bytes o (Answer.spans (Some (i, j) ∷ [])) → is_bytes ≡ true → IsUtf8 (take j t)

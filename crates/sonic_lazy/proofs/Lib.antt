@@ -2,12 +2,22 @@
 pub mod AnswerLemmas
 -- Whether a text is a valid document, and the one reason why it is none.
 pub mod DocumentLemmas
+-- How the slots of many paths are filled in a text that starts with a value.
+pub mod FillLemmas
 -- What one path alone comes to, and where it stops.
 pub mod GetLemmas
+-- Where a path leads in the text of a value.
+pub mod PartLemmas
 -- Where a node leads on to, and the one outcome of a path.
 pub mod PathLemmas
+-- What the first byte says of a whole value.
+pub mod ScalarLemmas
 -- Which lazy values show an answer.
 pub mod ShownLemmas
+-- What a string without a backslash denotes.
+pub mod StringTextLemmas
+-- What paths come to in a text that is known to start with a value.
+pub mod UncheckedLemmas
 -- The steps of a walk, a file for each.
 pub mod WalkLemmas
 -- Which spans are whole values, and what a lazy value holds.

@@ -3,7 +3,7 @@ use Rattle.std.proofs.Common.{◌≡◌, ◌⊎◌, ◌↔◌, inl, inr, ap, cod
 use Rattle.std.proofs.Math.Logic.{∥∥₁_elim, ∥∥₁_map}
 use Rattle.std.proofs.lemmas.Bool.{cases_eq, cases_lt}
 use Rattle.std.proofs.lemmas.List.{length-take, get_or-take, drop-take, take-take}
-use Rattle.std.proofs.lemmas.Str.{IsUtf8-had, IsUtf8-from_ascii, IsUtf8-between, IsCharBoundary-after_ascii}
+use Rattle.std.proofs.lemmas.Str.{IsUtf8-had, IsUtf8-from_ascii, IsUtf8-between, IsUtf8-take, IsCharBoundary-after_ascii}
 use Rattle.std.specs.Prelude.{IsTrue, slice_range}
 use Rattle.std.specs.Str.{IsUtf8, IsCharBoundary}
 use Rattle.sonic_input.specs.Slices.{slice_bytes}
@@ -18,6 +18,7 @@ use Rattle.sonic_text.proofs.Ascii.{number_ascii}
 use Rattle.sonic_text.proofs.Numbers.{number_longer}
 use Rattle.sonic_text.proofs.Outcomes.{value_some_outcome}
 use Rattle.sonic_text.proofs.ValueParts.{value_of_part, escaped_of_part}
+use Rattle.sonic_text.proofs.Within.{value_within}
 use Rattle.sonic_text.proofs.Values.{value-longer, value_end_one, value_never_both, items_open}
 use Rattle.sonic_text.specs.Literals.{IsLiteral}
 use Rattle.sonic_text.specs.Places.{byte}
@@ -188,6 +189,18 @@ utf8_of_span {t} {i} {j} r u x h within =
     let part : IsUtf8 (slice_range (take r t) i j) = utf8_between (take r t) i j u l long (omega (arith, a, ends.0)) (omega (arith, b, ends.1)) in
     let same : slice_range (take r t) i j ≡ slice_range t i j = part_of_prefix t r i j (omega arith) h in
     rw (← same) part
+
+-- and up to the end of a value the text is UTF-8 where a longer prefix is
+pub utf8_up_to : {t : List ℕ} {i j : ℕ} (r : ℕ) → IsUtf8 (take r t) → IsValue strict t i j → j ≤ r → IsUtf8 (take j t)
+utf8_up_to {t} {i} {j} r u x h =
+    let l = value-longer x in
+    let within = value_within x in
+    let ends = value_ends x in
+    let last : byte (take r t) (j - 1) ≡ byte t (j - 1) = get_or-take r t (j - 1) 0 (omega arith) in
+    let long : j ≤ length (take r t) = omega (arith, length-take r t) in
+    let after : IsCharBoundary (take r t) (j - 1 + 1) = IsCharBoundary-after_ascii (take r t) (j - 1) u (omega arith) (omega (arith, last, ends.1)) in
+    let p : j - 1 + 1 ≡ j = omega arith in
+    rw (take-take j r t h) at (IsUtf8-take (take r t) j u (rw p at after))
 
 -- the status of a value is that of its own text
 status_of_part : (t b : List ℕ) (i j : ℕ) (status : ParseStatus) → b ≡ slice_range t i j → i < j → j ≤ length t → IsStatus t i j status

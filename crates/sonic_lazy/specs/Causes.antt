@@ -20,10 +20,22 @@ pub data IsRefusal (t : List ℕ) (is_bytes : Bool) (paths : List Path) (e : Err
   out_of_memory : IsPlainError e NoMemory → IsRefusal t is_bytes paths e
   answered : (s : Stop) → IsAnswer t is_bytes paths (Answer.error s) → IsErrorAt e s.code t s.place → IsRefusal t is_bytes paths e
 
--- there is no memory, or the error is the answer of the path
+-- the error is the answer of the paths
+pub record IsAnswerError (t : List ℕ) (is_bytes : Bool) (paths : List Path) (e : Error) : Type 0 where
+  pub stop : Stop
+  pub answer : IsAnswer t is_bytes paths (Answer.error stop)
+  pub error : IsErrorAt e stop.code t stop.place
+
+-- the error is the answer of the path
+pub record IsGetError (t : List ℕ) (is_bytes : Bool) (path : Path) (e : Error) : Type 0 where
+  pub stop : Stop
+  pub answer : IsGetAnswer t is_bytes path (Answer.error stop)
+  pub error : IsErrorAt e stop.code t stop.place
+
+-- or there is no memory
 pub data IsGetRefusal (t : List ℕ) (is_bytes : Bool) (path : Path) (e : Error) : Type 0 where
   no_memory : IsPlainError e NoMemory → IsGetRefusal t is_bytes path e
-  refused : (s : Stop) → IsGetAnswer t is_bytes path (Answer.error s) → IsErrorAt e s.code t s.place → IsGetRefusal t is_bytes path e
+  refused : IsGetError t is_bytes path e → IsGetRefusal t is_bytes path e
 
 -- the path finds a value, up to whose end the text is UTF-8
 pub record IsGettable (t : List ℕ) (is_bytes : Bool) (path : Path) : Type 0 where

@@ -1,5 +1,8 @@
 -- What serves private clauses and loop invariants alone.
-pub mod Get
+pub mod Fill
+pub mod Follow
 pub mod Located
+pub mod StepViews
+pub mod Steps
 pub mod View
 pub mod Walk

@@ -5,5 +5,8 @@ pub mod Internal
 pub mod Laws
 pub mod LazyValues
 pub mod Paths
+pub mod Scalars
 pub mod Shown
+pub mod Spans
+pub mod StringTexts
 pub mod Wholes

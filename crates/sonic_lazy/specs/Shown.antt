@@ -1,11 +1,16 @@
 -- Which lazy values show the spans of an answer.
-use Rattle.std.specs.Prelude.{◌≡◌, ℕ, Bool, List, [], ◌∷◌, slice_range, map, option_map}
+use Rattle.std.specs.Prelude.{◌≡◌, ℕ, Bool, List, [], ◌∷◌, slice_range, map, option_map, Result, IfOk, IfErr, IsOk}
 use Rattle.std.specs.declared.option.Option.{Option}
 use Rattle.std.specs.declared.option.Option.TheVariants.{Some, None}
 use Rattle.sonic_text.specs.Paths.{Path}
 use Rattle.sonic_lazy.specs.declared.lazyvalue.LazyValue.{LazyValue}
 use Rattle.sonic_lazy.specs.Answers.{Span, IsAnswer, IsGetAnswer, spans}
 use Rattle.sonic_lazy.specs.LazyValues.{raw_bytes}
+use Rattle.sonic_lazy.specs.Causes.{IsGetRefusal, IsGetError, IsGettable}
+use Rattle.sonic_lazy.specs.Paths.{found, Leads}
+use Rattle.sonic_error.specs.Errors.{IsPlainError}
+use Rattle.sonic_error.specs.declared.code.ErrorCode.TheVariants.{NoMemory}
+use Rattle.sonic_error.specs.declared.error.Error.{Error}
 
 -- the value shows the span, or none shows none
 pub data Shows (t : List ℕ) : Option Span → Option LazyValue → Type 0 where
@@ -38,3 +43,26 @@ pub record IsValueOf (t : List ℕ) (is_bytes : Bool) (path : Path) (value : Laz
   pub end : ℕ
   pub answer : IsGetAnswer t is_bytes path (spans (Some (start, end) ∷ []))
   pub shown : raw_bytes value ≡ slice_range t start end
+
+-- a path is looked up so over the text: by its value or the error that is its answer, or by running out of memory, which alone refuses a value that is there
+pub record IsLookup (t : List ℕ) (is_bytes : Bool) (path : Path) (result : Result LazyValue Error) : Type 0 where
+  pub ok : IfOk result (IsValueOf t is_bytes path)
+  pub err : IfErr result (IsGetRefusal t is_bytes path)
+  pub complete : IsGettable t is_bytes path → IfErr result (λ e. IsPlainError e NoMemory)
+
+-- the same without memory: by its value or the error that is its answer
+pub record IsSureLookup (t : List ℕ) (is_bytes : Bool) (path : Path) (result : Result LazyValue Error) : Type 0 where
+  pub ok : IfOk result (IsValueOf t is_bytes path)
+  pub err : IfErr result (IsGetError t is_bytes path)
+  pub complete : IsGettable t is_bytes path → IsOk result
+
+-- the value has the text of what the path finds in the text
+pub record IsFoundIn (t : List ℕ) (path : Path) (value : LazyValue) : Type 0 where
+  pub start : ℕ
+  pub end : ℕ
+  pub leads : Leads t path (found start end)
+  pub shown : raw_bytes value ≡ slice_range t start end
+
+-- the path finds nothing in the text
+abbrev pub FindsNone : List ℕ → Path → Type 0
+FindsNone t path = (i j : ℕ) → ¬ Leads t path (found i j)

@@ -14,7 +14,7 @@ use crate::state::Walk;
 use crate::walk::follow;
 use sonic_error::ErrorCode;
 use sonic_input::Read;
-use sonic_parser::{Fault, Parser};
+use sonic_parser::Fault;
 use sonic_pointer::PointerTree;
 use sonic_text::Stop;
 use std::alloc::Global;
@@ -69,9 +69,7 @@ fn reach<'de>(
     ensures statuses { IfOk result (λ x. HaveStatuses read.entry.text x.found.items) }
     ensures err { IfErr result (IsStopFor (IsStop (root_point read.entry.text tree.now) false)) }
 {
-    let mut parser = Parser::new(read);
-    parser.skip_space_peek();
-    let mut walk = Walk::new(alloc, parser, size)?;
+    let mut walk = Walk::new(alloc, read, size)?;
     follow(&mut walk, &tree.view(), false)?;
     let (text, end, lacking) = (walk.text(), walk.place(), walk.lacks_key());
     let found = walk.into_spans();

@@ -2,7 +2,7 @@
 ghost use Rattle.std.specs.Prelude.{◌≡◌, ◌≤◌, false, length, IfOk, IfErr, OnOk};
 ghost use Rattle.std.specs.Str.{IsUtf8};
 ghost use Rattle.sonic_error.specs.Errors.{IsPlainError};
-ghost use Rattle.sonic_text.specs.Documents.{IsRootFault};
+ghost use Rattle.sonic_text.specs.Documents.{IsRootFault, StartsWithUtf8Value};
 ghost use Rattle.sonic_parser.specs.Faults.{IsStopFor};
 ghost use Rattle.sonic_lazy.specs.Documents.{IsAfterRoot, IsValidDocument, IsInvalid, IsInvalidError};
 
@@ -56,9 +56,11 @@ fn pass_document(alloc: Global, read: Read<'_>, is_bytes: bool) -> Result<(), Fa
 /// `ErrorCode::InvalidUTF8` at the first broken place of the whole input. Running out of memory is
 /// `ErrorCode::NoMemory` without a place.
 ///
-/// ` [1, 2] ` is valid, and of `[1] x` the error has the offset 4.
+/// What is valid begins with a value in UTF-8, as the calls without a check ask for. ` [1, 2] ` is
+/// valid, and of `[1] x` the error has the offset 4.
 pub fn validate<'de, I: JsonInput<'de>>(alloc: Global, json: I) -> Result<(), Error>
     ensures ok { OnOk result (IsValidDocument (I.JsonInput.content json)) }
+    ensures starts { OnOk result (StartsWithUtf8Value (I.JsonInput.content json)) }
     ensures err { IfErr result (λ error.
         IsInvalidError (I.JsonInput.content json) I.JsonInput.is_bytes error) }
     ensures complete { IsValidDocument (I.JsonInput.content json)

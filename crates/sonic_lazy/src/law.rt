@@ -1,12 +1,14 @@
-ghost use Rattle.std.specs.Prelude.{◌≡◌, ◌<◌, ℕ, Bool, List, false};
+ghost use Rattle.std.specs.Prelude.{◌≡◌, ◌<◌, ◌+◌, ◌++◌, ◌↔◌, ℕ, Bool, List, Option, false, slice_range};
 ghost use Rattle.std.specs.Str.{IsUtf8};
 ghost use Rattle.sonic_text.specs.declared.stop.Stop.{Stop};
-ghost use Rattle.sonic_text.specs.Documents.{IsRootFault};
-ghost use Rattle.sonic_text.specs.Paths.{Node};
-ghost use Rattle.sonic_lazy.specs.Answers.{IsAnswer, IsGetAnswer};
+ghost use Rattle.sonic_text.specs.Documents.{IsRootFault, StartsWithUtf8Value};
+ghost use Rattle.sonic_text.specs.Paths.{Node, Path};
+ghost use Rattle.sonic_lazy.specs.Answers.{IsAnswer, IsGetAnswer, Span, spans};
 ghost use Rattle.sonic_lazy.specs.Documents.{IsValidDocument, IsInvalid};
-ghost use Rattle.sonic_lazy.specs.Laws.{ExactlyOne, HoldsOrHasOneReason, MixNowhere};
-ghost use Rattle.sonic_lazy.specs.Paths.{Evaluates, Leads, lacks, fails, cut};
+ghost use Rattle.sonic_lazy.specs.Laws.{AreGetAnswers, ExactlyOne, HoldsOrHasOneReason};
+ghost use Rattle.sonic_lazy.specs.Laws.{Finds, LeadsInPart, MixNowhere, outcome_in_whole};
+ghost use Rattle.sonic_lazy.specs.Paths.{Outcome, Evaluates, Leads, found, lacks, fails, cut};
+ghost use Rattle.sonic_lazy.specs.Shown.{span_text};
 
 /// The law of paths, for every text, every place and every path: it leads to an outcome, and there
 /// is no other.
@@ -72,4 +74,35 @@ pub fn path_has_one_answer()
 pub fn document_is_valid_or_has_one_reason()
     ensures { (t : List ℕ) (is_bytes : Bool) → (is_bytes ≡ false → IsUtf8 t)
         → HoldsOrHasOneReason (IsValidDocument t) (IsInvalid t is_bytes) }
+{}
+
+/// The law of the two calls, for every text that starts with a value in UTF-8, whether it came as
+/// bytes or not, and every list of paths: `get_many` answers values exactly where `get` of each path
+/// answers its value or that an object lacks its key, and then its entries are theirs, in order.
+///
+/// So over `{"a":{"b":1}}x` the paths `["a", "c"]` and `["a", "b"]` together are answered by nothing
+/// and by the `1`, and alone by the lack of the key and by the `1`. Over `{"a":{"b":1},`, whose first
+/// value has no end, they are so alone, but together they are answered by the end of the text, where
+/// a key is expected.
+pub fn get_many_agrees_with_get()
+    ensures { (t : List ℕ) (is_bytes : Bool) (paths : List Path) (entries : List (Option Span))
+        → StartsWithUtf8Value t
+        → (IsAnswer t is_bytes paths (spans entries) ↔ AreGetAnswers t is_bytes paths entries) }
+{}
+
+/// The law of paths in parts: where a path finds a value, a further path leads in that value's own
+/// text to what the joined path leads to in the whole text, and to nothing else.
+///
+/// Places of the part count from where the value begins (`on`, `back`), and the bytes of what is
+/// found are the same (`text`). So over ` {"a":[5,{"b":7}]}` the path `["a"]` finds `[5,{"b":7}]`, from
+/// 6 to 17. In that text `[1, "b"]` finds the `7`, from 8 to 9, which `["a", 1, "b"]` finds from 14 to
+/// 15 in the whole, and `[2]` fails at 10, as `["a", 2]` does at 16.
+pub fn a_path_goes_on_in_its_value()
+    ensures on { (t : List ℕ) (a b : Path) (part : Span) (o : Outcome) → LeadsInPart t a b part o
+        → Leads t (a ++ b) (outcome_in_whole part.0 o) }
+    ensures back { (t : List ℕ) (a b : Path) (part : Span) (whole : Outcome) → Finds t a part
+        → Leads t (a ++ b) whole
+        → (o : Outcome) × LeadsInPart t a b part o × (whole ≡ outcome_in_whole part.0 o) }
+    ensures text { (t : List ℕ) (a b : Path) (part : Span) (i j : ℕ) → LeadsInPart t a b part (found i j)
+        → slice_range (span_text t part) i j ≡ slice_range t (part.0 + i) (part.0 + j) }
 {}

@@ -4,8 +4,11 @@ ghost use Rattle.std.specs.Cmp.Rules.{comparing, hashing};
 ghost use Rattle.sonic_input.specs.Slices.{slice_bytes};
 ghost use Rattle.sonic_lazy.specs.Wholes.{IsWholeValue};
 
-use sonic_input::JsonSlice;
-use std::alloc::AllocError;
+use crate::unescaped::{unescaped, unquoted};
+use crate::value_trait::JsonValueTrait;
+use sonic_error::ErrorCode;
+use sonic_input::{FastStr, JsonSlice};
+use std::alloc::{AllocError, Global};
 use std::borrow::CowStr;
 use std::cmp::Ordering;
 use std::fmt;
@@ -29,9 +32,12 @@ pub struct LazyValue<'a> {
 }
 
 impl<'a> LazyValue<'a> {
-    ghost use Rattle.std.specs.Prelude.{◌≡◌};
+    ghost use Rattle.std.specs.Prelude.{◌≡◌, ◌↔◌, IsSome, IfSome, IfOk, IfErr, OnErr};
     ghost use Rattle.std.specs.Cow.{IsBorrowedStr, cow_str_bytes};
+    ghost use Rattle.sonic_error.specs.Errors.{IsPlainError};
     ghost use Rattle.sonic_lazy.specs.LazyValues.{raw_bytes, has_escapes};
+    ghost use Rattle.sonic_lazy.specs.Scalars.{text, scalar_of};
+    ghost use Rattle.sonic_lazy.specs.StringTexts.{IsTextOf, IsEscapedText};
 
     /// The value whose text this is, and whether it is a string with a backslash.
     ///
@@ -61,6 +67,47 @@ impl<'a> LazyValue<'a> {
         ensures borrowed { IsBorrowedStr result }
     {
         CowStr::Borrowed(self.text())
+    }
+
+    /// The text of the value as text of its own, which outlives the input.
+    ///
+    /// Where the input is shared bytes it is another owner of them, and else a copy. The only error
+    /// is `ErrorCode::NoMemory`. Of the value `"a"` it has both quotes.
+    pub fn as_raw_faststr(&self, alloc: Global) -> sonic_error::Result<FastStr>
+        ensures ok { IfOk result (λ made. made ≡ raw_bytes self.now) }
+        ensures err { IfErr result (λ error. IsPlainError error ErrorCode.NoMemory) }
+    {
+        self.raw.as_faststr(alloc)
+    }
+
+    /// What the value denotes where it is a string (RFC 8259, section 7), and else `None`.
+    ///
+    /// The text is borrowed from the input exactly where the string has no backslash, and else
+    /// made anew at each call. Of `"a"` it is `CowStr::Borrowed("a")`, of `"\u0061"` the owned text
+    /// `a`, and of `1` it is `None`. The only error is `ErrorCode::NoMemory`, and a value that is no
+    /// string with a backslash has none.
+    pub fn as_str(&self, alloc: Global) -> sonic_error::Result<Option<CowStr<'a>>>
+        ensures some { IfOk result (λ found. IsSome found ↔ (scalar_of (raw_bytes self.now) ≡ text)) }
+        ensures text { IfOk result (λ found. IfSome found (IsTextOf (raw_bytes self.now))) }
+        ensures err { IfErr result (λ error. IsPlainError error ErrorCode.NoMemory) }
+        ensures memory { OnErr result (IsEscapedText (raw_bytes self.now)) }
+    {
+        if !self.is_str() {
+            return Ok(None);
+        }
+        let text = self.text();
+        if self.has_escaped {
+            Ok(Some(CowStr::Owned(unescaped(alloc, text)?)))
+        } else {
+            Ok(Some(CowStr::Borrowed(unquoted(text))))
+        }
+    }
+
+    // The part of the input that is the value.
+    pub(crate) fn raw(&self) -> JsonSlice<'a>
+        ensures { slice_bytes result ≡ raw_bytes self.now }
+    {
+        self.raw
     }
 
     fn text(&self) -> &'a str

@@ -3,6 +3,8 @@
 
 // The answer of a list of paths.
 mod answer;
+// What a container holds, as the collections of its kind of value.
+mod container_trait;
 // Whether an input is a valid document.
 mod document;
 // The lazy value of a span that was found.
@@ -15,24 +17,48 @@ mod lazyvalue;
 mod located;
 // What many paths find in an input.
 mod many;
+// What many paths find in an input that is known to begin with a value.
+mod many_unchecked;
 // What one path finds in an input, without a tree.
 mod one;
+// Where one path leads in a text.
+mod path;
+// A part of an input.
+mod span;
 // Which children of a prefix of the tree were visited.
 mod visited;
-// What a walk has come to, and its steps through the text.
+// What a walk has come to.
 mod state;
+// The steps of a walk through a text.
+mod steps;
 // Worked examples, and the plain program.
 #[cfg(test)]
 mod tests;
+// What paths find in an input that is known to begin with a value.
+mod unchecked;
+// What a string denotes, as text.
+mod unescaped;
+// What a value is, as far as its own first level says.
+mod value_trait;
 // One walk that finds what all paths of a tree lead to.
 mod walk;
+// What paths find in a lazy value.
+mod within;
 
+pub use container_trait::JsonContainerTrait;
 pub use document::validate;
 pub use law::{
-    a_cut_is_the_root_fault, document_is_valid_or_has_one_reason, fails_at_one_place_agree,
-    outcomes_come_before_the_fault, path_has_one_answer, path_has_one_outcome,
-    paths_have_one_answer,
+    a_cut_is_the_root_fault, a_path_goes_on_in_its_value, document_is_valid_or_has_one_reason,
+    fails_at_one_place_agree, get_many_agrees_with_get, outcomes_come_before_the_fault,
+    path_has_one_answer, path_has_one_outcome, paths_have_one_answer,
 };
 pub use lazyvalue::LazyValue;
 pub use many::get_many;
-pub use one::get;
+pub use many_unchecked::{find_many_unchecked, get_many_unchecked};
+pub use one::{get, get_from_bytes, get_from_faststr, get_from_slice, get_from_str};
+pub use span::Span;
+pub use unchecked::{
+    get_from_bytes_unchecked, get_from_faststr_unchecked, get_from_slice_unchecked,
+    get_from_str_unchecked, get_unchecked,
+};
+pub use value_trait::{JsonValueTrait, scalar_is_that_of_the_tree};

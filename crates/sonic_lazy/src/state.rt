@@ -1,29 +1,28 @@
-// What a walk through a text has come to, and its steps through the text.
-ghost use Rattle.std.specs.Prelude.{◌≡◌, ◌≢◌, ◌<◌, ◌≤◌, ◌+◌, ◌-◌, ◌^◌, ℕ, List, None, true, false, length, replicate, IfOk, IfErr, OnOk};
+// What a walk through a text has come to.
+ghost use Rattle.std.specs.Prelude.{◌≡◌, ◌<◌, ◌≤◌, ◌^◌, ℕ, List, None, true, false, length, replicate, IfOk, IfErr, OnOk};
 ghost use Rattle.std.specs.List.{Contains};
-ghost use Rattle.sonic_error.specs.declared.code.ErrorCode.TheVariants.{Message};
-ghost use Rattle.sonic_text.specs.Places.{byte, after_space};
+ghost use Rattle.sonic_text.specs.Places.{after_space};
 ghost use Rattle.sonic_text.specs.Strings.{IsString, strict};
-ghost use Rattle.sonic_text.specs.Values.{opening, IsValue, IsKey, ItemsFit};
+ghost use Rattle.sonic_text.specs.Values.{IsValue, IsKey, ItemsFit};
 ghost use Rattle.sonic_text.specs.Faults.{IsFault, IsKeyFault};
 ghost use Rattle.sonic_parser.specs.Containers.{IsEnd, IsSeparated, IsSeparatorFault};
 ghost use Rattle.sonic_parser.specs.Faults.{IsStopFor};
 ghost use Rattle.sonic_lazy.specs.Internal.Located.{IsStatus, HaveStatuses, spans_of};
-ghost use Rattle.sonic_lazy.specs.Paths.{type_at, empty_code, wanted_of};
 ghost use Rattle.sonic_lazy.specs.Internal.Walk.{IsNoEntry, IsFilled};
 
 use crate::located::Located;
-use sonic_error::{ErrorCode, JsonType, Note, Wanted};
-use sonic_parser::{Fault, ParseStatus, Parser};
-use sonic_text::{Kind, Stop, byte_at};
+use crate::steps::Steps;
+use sonic_input::Read;
+use sonic_parser::{Fault, ParseStatus};
+use sonic_text::{Kind, Stop};
 use std::alloc::{AllocError, Global};
 use std::marker::Model;
 
-// A parser at the place that a walk has come to, and what the walk's paths have found so far.
+// The steps of a walk, and what its paths have found so far.
 #[derive(Drop)]
 pub(crate) struct Walk<'de> {
     alloc: Global,
-    parser: Parser<'de>,
+    steps: Steps<'de>,
     // The value that each path found.
     spans: Vec<Option<Located>>,
     // Whether some path lacks its key.
@@ -43,23 +42,20 @@ impl<'de> Model for Walk<'de> {
 }
 
 impl<'de> Walk<'de> {
-    // A walk that begins at the parser's place, for this many paths.
-    pub(crate) fn new(
-        alloc: Global,
-        parser: Parser<'de>,
-        size: usize,
-    ) -> Result<Walk<'de>, AllocError>
-        requires { parser.lossy ≡ strict }
-        ensures text { IfOk result (λ walk. walk.text ≡ parser.entry.text) }
-        ensures place { IfOk result (λ walk. walk.place ≡ parser.entry.place) }
+    // A walk that begins at the root of the reader's text, for this many paths.
+    pub(crate) fn new(alloc: Global, read: Read<'de>, size: usize) -> Result<Walk<'de>, AllocError>
+        requires { read.place ≡ 0 }
+        ensures text { IfOk result (λ walk. walk.text ≡ read.entry.text) }
+        ensures place { IfOk result (λ walk. walk.place ≡ after_space read.entry.text 0) }
         ensures findings { IfOk result (λ walk.
             walk.findings ≡ record { spans = replicate size None; lacking = false }) }
     {
+        let steps = Steps::checked(alloc, read);
         let spans = vec![in alloc; None; size]?;
         let lacking = false;
         Ok(Walk {
             alloc,
-            parser,
+            steps,
             spans,
             lacking,
         })
@@ -70,14 +66,14 @@ impl<'de> Walk<'de> {
         ensures place { result ≡ self.now.place }
         ensures inside { result ≤ length self.now.text }
     {
-        self.parser.offset()
+        self.steps.place()
     }
 
     // The whole text.
     pub(crate) fn text(&self) -> &'de [u8]
         ensures { result.now ≡ self.now.text }
     {
-        self.parser.text()
+        self.steps.text()
     }
 
     // The allocator that its memory comes from.
@@ -100,7 +96,7 @@ impl<'de> Walk<'de> {
         ensures moved { OnOk result (self.new ≡ record self.old { place = self.new.place }) }
         ensures err { IfErr result (IsStopFor (λ s. IsFault strict self.old.text self.old.place s)) }
     {
-        self.parser.skip_value(self.alloc)
+        self.steps.skip()
     }
 
     // Enters the container of this kind at the cursor, up to its first item.
@@ -109,34 +105,7 @@ impl<'de> Walk<'de> {
         ensures moved { OnOk result (self.new ≡ record self.old { place = self.new.place }) }
         ensures err { IfErr result (IsStopFor (IsNoEntry self.old.text self.old.place kind)) }
     {
-        let start = self.parser.offset();
-        if byte_at(self.parser.text(), start) != kind.opening() {
-            return Err(self.mismatch(kind));
-        }
-        if self.parser.enter(kind) {
-            return Ok(());
-        }
-        let bracket = self.parser.offset() - 1;
-        let code = empty_code(kind);
-        Err(Fault::At(Stop {
-            place: bracket,
-            code,
-        }))
-    }
-
-    // Why the value at the cursor is no container of this kind.
-    fn mismatch(&mut self, kind: Kind) -> Fault
-        requires { byte self.old.text self.old.place ≢ opening kind }
-        ensures { IsStopFor (IsNoEntry self.old.text self.old.place kind) result }
-    {
-        let found = type_at(self.parser.text(), self.parser.offset());
-        if let Err(fault) = self.skip() {
-            return fault;
-        }
-        let place = self.parser.offset() - 1;
-        let wanted = wanted_of(kind);
-        let code = ErrorCode::Message(Note::Mismatch { found, wanted });
-        Fault::At(Stop { place, code })
+        self.steps.enter(kind)
     }
 
     // Goes on after an item of a container of this kind: whether another one comes.
@@ -149,7 +118,7 @@ impl<'de> Walk<'de> {
         ensures fits { OnOk result (self.new.place < 2 ^ 64) }
         ensures err { IfErr result (λ s. IsSeparatorFault self.old.text kind self.old.place s) }
     {
-        self.parser.next_item(kind)
+        self.steps.next_item(kind)
     }
 
     // Passes the key at the cursor, up to the member's value, and gives the key's end.
@@ -160,7 +129,7 @@ impl<'de> Walk<'de> {
         ensures moved { self.new ≡ record self.old { place = self.new.place } }
         ensures err { IfErr result (λ s. IsKeyFault strict self.old.text self.old.place s) }
     {
-        Ok(self.parser.key()?.end)
+        self.steps.key()
     }
 
     // Keeps the value that was read from `start` up to here for the paths of these numbers.
@@ -174,7 +143,7 @@ impl<'de> Walk<'de> {
               record self.old.findings { spans = self.new.findings.spans };
         } }
     {
-        let end = self.parser.offset();
+        let end = self.steps.place();
         fill(&mut self.spans, orders, Located { start, end, status });
     }
 
@@ -193,7 +162,7 @@ impl<'de> Walk<'de> {
         ensures spans { spans_of result.items ≡ self.entry.findings.spans }
         ensures statuses { HaveStatuses self.entry.text result.items }
     {
-        let Walk { spans, parser, .. } = self;
+        let Walk { spans, steps, .. } = self;
         spans
     }
 }
@@ -206,39 +175,5 @@ fn fill(spans: &mut Vec<Option<Located>>, orders: &[usize], value: Located)
 {
     for order in orders {
         spans[*order] = Some(value);
-    }
-}
-
-// The code for an empty container.
-pub(crate) fn empty_code(kind: Kind) -> ErrorCode
-    ensures { result ≡ empty_code kind }
-{
-    match kind {
-        Kind::Array => ErrorCode::GetInEmptyArray,
-        Kind::Object => ErrorCode::GetInEmptyObject,
-    }
-}
-
-// What is wanted where a container is.
-pub(crate) fn wanted_of(kind: Kind) -> Wanted
-    ensures { result ≡ wanted_of kind }
-{
-    match kind {
-        Kind::Array => Wanted::Array,
-        Kind::Object => Wanted::Object,
-    }
-}
-
-// The type of the value at a place, by its first byte.
-pub(crate) fn type_at(text: &[u8], place: usize) -> JsonType
-    ensures { result ≡ type_at text.now place }
-{
-    match byte_at(text, place) {
-        b'n' => JsonType::Null,
-        b't' | b'f' => JsonType::Boolean,
-        b'"' => JsonType::String,
-        b'[' => JsonType::Array,
-        b'{' => JsonType::Object,
-        _ => JsonType::Number,
     }
 }

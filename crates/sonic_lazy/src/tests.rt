@@ -1,7 +1,10 @@
 // What no clause says: worked examples over each kind of input, that calls succeed where memory is
 // ample, and that the walk agrees with a plain program.
+mod containers;
 mod document;
 mod lazyvalue;
 mod lookups;
+mod many_unchecked;
 mod one;
 mod reference;
+mod scalars;

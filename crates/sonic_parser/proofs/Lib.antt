@@ -3,3 +3,4 @@ mod DescentLemmas
 pub mod FaultLemmas
 mod RefusalLemmas
 mod SkippingLemmas
+mod UncheckedLemmas

@@ -2,4 +2,5 @@ pub mod Containers
 pub mod Faults
 pub mod Parsers
 pub mod Skipping
+pub mod Unchecked
 pub mod Views

@@ -30,6 +30,10 @@ moved parser place = record parser { place = place }
 abbrev pub value_start : Parsing → ℕ
 value_start parser = after_space parser.text parser.place
 
+-- a whole value begins at i
+abbrev pub HasValue : Parsing → ℕ → Type 0
+HasValue parser i = (j : ℕ) × IsValue parser.lossy parser.text i j
+
 -- the value that was expected was skipped, and this is its text
 pub record IsSkipped (before now : Parsing) (bytes : List ℕ) (needs : ParseStatus) : Type 0 where
   pub value : IsValue before.lossy before.text (value_start before) now.place

@@ -1,4 +1,5 @@
-//! A parser that reads one value after the other, and the checked skipper beneath it.
+//! A parser that reads one value after the other, and beneath it the checked skipper, and the
+//! unchecked one for a value that is known to be there.
 #![tactic(auto)]
 
 // What the beginning of a value leads to.
@@ -17,6 +18,8 @@ mod skip;
 mod status;
 #[cfg(test)]
 mod tests;
+// Where a value ends that is known to be there.
+mod unchecked;
 
 pub use fault::Fault;
 pub use parser::Parser;

@@ -16,6 +16,7 @@ use crate::container::{Next, first_item, key_end, next_item};
 use crate::fault::Fault;
 use crate::skip::close;
 use crate::status::ParseStatus;
+use crate::unchecked::whole_value;
 use sonic_error::{Error, ErrorCode};
 use sonic_input::Read;
 use sonic_text::{Kind, Stop, StringEnd, literal_end, number_end, skip_space};
@@ -50,7 +51,7 @@ impl<'de> Model for Parser<'de> {
 }
 
 impl<'de> Parser<'de> {
-    ghost use Rattle.sonic_parser.specs.Parsers.{moved, value_start, IsSkipped, IsUnskipped, IsStopped, IsFilledContainer, IsOutOfMemory, IsEntered, IsKeyPassed, IsPassed};
+    ghost use Rattle.sonic_parser.specs.Parsers.{moved, value_start, HasValue, IsSkipped, IsUnskipped, IsStopped, IsFilledContainer, IsOutOfMemory, IsEntered, IsKeyPassed, IsPassed};
 
     /// A strict parser, which starts at the reader's place.
     pub fn new(read: Read<'de>) -> Parser<'de>
@@ -305,6 +306,27 @@ impl<'de> Parser<'de> {
         }
     }
 
+    /// Skips the value that begins at the cursor, which is known to be whole: as `skip_value` does,
+    /// without memory, and without a second look at what is in it.
+    ///
+    /// The cursor moves past the value's last byte: from the start of `{"a":"}"},1` to the comma.
+    /// Strings are passed up to their quotes, and only the brackets of the value's own kind are
+    /// counted, which finds its end as RFC 8259 has it (sections 4, 5 and 7; the law is
+    /// `value_balances`).
+    pub fn skip_value_unchecked(&mut self) -> ParseStatus
+        requires { HasValue self.old self.old.place }
+        ensures ok { IsPassed self.old self.new result }
+        ensures cursor { self.new ≡ moved self.old self.new.place }
+    {
+        let Skipped { end, status } = whole_value(
+            self.read.as_u8_slice(),
+            self.read.index(),
+            self.lossy,
+        );
+        self.read.set_index(end);
+        status
+    }
+
     // The end of the container that begins at the cursor, whose first item is expected at a place.
     fn close(&mut self, alloc: Global, kind: Kind, first: usize) -> Result<usize, Fault>
         requires within { first ≤ length self.old.text }
@@ -353,6 +375,20 @@ impl<'de> Parser<'de> {
             }
             Err(Fault::At(stop)) => Err(self.stop(stop)),
         }
+    }
+
+    /// Passes the value that is expected, which is known to be whole, and gives its text: as
+    /// `skip_one` does, without memory, and without a second look at what is in it.
+    ///
+    /// Of ` [1, 2] x` the text is `[1, 2]`, with the cursor after it.
+    pub fn skip_one_unchecked(&mut self) -> (&'de [u8], ParseStatus)
+        requires { HasValue self.old (value_start self.old) }
+        ensures { IsSkipped self.old self.new result.0.now result.1 }
+    {
+        self.skip_space_peek();
+        let start = self.read.index();
+        let status = self.skip_value_unchecked();
+        (self.read.slice(start, self.read.index()), status)
     }
 }
 

@@ -4,3 +4,4 @@ mod calls;
 mod depth;
 mod faults;
 mod reference;
+mod unchecked;

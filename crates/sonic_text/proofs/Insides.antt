@@ -8,7 +8,7 @@ use Rattle.sonic_text.specs.declared.kind.Kind.TheVariants.{Object}
 use Rattle.sonic_text.specs.declared.stop.Stop.{Stop}
 use Rattle.sonic_text.specs.Places.{byte, after_space}
 use Rattle.sonic_text.specs.Values.{opening, ItemHead, IsValue, ItemsFit, first_item, next_item}
-use Rattle.sonic_text.specs.Faults.{IsFault, IsKeyFault, code_after_item}
+use Rattle.sonic_text.specs.Faults.{IsFault, IsKeyFault, in_value, code_after_item}
 use Rattle.sonic_text.proofs.Items.{at_key, at_value, head_one, head-later, head_never_both, closing_no_comma}
 use Rattle.sonic_text.proofs.Outcomes.{value_some_outcome}
 use Rattle.sonic_text.proofs.Places.{after_space_later}
@@ -103,6 +103,14 @@ item_before {t = t} {kind} is y x (at_last fs (at_value (Ok f) z r (inl (c, q)))
     rw q (omega (arith, ends_by is y x fs z r (λ d. closing_no_comma kind (omega arith)), after_space_later t f))
 item_before {t = t} {kind} is y x (at_last fs (at_value (Ok f) z r (inr (c, q)))) =
     rw q (bad_from t (after_space t f) (code_after_item kind) _ refl (omega (arith, ends_by is y x fs z r c.0, after_space_later t f)) (value_within x))
+
+-- an item of a whole container is whole
+pub item_whole : {m : Bool} {t : List ℕ} {kind : Kind} {i n h v j : ℕ} {l : Option (List ℕ)} → IsValue m t i j → ItemsFit m t kind i n h
+    → ItemHead m t kind h v l → (e : ℕ) × IsValue m t v e
+item_whole {m} {t} {v = v} x is y = elim (value_some_outcome m t v) [
+  | inl z ↦ z
+  | inr f ↦ absurd (value_never_both x (in_value is y f.1))
+]
 
 pub item_before_end : {m : Bool} {t : List ℕ} {kind : Kind} {i n h v e j : ℕ} {l : Option (List ℕ)} → ItemsFit m t kind i n h → ItemHead m t kind h v l
     → IsValue m t v e → IsValue m t i j → e < j

@@ -1,4 +1,5 @@
 pub mod Ascii
+pub mod BracketLemmas
 mod CodepointLemmas
 pub mod Decimals
 mod EscapeFaultLemmas
@@ -8,13 +9,17 @@ mod HexDigitLemmas
 pub mod Insides
 pub mod Items
 mod KeyLemmas
-mod LiteralLemmas
+pub mod LevelLemmas
+pub mod LiteralLemmas
 pub mod NumberParts
 pub mod Numbers
+mod OrdinaryLemmas
 pub mod Outcomes
+pub mod PartItems
 pub mod Parts
 pub mod Places
 pub mod Stops
+pub mod QuotedLemmas
 mod ReadingLemmas
 mod StringPartLemmas
 mod StringReadingLemmas

@@ -2,7 +2,7 @@
 use Rattle.std.proofs.Common.{◌≡◌, ◌≢◌, ◌∙◌, ℕ, zero, suc, ◌+◌, ◌-◌, ◌<◌, ◌≤◌, Bool, inl, inr, List, [], ◌∷◌, length, take, drop, arith, refl, sym}
 use Rattle.std.proofs.lemmas.Bool.{cases_lt}
 use Rattle.std.proofs.lemmas.Bool.Decides.{nat_tests}
-use Rattle.std.proofs.lemmas.List.{get_or-drop, get_or-take, length-take, length-drop, drop-take, drop-drop}
+use Rattle.std.proofs.lemmas.List.{get_or-drop, get_or-take, length-take, length-drop, drop-take, drop-drop, take-take}
 use Rattle.std.specs.Prelude.{slice_range}
 use Rattle.std.specs.List.{prefix_len}
 use Rattle.std.specs.Char.{is_ascii_digit}
@@ -23,6 +23,12 @@ run_taken f (suc n) (x ∷ xs) l = let h = run_taken f n xs in grind (arith, nat
 -- what a part holds from its place q on is a part of the text
 rest_taken : (t : List ℕ) (d e q r : ℕ) → e - d ≡ q + r → drop q (slice_range t d e) ≡ take r (drop (d + q) t)
 rest_taken t d e q r h = rw (h, drop-take q r (drop d t), drop-drop q d t) refl
+
+-- a part of a part is one of the text
+pub part_of_part : (t : List ℕ) (i j p q : ℕ) → p ≤ q → q ≤ j - i → slice_range (slice_range t i j) p q ≡ slice_range t (i + p) (i + q)
+part_of_part t i j p q l h =
+    let e : i + q - (i + p) ≡ q - p = omega arith in
+    rw (rest_taken t i j p (j - i - p) (omega arith), e) (take-take (q - p) (j - i - p) (drop (i + p) t) (omega arith))
 
 -- a part within the text is as long as it says
 pub part_length : (t : List ℕ) (d e : ℕ) → d ≤ e → e ≤ length t → d + length (slice_range t d e) ≡ e

@@ -25,7 +25,7 @@ module _ {t u : List ℕ} {d : ℕ} (part : IsPart t u d) where
       ((omega arith, λ k m. byte_part part (i + k) (x + k) (omega arith) (omega arith) ∙ h.0.1 k m), omega arith)
 
   -- the byte after white space that follows i, before the place z
-  after_part : (b i x z : ℕ) → i ≡ d + x → after_space t i < z → z ≤ d + length u → byte t (after_space t i) ≡ b
+  pub after_part : (b i x z : ℕ) → i ≡ d + x → after_space t i < z → z ≤ d + length u → byte t (after_space t i) ≡ b
       → (after_space t i ≡ d + after_space u x) × (byte u (after_space u x) ≡ b)
   after_part b i x z e l m h =
       let s : after_space t i ≡ d + after_space u x = space_part part i x e (omega arith) in

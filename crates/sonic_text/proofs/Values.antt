@@ -2,18 +2,20 @@
 use Rattle.std.proofs.Common.{◌≡◌, ◌≢◌, ℕ, zero, suc, ◌+◌, ◌<◌, inl, inr, sym, ◌∙◌, length, arith, refl, add-zero, codes}
 use Rattle.std.proofs.Common.{Result, Ok, Err, MatchResult}
 use Rattle.std.proofs.lemmas.Bool.{cases_order}
-use Rattle.std.specs.Prelude.{Bool, List, Option}
+use Rattle.std.proofs.lemmas.Bool.Decides.{nat_tests}
+use Rattle.std.proofs.lemmas.List.Sums.{prefix_len-drop_no}
+use Rattle.std.specs.Prelude.{Bool, true, false, List, Option}
 use Rattle.sonic_error.specs.declared.code.ErrorCode.TheVariants.{InvalidJsonValue}
 use Rattle.sonic_text.specs.declared.kind.Kind.{Kind}
 use Rattle.sonic_text.specs.declared.stop.Stop.{Stop}
-use Rattle.sonic_text.specs.Places.{byte, after_space, bad}
+use Rattle.sonic_text.specs.Places.{byte, is_space, after_space, bad}
 use Rattle.sonic_text.specs.Literals.{IsLiteral, IsLiteralFault}
 use Rattle.sonic_text.specs.Numbers.{IsNumber, IsNumberFault}
 use Rattle.sonic_text.specs.Strings.{IsString, IsStringFault}
 use Rattle.sonic_text.specs.Values.{opening, closing, ItemHead, IsValue, ItemsFit}
 use Rattle.sonic_text.specs.Values.IsValue.{null_literal, true_literal, false_literal, number, string, empty, filled}
 use Rattle.sonic_text.specs.Values.ItemsFit.{first_item, next_item}
-use Rattle.sonic_text.specs.Faults.{IsFault}
+use Rattle.sonic_text.specs.Faults.{BeginsNone, IsFault}
 use Rattle.sonic_text.specs.Faults.IsFault.{no_value, null_fault, true_fault, false_fault, number_fault, string_fault, in_key, in_value, after_item}
 use Rattle.sonic_text.proofs.FirstByteLemmas.{Sort, none, a_null, a_true, a_false, a_number, a_string, a_container, Begins, begins_one}
 use Rattle.sonic_text.proofs.Items.{Outcome, OneAt, OneAfter, LastItem, at_key, at_value, last_one, last_no_comma, opening_not_end, opening_one}
@@ -21,6 +23,7 @@ use Rattle.sonic_text.proofs.Places.{after_space_later, byte_within}
 use Rattle.sonic_text.proofs.LiteralLemmas.{literal_never_both, literal_fault_one}
 use Rattle.sonic_text.proofs.Numbers.{number_longer, number_begins, number_outcome_one}
 use Rattle.sonic_text.proofs.Strings.{string_longer, string_one, string_never_both, string_fault_one}
+use Rattle.sonic_text.proofs.Within.{value_within}
 pub use Rattle.sonic_text.proofs.Items.{key-longer, key_one, head-later, head_one}
 
 mutual
@@ -232,3 +235,18 @@ value_never_both {m} {t} {i} {j} {s} x f = let e = outcome_one m t i (Ok j) (Err
 -- n items lead to one place
 pub items_one : {m : Bool} {t : List ℕ} {kind : Kind} {i n h g : ℕ} → ItemsFit m t kind i n h → ItemsFit m t kind i n g → h ≡ g
 items_one {m} {t} is fs = items_same (λ v l. outcome_one m t v) refl is fs
+
+-- white space begins no value
+space_begins_none : (b : ℕ) → is_space b ≡ true → BeginsNone b
+space_begins_none b e = grind (arith, nat_tests)
+
+-- so where a value begins there is none, as the test says
+starts_by_test : {m : Bool} {t : List ℕ} {i j : ℕ} (is : Bool) → is_space (byte t i) ≡ is → IsValue m t i j → after_space t i ≡ i
+starts_by_test {t = t} {i} true e x = absurd (value_never_both x (no_value (space_begins_none (byte t i) e) refl))
+starts_by_test {t = t} {i} false e x =
+    let first = prefix_len-drop_no is_space t i 0 (omega (arith, value-longer x, value_within x)) e in
+    omega arith
+
+-- no white space leads on from the place where a value begins
+pub value_starts : {m : Bool} {t : List ℕ} {i j : ℕ} → IsValue m t i j → after_space t i ≡ i
+value_starts {t = t} {i} x = starts_by_test (is_space (byte t i)) refl x

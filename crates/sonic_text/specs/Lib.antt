@@ -1,3 +1,4 @@
+pub mod Brackets
 pub mod Documents
 pub mod Faults
 pub mod Laws

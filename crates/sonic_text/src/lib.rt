@@ -1,6 +1,8 @@
 //! The grammar of JSON (RFC 8259) as facts over a whole text, and the small readers that meet it.
 #![tactic(auto)]
 
+// The laws of brackets outside strings.
+mod bracket_law;
 // Hexadecimal digits, four of which follow `\u`.
 mod hex;
 // Keys compared as they are read.
@@ -31,6 +33,9 @@ mod unescape;
 // A code point as UTF-8.
 mod utf8;
 
+pub use bracket_law::{
+    container_ends_once, string_is_inside, value_balances, value_is_level, value_keeps_backslashes,
+};
 pub use hex::hex4;
 pub use key::{compare_key, same_key};
 pub use kind::Kind;

@@ -37,7 +37,7 @@ pub record IsReached (t : List ℕ) (i j : ℕ) : Type 0 where
   pub utf8 : IsUtf8 (take reach t)
 
 -- what a path finds in a whole value ends at or before its end
-found_before : {t : List ℕ} {a b : ℕ} (path : Path) {i j : ℕ} → Evaluates t i path (found a b) → IsValue strict t i j → b ≤ j
+pub found_before : {t : List ℕ} {a b : ℕ} (path : Path) {i j : ℕ} → Evaluates t i path (found a b) → IsValue strict t i j → b ≤ j
 found_before [] (found_here x) y = (let same = value_end_one x y in omega arith)
 found_before (node ∷ rest) (goes_on l e) y =
     let p = part_of_whole l y in

@@ -248,7 +248,7 @@ uncut_some t is_bytes o os fail cuts = elim (lacks_or_none (o ∷ os)) [
 ]
 
 -- outcomes come to some answer
-come_to_some : (t : List ℕ) (is_bytes : Bool) (os : List Outcome) → ((s : Stop) → Contains os (cut s) → IsRootFault t s) → SomeAnswer t is_bytes os
+pub come_to_some : (t : List ℕ) (is_bytes : Bool) (os : List Outcome) → ((s : Stop) → Contains os (cut s) → IsRootFault t s) → SomeAnswer t is_bytes os
 come_to_some t is_bytes [] root = (_, no_path)
 come_to_some t is_bytes (o ∷ os) root = elim (nearest_or_none (o ∷ os)) [
   | inl n ↦ (_, failing n.1)

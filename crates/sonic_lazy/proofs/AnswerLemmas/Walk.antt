@@ -13,7 +13,7 @@ use Rattle.sonic_lazy.proofs.PathLemmas.Outcome.{nowhere_ends, ends_before_end, 
 use Rattle.sonic_lazy.proofs.WalkLemmas.List.{some_there, first_of}
 use Rattle.sonic_lazy.proofs.WalkLemmas.Path.{contained}
 use Rattle.sonic_lazy.specs.Answers.{AllLead, no_more, one_more, IsNearest, NoneFails, SomeLacks, IsReach, to_the_root, to_the_furthest, Span, span_of, Answer, ComeTo, no_path, failing, cutting, lacking, breaking, finding, IsAnswer}
-use Rattle.sonic_lazy.specs.Internal.Located.{span_at, spans_of}
+use Rattle.sonic_lazy.specs.Internal.Located.{HaveStatuses, span_at, spans_of}
 use Rattle.sonic_lazy.specs.Internal.Walk.{Findings, root_point, AllSettled, IsSettled, was_found, was_lacked, AreFindings, SomeLack, IsStopped, fails_so, cut_so, NoneNearer, path_stops, value_stops, IsStop, IsFurthest, IsReached, IsError}
 use Rattle.sonic_lazy.specs.Paths.{Outcome, found, lacks, fails, cut, kind_of, Evaluates, Leads}
 use Rattle.sonic_lazy.specs.Paths.Evaluates.{found_here, goes_on, leads_nowhere}
@@ -52,11 +52,11 @@ pub record IsGathered (t : List ℕ) (noted : Bool) (spans : List (Option Span))
   pub ends : (o : Outcome) → Contains outcomes o → IsEnd noted o
 
 -- equal prefixes and equal rests
-both_same : {X : Type 0} {x y : X} {xs ys : List X} → x ≡ y → xs ≡ ys → x ∷ xs ≡ y ∷ ys
+pub both_same : {X : Type 0} {x y : X} {xs ys : List X} → x ≡ y → xs ≡ ys → x ∷ xs ≡ y ∷ ys
 both_same e f = cc
 
 -- one by one
-gather : (t : List ℕ) (noted : Bool) (spans : List (Option Span)) (paths : List Path) → length spans ≡ length paths
+pub gather : (t : List ℕ) (noted : Bool) (spans : List (Option Span)) (paths : List Path) → length spans ≡ length paths
     → ((k : ℕ) (path : Path) → slice_get paths k ≡ Some path → Ends t noted (slice_get spans k) path) → IsGathered t noted spans paths
 gather t noted [] [] long all = record { outcomes = []; lead = no_more; entries = refl; ends = λ o c. absurd (none_in_empty o c) }
 gather t noted [] (p ∷ paths) long all = absurd (omega arith)
@@ -87,7 +87,7 @@ lacks_kept {t} {paths} {q = q} k path (Some (i, j)) reported is l h =
     absurd cc
 
 -- a path that is settled ends so
-settled_ends : {t : List ℕ} {paths : List Path} {notes : Findings} (k : ℕ) (path : Path) → AreFindings t paths notes
+pub settled_ends : {t : List ℕ} {paths : List Path} {notes : Findings} (k : ℕ) (path : Path) → AreFindings t paths notes
     → slice_get paths k ≡ Some path → IsSettled t notes k path → Ends t notes.lacking (slice_get notes.spans k) path
 settled_ends k path reported is (was_found {i = i} {j} l h) = record { outcome = found i j; leads = l; end = tt; is = h }
 settled_ends {paths = paths} {notes} k path reported is (was_lacked {q = q} l e) =
@@ -309,16 +309,20 @@ abbrev pub no_value : Option Located
 no_value = None
 
 -- and so nothing is read there
-nothing_there : (n k i j : ℕ) → slice_get (replicate n no_span) k ≢ Some (Some (i, j))
-nothing_there zero k i j h = absurd cc
-nothing_there (suc n) zero i j h = absurd cc
-nothing_there (suc n) (suc k) i j h = nothing_there n k i j h
+nothing_there : {X : Type 0} (n k : ℕ) (x : X) → slice_get {X = Option X} (replicate n None) k ≢ Some (Some x)
+nothing_there zero k x h = absurd cc
+nothing_there (suc n) zero x h = absurd cc
+nothing_there (suc n) (suc k) x h = nothing_there n k x h
+
+-- and no status is said
+pub no_statuses : (t : List ℕ) (n : ℕ) → HaveStatuses t (replicate n no_value)
+no_statuses t n = λ k x h. absurd (nothing_there n k x h)
 
 -- before it nothing is reported
 pub root_reported : (t : List ℕ) (paths : List Path) (n : ℕ) → n ≡ length paths → AreFindings t paths (record { spans = replicate n no_span; lacking = false })
 root_reported t paths n e = record {
   long = length-replicate n no_span ∙ e;
-  found_there = λ k i j h. absurd (nothing_there n k i j h);
+  found_there = λ k i j h. absurd (nothing_there n k (i, j) h);
   lack = λ f. absurd cc;
 }
 
@@ -377,7 +381,7 @@ pub furthest_value : (xs : List (Option Located)) {r q : ℕ} (x : Option Locate
     → IfSome (option_map span_at x) (λ s. s.1 ≤ q) → (q ≡ r) ⊎ IsSomeAnd (option_map span_at x) (λ s. s.1 ≡ q) → IsFurthest (spans_of (xs ++ x ∷ [])) q
 furthest_value xs x f l most one = rw map-append (furthest_more (option_map span_at x) f l most one)
 
--- no value was found yet
-pub replicate_none : (n : ℕ) → spans_of (replicate n no_value) ≡ replicate n no_span
-replicate_none zero = refl
-replicate_none (suc n) = both_same refl (replicate_none n)
+-- what is read off no value is none
+pub replicate_none : {X Y : Type 0} (f : X → Y) (n : ℕ) → map (option_map f) (replicate n None) ≡ replicate n None
+replicate_none f zero = refl
+replicate_none f (suc n) = both_same refl (replicate_none f n)

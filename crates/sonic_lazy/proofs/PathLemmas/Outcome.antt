@@ -10,7 +10,7 @@ use Rattle.sonic_lazy.proofs.PathLemmas.Lead.{leads_on_one, leads_or_not, named_
 use Rattle.sonic_lazy.specs.Laws.{ExactlyOne, MixNowhere}
 use Rattle.sonic_lazy.specs.Paths.{Outcome, Evaluates, fails, kind_of, IsNamed, NoneNamed, LeadsOn, found, lacks, cut, fails_at, past_end, nowhere, type_at, empty_code, wanted_of}
 use Rattle.sonic_lazy.specs.Paths.Evaluates.{found_here, goes_on, leads_nowhere, cut_here, cut_before}
-use Rattle.sonic_text.proofs.Insides.{item_before_end, item_before_fault, comma_after, items_after}
+use Rattle.sonic_text.proofs.Insides.{item_whole, item_before_end, item_before_fault, comma_after, items_after}
 use Rattle.sonic_text.proofs.Outcomes.{value_some_outcome}
 use Rattle.sonic_text.proofs.Values.{items-later, value_end_one, value_fault_one, value_never_both, head-later, value-longer, items_one, items_kind}
 use Rattle.sonic_text.specs.Faults.{IsFault}
@@ -102,10 +102,7 @@ nowhere_one t i n kind o e h = ends_one o h (rw e (nowhere_ends t i n kind))
 
 -- in a whole value a node leads to a whole value, which ends before it
 pub part_of_whole : {t : List ℕ} {i v j : ℕ} {node : Node} → LeadsOn t i node v → IsValue strict t i j → (e : ℕ) × IsValue strict t v e × (e < j)
-part_of_whole {t} {v = v} l x = elim (value_some_outcome strict t v) [
-  | inl y ↦ (y.0, y.1, item_before_end l.before.fit l.item.head y.1 x)
-  | inr f ↦ absurd (value_never_both x (leads_to_fault l f.1))
-]
+part_of_whole l x = let y = item_whole x l.before.fit l.item.head in (y.0, y.1, item_before_end l.before.fit l.item.head y.1 x)
 
 -- in a whole value a path ends before the value does
 pub ends_before_end : {t : List ℕ} (path : List Node) {i j q : ℕ} {o : Outcome} → Evaluates t i path o → IsValue strict t i j → EndsAt o q → q < j

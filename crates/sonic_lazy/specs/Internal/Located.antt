@@ -4,6 +4,7 @@ use Rattle.sonic_text.specs.Strings.{IsEscapedString}
 use Rattle.sonic_parser.specs.declared.status.ParseStatus.{ParseStatus}
 use Rattle.sonic_parser.specs.declared.status.ParseStatus.TheVariants.{HasEscaped}
 use Rattle.sonic_lazy.specs.declared.located.Located.{Located}
+use Rattle.sonic_lazy.specs.declared.span.Span as slot
 use Rattle.sonic_lazy.specs.Answers.{Span}
 use Rattle.sonic_lazy.specs.Wholes.{IsPart}
 
@@ -26,3 +27,7 @@ HaveStatuses t xs = (k : ℕ) (x : Located) → slice_get xs k ≡ Some (Some x)
 -- and each is a value of its own, in UTF-8
 abbrev pub AreParts : List ℕ → List (Option Located) → Type 0
 AreParts t xs = (k : ℕ) (x : Located) → slice_get xs k ≡ Some (Some x) → IsPart t x.start x.end
+
+-- so is each of these spans
+abbrev pub AreSpans : List ℕ → List (Option slot.Span) → Type 0
+AreSpans t xs = (k : ℕ) (x : slot.Span) → slice_get xs k ≡ Some (Some x) → IsPart t x.start x.end

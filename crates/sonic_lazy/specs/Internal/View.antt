@@ -1,6 +1,5 @@
 -- What the fields of a walk and of a level denote.
-use Rattle.std.specs.Prelude.{◌≡◌, ℕ, Bool, List}
-use Rattle.sonic_text.specs.Strings.{strict}
+use Rattle.std.specs.Prelude.{◌≡◌, ℕ, Bool, true, List}
 use Rattle.sonic_pointer.specs.Views.{View}
 use Rattle.sonic_lazy.specs.declared.state.Walk.TheInside.{Inside}
 use Rattle.sonic_lazy.specs.declared.walk.Level.{Level}
@@ -10,15 +9,15 @@ use Rattle.sonic_lazy.specs.Internal.Walk.{Findings, Walking, Point, Container, 
 -- the walk that its callers see
 abbrev pub walking_of : Inside → Walking
 walking_of walk = record {
-  text = walk.parser.text;
-  place = walk.parser.place;
+  text = walk.steps.text;
+  place = walk.steps.place;
   findings = record { spans = spans_of walk.spans.items; lacking = walk.lacking };
 }
 
--- it reads strictly, and each value that was found has its status
+-- it looks at what it skips, and each value that was found has its status
 pub record IsWalk (walk : Inside) : Type 0 where
-  pub reads : walk.parser.lossy ≡ strict
-  pub statuses : HaveStatuses walk.parser.text walk.spans.items
+  pub checks : walk.steps.checks ≡ true
+  pub statuses : HaveStatuses walk.steps.text walk.spans.items
 
 -- the prefix of a view, whose value is expected where the walk has come to
 abbrev pub point_at : Walking → View → Point

@@ -14,10 +14,10 @@ use std::test::Fail;
 pub(crate) type Paths = &'static [&'static [PointerNode<'static>]];
 
 // The paths, a text, and what they find in it.
-type Answered = (Paths, &'static str, &'static [Option<&'static str>]);
+pub(crate) type Answered = (Paths, &'static str, &'static [Option<&'static str>]);
 
 // The paths, a text, and the code and the offset of the one error.
-type Refused = (Paths, &'static str, ErrorCode, usize);
+pub(crate) type Refused = (Paths, &'static str, ErrorCode, usize);
 
 pub(crate) fn tree_of(rt: &impl Abort, alloc: Global, paths: Paths) -> PointerTree {
     let mut tree = PointerTree::new(alloc);
@@ -68,7 +68,7 @@ fn check_error<'de, I: JsonInput<'de>>(
     }
 }
 
-const ANSWERED: [Answered; 15] = [
+pub(crate) const ANSWERED: [Answered; 15] = [
     (
         &[
             &[Key("u")],
@@ -227,7 +227,7 @@ const OBJECT_FOR_ARRAY: ErrorCode = ErrorCode::Message(Note::Mismatch {
     wanted: Wanted::Array,
 });
 
-const REFUSED: [Refused; 18] = [
+pub(crate) const REFUSED: [Refused; 18] = [
     // The text ends, or stops being JSON, before a path is settled.
     (&[&[Key("b")]], "{\"a\":1\n", ErrorCode::EofWhileParsing, 6),
     (

@@ -1,8 +1,16 @@
-// What no clause says: that look-ups of one path answer worked examples, over each kind of input and
-// where memory is ample. The expected values are by the grammar.
-use crate::get;
+// What no clause says: that look-ups of one path answer worked examples, over each kind of input, with
+// a look at what they pass or without, and where memory is ample. The expected values are by the
+// grammar.
+ghost use Rattle.std.specs.Prelude.{◌≡◌, true};
+ghost use Rattle.sonic_text.specs.Documents.{StartsWithUtf8Value};
+
+use crate::{
+    LazyValue, get, get_from_bytes, get_from_bytes_unchecked, get_from_faststr,
+    get_from_faststr_unchecked, get_from_slice, get_from_slice_unchecked, get_from_str,
+    get_from_str_unchecked, get_unchecked,
+};
 use bytes::Bytes;
-use sonic_error::{ErrorCode, JsonType, Note, Wanted};
+use sonic_error::{Error, ErrorCode, JsonType, Note, Wanted};
 use sonic_input::{FastStr, JsonInput};
 use sonic_pointer::PointerNode;
 use sonic_pointer::PointerNode::{Index, Key};
@@ -13,17 +21,11 @@ use std::test::Fail;
 type Path = &'static [PointerNode<'static>];
 
 // The text of a value, or the code and the offset of an error.
-type Answer = Result<&'static str, (ErrorCode, usize)>;
+type Answer<'a> = Result<&'a str, (ErrorCode, usize)>;
 
-// Checks what a path is answered with over an input.
-fn check<'de, I: JsonInput<'de>>(
-    rt: &impl Abort,
-    alloc: Global,
-    input: I,
-    path: &[PointerNode<'_>],
-    wanted: Result<&str, (ErrorCode, usize)>,
-) {
-    match (get(alloc, input, path), wanted) {
+// Checks an answer.
+fn compare(rt: &impl Abort, answer: Result<LazyValue<'_>, Error>, wanted: Answer<'_>) {
+    match (answer, wanted) {
         (Ok(value), Ok(text)) => assert_eq!(rt; value.as_raw_str(), text),
         (Err(error), Err((code, offset))) => {
             assert_eq!(rt; error.code(), code);
@@ -34,13 +36,74 @@ fn check<'de, I: JsonInput<'de>>(
     }
 }
 
+// Whether a text is known to begin with a value in UTF-8: the empty path finds it.
+pub(crate) fn starts(alloc: Global, text: &[u8]) -> bool
+    ensures { result ≡ true → StartsWithUtf8Value text.now }
+{
+    get_from_slice(alloc, text, &[]).is_ok()
+}
+
+// Checks what a path is answered with over an input, with and without a look at what is passed.
+fn check<'de, I: JsonInput<'de>>(
+    rt: &impl Abort,
+    alloc: Global,
+    input: I,
+    path: &[PointerNode<'_>],
+    wanted: Answer<'_>,
+) {
+    compare(rt, get(alloc, input, path), wanted);
+    if starts(alloc, input.to_u8_slice()) {
+        compare(rt, get_unchecked(input, path), wanted);
+    }
+}
+
+// Checks the same by the forms for one kind of input each.
+fn check_forms(
+    rt: &impl Abort,
+    alloc: Global,
+    text: &FastStr,
+    path: &[PointerNode<'_>],
+    wanted: Answer<'_>,
+) {
+    compare(rt, get_from_str(alloc, text.as_str(), path), wanted);
+    compare(
+        rt,
+        get_from_slice(alloc, text.as_str().as_bytes(), path),
+        wanted,
+    );
+    compare(rt, get_from_bytes(alloc, text.bytes(), path), wanted);
+    compare(rt, get_from_faststr(alloc, text, path), wanted);
+    if starts(alloc, text.as_str().as_bytes()) {
+        compare(rt, get_from_str_unchecked(text.as_str(), path), wanted);
+        compare(
+            rt,
+            get_from_slice_unchecked(text.as_str().as_bytes(), path),
+            wanted,
+        );
+        compare(rt, get_from_bytes_unchecked(text.bytes(), path), wanted);
+        compare(rt, get_from_faststr_unchecked(text, path), wanted);
+    }
+}
+
 // A number is where an object is wanted.
 const NUMBER_FOR_OBJECT: ErrorCode = ErrorCode::Message(Note::Mismatch {
     found: JsonType::Number,
     wanted: Wanted::Object,
 });
 
-const TEXTS: [(Path, &str, Answer); 18] = [
+// An array is where an object is wanted.
+const ARRAY_FOR_OBJECT: ErrorCode = ErrorCode::Message(Note::Mismatch {
+    found: JsonType::Array,
+    wanted: Wanted::Object,
+});
+
+// A string is where an object is wanted.
+const STRING_FOR_OBJECT: ErrorCode = ErrorCode::Message(Note::Mismatch {
+    found: JsonType::String,
+    wanted: Wanted::Object,
+});
+
+const TEXTS: [(Path, &str, Answer<'static>); 27] = [
     (&[], " [1, {}] x", Ok("[1, {}]")),
     (&[Key("a"), Index(1)], "{\"a\":[2,3]", Ok("3")),
     (
@@ -73,6 +136,37 @@ const TEXTS: [(Path, &str, Answer); 18] = [
         &[Key("a"), Key("b")],
         "{\"a\":12}",
         Err((NUMBER_FOR_OBJECT, 6)),
+    ),
+    (
+        &[Key("a"), Index(2)],
+        "{\"a\": [0, 1, \"two\"]}",
+        Ok("\"two\""),
+    ),
+    (
+        &[Key("b")],
+        "{\"a\": 1}",
+        Err((ErrorCode::GetUnknownKeyInObject, 7)),
+    ),
+    (&[Key("b")], "[1, 2, 3]", Err((ARRAY_FOR_OBJECT, 8))),
+    (&[Index(0)], "[]", Err((ErrorCode::GetInEmptyArray, 1))),
+    (&[Index(3)], "[1]", Err((ErrorCode::GetIndexOutOfArray, 2))),
+    // What follows where the path leads nowhere isn't read.
+    (
+        &[Key("a"), Key("b")],
+        "{\"a\": \"\"invalid\", \"b\":null}",
+        Err((STRING_FOR_OBJECT, 7)),
+    ),
+    // A byte order mark begins no value, and a single surrogate is no char, skipped or found.
+    (&[], "\u{feff}1", Err((ErrorCode::InvalidJsonValue, 0))),
+    (
+        &[Index(1)],
+        "[\"\\ud800\",1]",
+        Err((ErrorCode::InvalidSurrogateUnicodeCodePoint, 8)),
+    ),
+    (
+        &[Index(0)],
+        "[\"\\ud800\"]",
+        Err((ErrorCode::InvalidSurrogateUnicodeCodePoint, 8)),
     ),
     // The text has a fault before the value or inside it.
     (&[], "", Err((ErrorCode::EofWhileParsing, 0))),
@@ -119,12 +213,56 @@ fn answers_a_path_over_each_kind_of_input(rt: HostRuntime) -> Result<(), Fail> {
         check(&rt, alloc, &owned, path, wanted);
         check(&rt, alloc, &shared, path, wanted);
         check(&rt, alloc, shared.bytes(), path, wanted);
+        check_forms(&rt, alloc, &shared, path, wanted);
+    }
+    Ok(())
+}
+
+#[test]
+fn finds_in_a_lazy_value_what_it_finds_in_its_text(rt: HostRuntime) -> Result<(), Fail> {
+    let alloc = rt.alloc();
+    for (path, text, wanted) in TEXTS {
+        let Ok(root) = get(alloc, text, &[]) else {
+            continue;
+        };
+        let found = root.pointer(path);
+        match (&found, wanted) {
+            (Some(value), Ok(text)) => assert_eq!(rt; value.as_raw_str(), text),
+            (None, Err(_)) => {}
+            _ => panic!(&rt; "{text}"),
+        }
+        if let [node] = path {
+            assert_eq!(rt; root.get(*node), found, "{text}");
+        }
+    }
+    Ok(())
+}
+
+// How many arrays are open round the value that is looked for.
+const DEPTH: usize = 1000;
+
+#[test]
+fn finds_what_is_deep(rt: HostRuntime) -> Result<(), Fail> {
+    let alloc = rt.alloc();
+    let mut text = String::new(alloc);
+    for _ in 0..DEPTH {
+        text.push('[')?;
+    }
+    text.push('7')?;
+    for _ in 0..DEPTH {
+        text.push(']')?;
+    }
+    let path = vec![in alloc; Index(0); DEPTH]?;
+    check(&rt, alloc, text.as_str(), &path, Ok("7"));
+    match get(alloc, text.as_str(), &[]) {
+        Ok(root) => assert_eq!(rt; root.pointer(&path).is_some(), true),
+        Err(error) => panic!(&rt; "{error}"),
     }
     Ok(())
 }
 
 // Bytes that aren't UTF-8: before the value's end, or after all that the answer needs.
-const BROKEN: [(Path, &[u8], Answer); 4] = [
+const BROKEN: [(Path, &[u8], Answer<'static>); 4] = [
     (
         &[Index(1)],
         b"[\"\xFF\",1]",

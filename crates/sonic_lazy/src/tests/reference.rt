@@ -11,7 +11,7 @@ ghost use Rattle.sonic_lazy.specs.Paths.{found, lacks, fails, cut, fails_at, kin
 
 use crate::located::Located;
 use crate::many::find_many;
-use crate::state::{empty_code, type_at, wanted_of};
+use crate::steps::{empty_code, type_at, wanted_of};
 use crate::tests::lookups::{Paths, tree_of};
 use sonic_error::{ErrorCode, Note};
 use sonic_input::{JsonSlice, Read};

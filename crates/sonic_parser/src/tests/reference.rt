@@ -38,7 +38,7 @@ fn value_end(text: &[u8], start: usize, lossy: bool) -> Result<usize, Stop>
 const LETTERS: &[u8; 10] = b"[]{},:\"1\\ ";
 
 // The text number `n` among all those of these letters that are `length` bytes long.
-fn text_of_number(alloc: Global, mut n: usize, length: u8) -> Result<Vec<u8>, Fail> {
+pub(super) fn text_of_number(alloc: Global, mut n: usize, length: u8) -> Result<Vec<u8>, Fail> {
     let mut text = Vec::new(alloc);
     for _ in 0..length {
         text.push(LETTERS[n % 10])?;

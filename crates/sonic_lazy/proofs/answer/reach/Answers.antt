@@ -1,5 +1,5 @@
 use Rattle.sonic_lazy.proofs.answer.reach.Goals as goal
-use Rattle.std.proofs.Common.{◌≡◌, ◌∙◌, inr, ap, refl}
+use Rattle.std.proofs.Common.{◌≡◌, inr}
 use Rattle.sonic_lazy.proofs.AnswerLemmas.Walk.{is_reached, root_prefix, root_reported}
 use Rattle.sonic_text.specs.Places.{after_space}
 
@@ -12,9 +12,8 @@ follow-requires-clause-are c =
 
 pub returns-clause-reached : goal.returns-clause-reached
 returns-clause-reached c =
-    let text : c.in_ok-walk.walk.text ≡ c.args.read.text = c.in_ok-walk.ensures.text ∙ (ap (λ p. p.text) c.skip_space_peek.ensures.moved ∙ c.new-parser.ensures.text) in
-    let place : c.in_ok-walk.walk.place ≡ after_space c.args.read.text 0 =
-    c.in_ok-walk.ensures.place ∙ (ap (λ p. p.place) c.skip_space_peek.ensures.moved ∙ rw (c.new-parser.ensures.text, c.new-parser.ensures.place, c.requires.start) refl) in
+    let text : c.in_ok-walk.walk.text ≡ c.args.read.text = c.in_ok-walk.ensures.text in
+    let place : c.in_ok-walk.walk.place ≡ after_space c.args.read.text 0 = c.in_ok-walk.ensures.place in
     let later = rw (text, c.view.ensures.paths) at c.in_ok-follow.ensures.later in
     let settled = rw (text, c.view.ensures.paths, c.view.ensures.prefix) at c.in_ok-follow.ensures.settled in
     let value = rw (text, place, ← c.place-end.ensures.place) at c.in_ok-follow.ensures.whole in

@@ -1,5 +1,8 @@
 use Rattle.sonic_lazy.proofs.document.validate.Goals as goal
-use Rattle.sonic_lazy.proofs.DocumentLemmas.{invalid_error, valid_but_memory}
+use Rattle.sonic_lazy.proofs.DocumentLemmas.{document_starts, invalid_error, valid_but_memory}
+
+pub returns-in-Ok-clause-starts : goal.returns-in-Ok-clause-starts
+returns-in-Ok-clause-starts g c = document_starts (rw (c.unscanned-read.ensures.text, c.to_json_slice.ensures.bytes) at c.in-Ok.ensures.ok)
 
 pub returns-in-Err-clause-err : goal.returns-in-Err-clause-err
 returns-in-Err-clause-err g c =

@@ -9,12 +9,13 @@ entry-requires g c κs =
     let status = rw (c.unscanned-read.ensures.text, c.to_json_slice.ensures.bytes) at c.in-Ok.ensures.status in
     ((refl, tt), (part_alone g.I.JsonInput.is_bytes answer c.to_u8_slice-text.ensures.utf8 value, status))
 
-pub returns-in-Err-clause-err : goal.returns-in-Err-clause-err
-returns-in-Err-clause-err g c =
-    let e = rw (c.unscanned-read.ensures.text, c.to_json_slice.ensures.bytes, c.need_utf8_valid.ensures) at c.in-Err.ensures.err in
-    get_refusal c.in-Err.fault e (rw c.to_u8_slice-text.ensures.bytes at c.error.ensures)
+pub returns-in-Ok : goal.returns-in-Ok
+returns-in-Ok g c =
+    let answer = rw (c.unscanned-read.ensures.text, c.to_json_slice.ensures.bytes, c.need_utf8_valid.ensures) at c.in-Ok.ensures.ok in
+    record { ok = record { start = _; end = _; answer = answer; shown = c.entry.ensures }; err = tt; complete = λ _. tt }
 
-pub returns-in-Err-clause-complete : goal.returns-in-Err-clause-complete
-returns-in-Err-clause-complete g c = λ can.
+pub returns-in-Err : goal.returns-in-Err
+returns-in-Err g c =
     let e = rw (c.unscanned-read.ensures.text, c.to_json_slice.ensures.bytes, c.need_utf8_valid.ensures) at c.in-Err.ensures.err in
-    get_but_memory can (get_refusal c.in-Err.fault e (rw c.to_u8_slice-text.ensures.bytes at c.error.ensures))
+    let refusal = get_refusal c.in-Err.fault e (rw c.to_u8_slice-text.ensures.bytes at c.error.ensures) in
+    record { ok = tt; err = refusal; complete = λ can. get_but_memory can refusal }

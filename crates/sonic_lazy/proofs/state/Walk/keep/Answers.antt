@@ -11,4 +11,4 @@ fill-requires c = λ k h.
     omega (arith, known, length-map c.self.inside.spans.items (option_map span_at))
 
 pub returns-clause-filled : goal.returns-clause-filled
-returns-clause-filled c = rw (← c.self.view_is, ← c.offset-end.ensures.place) (fill_mapped span_at c.fill.ensures)
+returns-clause-filled c = rw (← c.self.view_is, ← c.place-end.ensures.place) (fill_mapped span_at c.fill.ensures)

@@ -1,0 +1,35 @@
+//! What the README shows, as one program: small functions over the library, and what they answer.
+#![tactic(auto)]
+
+// A gateway that reads the subject of a token from a request's body.
+mod gateway;
+// A look-up of one path by the library's calls, for measuring them.
+mod lookup;
+// A log reader that takes three fields of each record.
+mod records;
+// Lazy values: their types, and paths inside them.
+mod values;
+
+use std::alloc::Global;
+use std::io;
+use std::process::ExitCode;
+
+// All that the README shows.
+fn show(rt: &impl Print, alloc: Global) -> io::Result<()> {
+    gateway::show(rt, alloc)?;
+    records::show(rt, alloc)?;
+    values::show(rt, alloc)
+}
+
+fn main(rt: HostRuntime) -> ExitCode {
+    let alloc = rt.alloc();
+    let done = match lookup::asked(&rt, alloc) {
+        Ok(Some(call)) => call.run(&rt, alloc),
+        Ok(None) => show(&rt, alloc),
+        Err(error) => Err(error),
+    };
+    match done {
+        Ok(()) => ExitCode::SUCCESS,
+        Err(_) => ExitCode::FAILURE,
+    }
+}

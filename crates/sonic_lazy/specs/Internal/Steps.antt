@@ -1,0 +1,18 @@
+-- What the steps of a walk through a text know.
+use Rattle.std.specs.Prelude.{◌≡◌, ℕ, Bool, false, List}
+use Rattle.sonic_text.specs.Strings.{strict}
+use Rattle.sonic_text.specs.Values.{IsValue}
+
+-- the text, the place that the steps have come to, and whether they look at what they skip
+pub record Stepping : Type 0 where
+  pub text : List ℕ
+  pub place : ℕ
+  pub checks : Bool
+
+-- a whole value begins at i
+abbrev pub HasWhole : List ℕ → ℕ → Type 0
+HasWhole t i = (j : ℕ) × IsValue strict t i j
+
+-- where they don't look, a whole value begins at the place
+abbrev pub IsSkippable : Stepping → Type 0
+IsSkippable steps = steps.checks ≡ false → HasWhole steps.text steps.place
