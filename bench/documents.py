@@ -126,6 +126,14 @@ DOCUMENTS = {
 }
 
 
+# What `list` reads, which has no path lines: so many items each.
+ITEMS = 1_000_000
+LISTS = {
+    "elements": lambda: "[" + ", ".join(map(str, range(ITEMS))) + "]\n",
+    "members": lambda: "{" + ", ".join(f'"key {i}": {i}' for i in range(ITEMS)) + "}\n",
+}
+
+
 def path_of(folder, name):
     return os.path.join(folder, name + ".in")
 
@@ -140,6 +148,10 @@ def main():
         with open(path, "w") as out:
             out.writelines(json.dumps(steps) + "\n" for steps in paths)
             out.write("\n" + text)
+    for name, document in LISTS.items():
+        if not os.path.exists(path_of(folder, name)):
+            with open(path_of(folder, name), "w") as out:
+                out.write(document())
 
 
 if __name__ == "__main__":

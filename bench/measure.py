@@ -12,6 +12,8 @@ import filecmp
 import json
 import os
 import resource
+import shutil
+import subprocess
 import sys
 from dataclasses import dataclass
 
@@ -142,6 +144,28 @@ def measure(name, folder, program, others, runs):
         print(row + (f" {ratio(ours, it):>10}" if it.name in others else ""), flush=True)
 
 
+def count_writes(command, path):
+    """How many calls write its report, where strace is there to count them."""
+    if not shutil.which("strace"):
+        return "-"
+    with open(path, "rb") as source:
+        traced = ["strace", "-qq", "-e", "trace=write", *command.words]
+        run = subprocess.run(traced, stdin=source, stdout=subprocess.DEVNULL, stderr=subprocess.PIPE)
+    return run.stderr.count(b"write(1, ")
+
+
+def measure_list(name, folder, program, runs):
+    """`list` of a million items, beside `cat`."""
+    path = documents.path_of(folder, name)
+    cat, ours = Command("cat", ["cat"]), Command("list", [program, "list"])
+    for _ in range(runs):
+        cat.count(path)
+        ours.count(path)
+    size = os.path.getsize(path) / 10**6
+    row = f"{name:9} {size:4.0f} {ours.name:11} {ours.seconds:7.3f} {ours.seconds / cat.seconds:7.1f}"
+    print(row + f" {peak_of(ours):>8} {ours.status:7} {count_writes(ours, path):>8}", flush=True)
+
+
 def measure_calls(name, folder, examples, runs):
     """One look-up by a call of the library: what ten more of them take, in a document that was read."""
     path = documents.path_of(folder, name)
@@ -164,6 +188,9 @@ def main():
     print(f"{'document':9} {'MB':>4} {'command':11} {'cpu s':>7} {'to cat':>7} {'peak MB':>8} {'status':>7} {'report':>8} {'ours to it':>10}")
     for name in documents.DOCUMENTS:
         measure(name, folder, program, others, runs)
+    print(f"{'list':9} {'MB':>4} {'command':11} {'cpu s':>7} {'to cat':>7} {'peak MB':>8} {'status':>7} {'writes':>8}")
+    for name in documents.LISTS:
+        measure_list(name, folder, program, runs)
     if examples:
         print(f"{'document':9} {'MB':>4} {'call':13} {'cpu s':>7}")
         for name in CALLED:

@@ -1,5 +1,6 @@
 // A gateway that reads the subject of a token from a request's body.
-ghost use Rattle.std.specs.Prelude.{◌≡◌, ◌≢◌};
+ghost use Rattle.std.specs.Prelude.{◌≡◌, ◌≢◌, IfOk, IfErr};
+ghost use Rattle.sonic_examples.specs.Subjects.{IsSubject, IsRejection};
 
 use sonic_error::{Category, Error};
 use sonic_lazy::get;
@@ -35,6 +36,11 @@ impl Rejection {
 }
 
 impl From<Error> for Rejection {
+    ghost use Rattle.std.specs.Prelude.{◌≡◌};
+    ghost use Rattle.sonic_examples.specs.Subjects.{rejection_of};
+
+    ghost from_gives = { λ error rejection. rejection ≡ rejection_of error };
+
     fn from(error: Error) -> Rejection {
         match error.classify() {
             Category::NotFound => Rejection::Missing,
@@ -51,7 +57,10 @@ impl From<Error> for Rejection {
 /// The subject of the token in a request's body.
 ///
 /// What follows the subject isn't read. Of `{"token":{"sub":"ada"}}` it is `ada`.
-pub fn subject<'t>(alloc: Global, body: &'t [u8]) -> Result<CowStr<'t>, Rejection> {
+pub fn subject<'t>(alloc: Global, body: &'t [u8]) -> Result<CowStr<'t>, Rejection>
+    ensures ok { IfOk result (IsSubject body.now) }
+    ensures err { IfErr result (IsRejection body.now) }
+{
     let value = get(alloc, body, &pointer!["token", "sub"])?;
     match value.as_str(alloc)? {
         Some(text) => Ok(text),

@@ -3,6 +3,8 @@
 
 // A gateway that reads the subject of a token from a request's body.
 mod gateway;
+// The items of a container, one after the other.
+mod items;
 // A look-up of one path by the library's calls, for measuring them.
 mod lookup;
 // A log reader that takes three fields of each record.
@@ -18,7 +20,8 @@ use std::process::ExitCode;
 fn show(rt: &impl Print, alloc: Global) -> io::Result<()> {
     gateway::show(rt, alloc)?;
     records::show(rt, alloc)?;
-    values::show(rt, alloc)
+    values::show(rt, alloc)?;
+    items::show(rt, alloc)
 }
 
 fn main(rt: HostRuntime) -> ExitCode {

@@ -1,4 +1,8 @@
 // A log reader that takes three fields of each record.
+ghost use Rattle.std.specs.Prelude.{false, IfOk, IfErr};
+ghost use Rattle.sonic_lazy.specs.Causes.{IsRefusal};
+ghost use Rattle.sonic_lazy.specs.Shown.{AreValues};
+
 use sonic_error::{Error, ErrorCode};
 use sonic_lazy::{LazyValue, get_many};
 use sonic_pointer::{PointerTree, pointer};
@@ -25,7 +29,10 @@ pub fn fields<'t>(
     alloc: Global,
     paths: &PointerTree,
     record: &'t str,
-) -> Result<Vec<Option<LazyValue<'t>>>, Error> {
+) -> Result<Vec<Option<LazyValue<'t>>>, Error>
+    ensures ok { IfOk result (λ values. AreValues record.now false paths.now values.items) }
+    ensures err { IfErr result (IsRefusal record.now false paths.now) }
+{
     get_many(alloc, record, paths)
 }
 

@@ -6,6 +6,12 @@ pub mod DocumentLemmas
 pub mod FillLemmas
 -- What one path alone comes to, and where it stops.
 pub mod GetLemmas
+-- How the items of a container are passed one after the other.
+pub mod ItemLemmas
+-- What a call of `next` gives of an iterator.
+pub mod IteratorLemmas
+-- A container has one list of items, with one end or one error.
+pub mod ListingLemmas
 -- Where a path leads in the text of a value.
 pub mod PartLemmas
 -- Where a node leads on to, and the one outcome of a path.

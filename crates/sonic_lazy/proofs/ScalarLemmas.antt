@@ -17,6 +17,8 @@ use Rattle.sonic_text.proofs.TreeLemmas.{tree_of}
 use Rattle.sonic_text.proofs.Values.{first_letter}
 use Rattle.sonic_lazy.proofs.WholeLemmas.{lazy_is_whole}
 use Rattle.sonic_lazy.specs.declared.lazyvalue.LazyValue.{LazyValue}
+use Rattle.sonic_lazy.specs.Internal.StringSpans.{IsStringSpan}
+use Rattle.sonic_text.proofs.StringTexts.{string_utf8}
 use Rattle.sonic_lazy.specs.LazyValues.{raw_bytes}
 use Rattle.sonic_lazy.specs.Scalars.{numeral, text, container, scalar_of, scalar_of_tree, type_of}
 
@@ -76,3 +78,11 @@ pub lazy_string : (value : LazyValue) → scalar_of (raw_bytes value) ≡ text �
 lazy_string value e =
     let tree = tree_of (lazy_is_whole value).value in
     means_text tree.1 (rw (scalar_means refl tree.1) at e)
+
+-- from end to end, which denotes bytes in UTF-8
+pub lazy_span : (value : LazyValue) → scalar_of (raw_bytes value) ≡ text
+    → IsStringSpan (raw_bytes value) (record { start = 0; end = length (raw_bytes value); escaped = value.has_escaped })
+lazy_span value e =
+    let string = lazy_string value e in
+    let whole = lazy_is_whole value in
+    record { bytes = string.0; is = string.1; within = omega arith; utf8 = string_utf8 whole.utf8 string.1; escaped = whole.escapes }

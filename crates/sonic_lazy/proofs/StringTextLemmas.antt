@@ -1,5 +1,5 @@
 -- What a string without a backslash denotes.
-use Rattle.std.proofs.Common.{◌≡◌, ◌≢◌, inl, inr, ℕ, ◌-◌, ◌≤◌, Bool, List, length, arith, refl, sym}
+use Rattle.std.proofs.Common.{◌≡◌, ◌≢◌, inl, inr, ℕ, ◌+◌, ◌-◌, ◌≤◌, Bool, List, length, arith, refl, sym}
 use Rattle.std.proofs.lemmas.Bool.{cases_eq}
 use Rattle.std.proofs.lemmas.List.Edits.{between_none, between_more}
 use Rattle.std.specs.Prelude.{slice_range}
@@ -26,15 +26,14 @@ plain_chars {m} {t} {k = k} (one_more {p = p} {c = c} h (unicode_escape x u) is)
     absurd (plain p (chars_later h) (chars_later last) x.0)
 
 -- a string without a backslash denotes all between its quotes
-pub plain_string : {m : Bool} {t b : List ℕ} → IsString m t 0 (length t) b → ¬ IsEscapedString t 0 (length t)
-    → IsString m t 0 (length t) (slice_range t 1 (length t - 1))
-plain_string {m} {t} {b} s none =
+pub plain_string : {m : Bool} {t b : List ℕ} {i j : ℕ} → IsString m t i j b → ¬ IsEscapedString t i j → j ≤ length t → b ≡ slice_range t (i + 1) (j - 1)
+plain_string {m} {t} {b} {i} {j} s none within =
     let end = s.end in
-    let plain : HasNone t 1 s.close = λ p l n e. elim (cases_eq p s.close) [
+    let later = chars_later s.chars in
+    let plain : HasNone t (i + 1) s.close = λ p l n e. elim (cases_eq p s.close) [
       | inl last ↦ (let q = rw last at e in omega (arith, s.closes))
       | inr other ↦ none (s.opens, p, omega arith, omega arith, e)
     ] in
-    let is : b ≡ slice_range t 1 s.close = plain_chars s.chars plain (omega arith) in
-    let close : s.close ≡ length t - 1 = omega arith in
-    let all : b ≡ slice_range t 1 (length t - 1) = rw (← close) is in
-    rw (← all) s
+    let is : b ≡ slice_range t (i + 1) s.close = plain_chars s.chars plain (omega arith) in
+    let close : s.close ≡ j - 1 = omega arith in
+    rw close at is

@@ -2,6 +2,8 @@ pub mod Answers
 pub mod Causes
 pub mod Documents
 pub mod Internal
+pub mod Items
+pub mod Iterators
 pub mod Laws
 pub mod LazyValues
 pub mod Paths

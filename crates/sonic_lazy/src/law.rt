@@ -1,10 +1,13 @@
-ghost use Rattle.std.specs.Prelude.{◌≡◌, ◌<◌, ◌+◌, ◌++◌, ◌↔◌, ℕ, Bool, List, Option, false, slice_range};
+ghost use Rattle.std.specs.Prelude.{◌≡◌, ◌⊎◌, ◌<◌, ◌+◌, ◌++◌, ◌↔◌, ℕ, Bool, List, Option, false, true, slice_range};
 ghost use Rattle.std.specs.Str.{IsUtf8};
+ghost use Rattle.sonic_text.specs.declared.kind.Kind.{Kind};
 ghost use Rattle.sonic_text.specs.declared.stop.Stop.{Stop};
 ghost use Rattle.sonic_text.specs.Documents.{IsRootFault, StartsWithUtf8Value};
 ghost use Rattle.sonic_text.specs.Paths.{Node, Path};
+ghost use Rattle.sonic_text.specs.Places.{after_space};
 ghost use Rattle.sonic_lazy.specs.Answers.{IsAnswer, IsGetAnswer, Span, spans};
 ghost use Rattle.sonic_lazy.specs.Documents.{IsValidDocument, IsInvalid};
+ghost use Rattle.sonic_lazy.specs.Items.{Listing, IsListing, closed, stopped, stop_at, code_of_start};
 ghost use Rattle.sonic_lazy.specs.Laws.{AreGetAnswers, ExactlyOne, HoldsOrHasOneReason};
 ghost use Rattle.sonic_lazy.specs.Laws.{Finds, LeadsInPart, MixNowhere, outcome_in_whole};
 ghost use Rattle.sonic_lazy.specs.Paths.{Outcome, Evaluates, Leads, found, lacks, fails, cut};
@@ -105,4 +108,31 @@ pub fn a_path_goes_on_in_its_value()
         → (o : Outcome) × LeadsInPart t a b part o × (whole ≡ outcome_in_whole part.0 o) }
     ensures text { (t : List ℕ) (a b : Path) (part : Span) (i j : ℕ) → LeadsInPart t a b part (found i j)
         → slice_range (span_text t part) i j ≡ slice_range t (part.0 + i) (part.0 + j) }
+{}
+
+/// The law of items, for every text, whether it came as bytes or not, and each kind of container:
+/// they are one list with one ending, and no other.
+///
+/// So the members of `{"a":1,"b":x}` are the first one, and then the `x` is no value. The elements of
+/// that text are none, as no array begins it.
+pub fn container_has_one_listing()
+    ensures { (t : List ℕ) (is_bytes : Bool) (kind : Kind) → ExactlyOne (IsListing t is_bytes kind) }
+{}
+
+/// The law of the look at UTF-8: over a text in UTF-8 it changes neither the items nor their ending.
+///
+/// So an unchecked iterator, which takes no look, gives what the checked one gives.
+pub fn utf8_has_the_same_items()
+    ensures { (t : List ℕ) (kind : Kind) (listing : Listing) → IsUtf8 t
+        → (IsListing t true kind listing ↔ IsListing t false kind listing) }
+{}
+
+/// The law of items of a text that starts with a value in UTF-8: they end with the closing bracket,
+/// unless the value is no container of the kind.
+///
+/// So over `[1] x` an unchecked iterator has one error only, and that where it asks for an object.
+pub fn items_of_a_value_are_closed()
+    ensures { (t : List ℕ) (kind : Kind) (listing : Listing) → StartsWithUtf8Value t
+        → IsListing t false kind listing → (listing.ending ≡ closed)
+        ⊎ (listing.ending ≡ stopped (stop_at (after_space t 0) (code_of_start kind))) }
 {}

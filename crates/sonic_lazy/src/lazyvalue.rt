@@ -4,7 +4,7 @@ ghost use Rattle.std.specs.Cmp.Rules.{comparing, hashing};
 ghost use Rattle.sonic_input.specs.Slices.{slice_bytes};
 ghost use Rattle.sonic_lazy.specs.Wholes.{IsWholeValue};
 
-use crate::unescaped::{unescaped, unquoted};
+use crate::unescaped::{StringSpan, string_text};
 use crate::value_trait::JsonValueTrait;
 use sonic_error::ErrorCode;
 use sonic_input::{FastStr, JsonSlice};
@@ -95,11 +95,19 @@ impl<'a> LazyValue<'a> {
         if !self.is_str() {
             return Ok(None);
         }
-        let text = self.text();
-        if self.has_escaped {
-            Ok(Some(CowStr::Owned(unescaped(alloc, text)?)))
-        } else {
-            Ok(Some(CowStr::Borrowed(unquoted(text))))
+        let text = self.raw.bytes();
+        let (start, end, escaped) = (0, text.len(), self.has_escaped);
+        match string_text(
+            alloc,
+            text,
+            StringSpan {
+                start,
+                end,
+                escaped,
+            },
+        ) {
+            Ok(text) => Ok(Some(text)),
+            Err(error) => Err(error),
         }
     }
 

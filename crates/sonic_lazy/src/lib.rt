@@ -9,6 +9,12 @@ mod container_trait;
 mod document;
 // The lazy value of a span that was found.
 mod entry;
+// One item of a container after the other.
+mod items;
+// How far an iterator has come in its container.
+mod iteration;
+// Iterators over the items of a container.
+mod iterator;
 // The laws of outcomes, answers and documents.
 mod law;
 // One value that was found in a text and isn't read yet.
@@ -47,10 +53,15 @@ mod within;
 
 pub use container_trait::JsonContainerTrait;
 pub use document::validate;
+pub use iterator::{
+    ArrayJsonIter, ObjectJsonIter, to_array_iter, to_array_iter_unchecked, to_object_iter,
+    to_object_iter_unchecked,
+};
 pub use law::{
-    a_cut_is_the_root_fault, a_path_goes_on_in_its_value, document_is_valid_or_has_one_reason,
-    fails_at_one_place_agree, get_many_agrees_with_get, outcomes_come_before_the_fault,
-    path_has_one_answer, path_has_one_outcome, paths_have_one_answer,
+    a_cut_is_the_root_fault, a_path_goes_on_in_its_value, container_has_one_listing,
+    document_is_valid_or_has_one_reason, fails_at_one_place_agree, get_many_agrees_with_get,
+    items_of_a_value_are_closed, outcomes_come_before_the_fault, path_has_one_answer,
+    path_has_one_outcome, paths_have_one_answer, utf8_has_the_same_items,
 };
 pub use lazyvalue::LazyValue;
 pub use many::get_many;

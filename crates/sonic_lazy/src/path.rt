@@ -122,7 +122,7 @@ fn try_item(steps: &mut Steps<'_>, node: &PointerNode<'_>, passed: usize) -> Res
     match node {
         PointerNode::Key(text) => {
             let start = steps.place();
-            let end = steps.key()?;
+            let end = steps.key()?.end;
             Ok(same_key(steps.text(), start, end, *text))
         }
         PointerNode::Index(number) => Ok(passed == *number),

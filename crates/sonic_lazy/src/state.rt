@@ -14,7 +14,7 @@ use crate::located::Located;
 use crate::steps::Steps;
 use sonic_input::Read;
 use sonic_parser::{Fault, ParseStatus};
-use sonic_text::{Kind, Stop};
+use sonic_text::{Kind, Stop, StringEnd};
 use std::alloc::{AllocError, Global};
 use std::marker::Model;
 
@@ -121,10 +121,11 @@ impl<'de> Walk<'de> {
         self.steps.next_item(kind)
     }
 
-    // Passes the key at the cursor, up to the member's value, and gives the key's end.
-    pub(crate) fn key(&mut self) -> Result<usize, Stop>
-        ensures ok { IfOk result (λ end. (b : List ℕ)
-            × IsString strict self.old.text self.old.place end b
+    // Passes the key at the cursor, up to the member's value, and gives where the key ends and
+    // whether it has a backslash.
+    pub(crate) fn key(&mut self) -> Result<StringEnd, Stop>
+        ensures ok { IfOk result (λ key. (b : List ℕ)
+            × IsString strict self.old.text self.old.place key.end b
             × IsKey strict self.old.text self.old.place self.new.place b) }
         ensures moved { self.new ≡ record self.old { place = self.new.place } }
         ensures err { IfErr result (λ s. IsKeyFault strict self.old.text self.old.place s) }

@@ -1,7 +1,7 @@
 // The steps of a walk through a text.
-ghost use Rattle.std.specs.Prelude.{◌≡◌, ◌≢◌, ◌<◌, ◌≤◌, ◌^◌, ℕ, List, true, false, length, IfOk, IfErr, IsErrOf, OnOk, is_some};
+ghost use Rattle.std.specs.Prelude.{◌≡◌, ◌≢◌, ◌+◌, ◌<◌, ◌≤◌, ◌^◌, ◌↔◌, ℕ, List, true, false, length, IfOk, IfErr, IsErrOf, IsTrue, OnOk, is_some};
 ghost use Rattle.sonic_text.specs.Places.{byte, after_space};
-ghost use Rattle.sonic_text.specs.Strings.{IsString, strict};
+ghost use Rattle.sonic_text.specs.Strings.{IsString, IsEscapedString, strict};
 ghost use Rattle.sonic_text.specs.Values.{opening, IsKey, IsValue, ItemsFit};
 ghost use Rattle.sonic_text.specs.Faults.{IsFault, IsKeyFault};
 ghost use Rattle.sonic_parser.specs.Containers.{IsEnd, IsSeparated, IsSeparatorFault};
@@ -14,7 +14,7 @@ ghost use Rattle.sonic_lazy.specs.Paths.{type_at, empty_code, wanted_of};
 use sonic_error::{ErrorCode, JsonType, Note, Wanted};
 use sonic_input::Read;
 use sonic_parser::{Fault, ParseStatus, Parser};
-use sonic_text::{Kind, Stop, byte_at};
+use sonic_text::{Kind, Stop, StringEnd, byte_at};
 use std::alloc::Global;
 use std::marker::Model;
 
@@ -118,7 +118,7 @@ impl<'de> Steps<'de> {
         if byte_at(self.parser.text(), start) != kind.opening() {
             return Err(self.mismatch(kind));
         }
-        if self.parser.enter(kind) {
+        if self.open(kind) {
             return Ok(());
         }
         let bracket = self.parser.offset() - 1;
@@ -127,6 +127,19 @@ impl<'de> Steps<'de> {
             place: bracket,
             code,
         }))
+    }
+
+    // Goes past the bracket of the container of this kind at the cursor: whether an item is expected,
+    // at which the cursor then is, or after the closing bracket.
+    pub(crate) fn open(&mut self, kind: Kind) -> bool
+        requires { byte self.old.text self.old.place ≡ opening kind }
+        ensures item { result ≡ true
+            → ItemsFit strict self.old.text kind self.old.place 0 self.new.place }
+        ensures empty { result ≡ false
+            → IsEnd self.old.text kind (self.old.place + 1) self.new.place }
+        ensures moved { self.new ≡ record self.old { place = self.new.place } }
+    {
+        self.parser.enter(kind)
     }
 
     // Why the value at the cursor is no container of this kind.
@@ -160,15 +173,18 @@ impl<'de> Steps<'de> {
         self.parser.next_item(kind)
     }
 
-    // Passes the key at the cursor, up to the member's value, and gives the key's end.
-    pub(crate) fn key(&mut self) -> Result<usize, Stop>
-        ensures ok { IfOk result (λ end. (b : List ℕ)
-            × IsString strict self.old.text self.old.place end b
+    // Passes the key at the cursor, up to the member's value, and gives where the key ends and
+    // whether it has a backslash.
+    pub(crate) fn key(&mut self) -> Result<StringEnd, Stop>
+        ensures ok { IfOk result (λ key. (b : List ℕ)
+            × IsString strict self.old.text self.old.place key.end b
             × IsKey strict self.old.text self.old.place self.new.place b) }
+        ensures escaped { IfOk result (λ key.
+            IsTrue key.escaped ↔ IsEscapedString self.old.text self.old.place key.end) }
         ensures moved { self.new ≡ record self.old { place = self.new.place } }
         ensures err { IfErr result (λ s. IsKeyFault strict self.old.text self.old.place s) }
     {
-        Ok(self.parser.key()?.end)
+        self.parser.key()
     }
 }
 

@@ -2,6 +2,7 @@
 // ample, and that the walk agrees with a plain program.
 mod containers;
 mod document;
+mod iterators;
 mod lazyvalue;
 mod lookups;
 mod many_unchecked;

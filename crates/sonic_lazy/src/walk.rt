@@ -180,7 +180,7 @@ fn head(walk: &mut Walk<'_>, level: &Level<'_, '_>, passed: usize) -> Result<Opt
     match level.kind {
         Kind::Object => {
             let start = walk.place();
-            let end = walk.key()?;
+            let end = walk.key()?.end;
             Ok(level.view.of_key(walk.text(), start, end))
         }
         Kind::Array => Ok(level.view.of_index(passed)),

@@ -1,14 +1,16 @@
 -- What a sink took of bytes that went through a buffer.
-use Rattle.std.proofs.Common.{◌≡◌, ℕ, ◌+◌, ◌<◌, List, [], ◌∷◌, ◌++◌, length, get_or, take, drop, codes, decimal, sym, ap, ◌∙◌, append_assoc, append-nil, take-append-drop}
+use Rattle.std.proofs.Common.{◌≡◌, ℕ, ◌+◌, ◌<◌, List, [], ◌∷◌, ◌++◌, length, get_or, take, drop, codes, decimal, refl, sym, ap, ◌∙◌, append_assoc, append-nil, take-append-drop}
+use Rattle.std.specs.Cow.{cow_str_bytes}
 use Rattle.std.specs.List.{flat_map}
+use Rattle.std.specs.declared.borrow.CowStr.{CowStr}
 use Rattle.std.specs.declared.option.Option.{Option}
-use Rattle.std.specs.declared.option.Option.TheVariants.{Some}
 use Rattle.std.proofs.lemmas.Grind.{flat_map-append}
 use Rattle.std.proofs.lemmas.List.{at_drop_more, take_more}
-use Rattle.sonic_lazy.specs.declared.lazyvalue.LazyValue.{LazyValue}
 use Rattle.sonic_lazy.specs.LazyValues.{raw_bytes}
+use Rattle.sonic_lazy.specs.declared.lazyvalue.LazyValue.{LazyValue}
 use Rattle.sonic_tool.specs.Internal.Buffers.{TookBut}
-use Rattle.sonic_tool.specs.Internal.Replies.{line_of_value}
+use Rattle.sonic_tool.specs.Internal.Replies.{line_of_member}
+use Rattle.sonic_tool.specs.Lines.{counted, line_of_text}
 use Rattle.sonic_tool.specs.Outside.{Took, TookPrefix}
 use Rattle.sonic_tool.proofs.OutsideLemmas.{took_both, prefix_of_first, prefix_of_both}
 
@@ -93,9 +95,11 @@ module _ {P : Type 0} (text : P → List ℕ) {before between after : Option (Li
       rw (split_texts text all i d below)
       (prefix_more before after old _ (flat_map text (drop (i + 1) all)) (but_prefix old (flat_map text (take i all)) (text (get_or all i d)) first second))
 
--- the line of a value, by its parts
-pub line_parts : {entry : Option LazyValue} {value : LazyValue} {text digits : List ℕ} → entry ≡ Some value → text ≡ raw_bytes value
-    → digits ≡ decimal (length text)
-    → line_of_value entry ≡ ((digits ++ codes " ") ++ text) ++ codes "\n"
-line_parts {value = value} is shown number =
-    rw (is, number, shown, append_assoc, append_assoc)
+-- a text after its length, by its parts
+pub counted_parts : {digits : List ℕ} (text : List ℕ) → digits ≡ decimal (length text) → counted text ≡ (digits ++ codes " ") ++ text
+counted_parts text number = rw (number, append_assoc) refl
+
+-- the line of a member, by its parts
+pub member_parts : {Z : Type 0} (member : CowStr Z × LazyValue)
+    → line_of_member member ≡ (counted (cow_str_bytes member.0) ++ codes " ") ++ line_of_text (raw_bytes member.1)
+member_parts member = rw (append_assoc (counted (cow_str_bytes member.0)) (codes " ") (line_of_text (raw_bytes member.1))) refl

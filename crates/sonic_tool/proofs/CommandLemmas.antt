@@ -1,11 +1,11 @@
 -- Words ask for a command, or for none.
-use Rattle.std.proofs.Common.{◌≡◌, ◌⊎◌, inl, inr, ℕ, ◌<◌, ◌≤◌, Bool, true, false, List, [], ◌∷◌, length, map, get_or, codes, arith, refl, ap}
+use Rattle.std.proofs.Common.{◌≡◌, ◌≢◌, ◌⊎◌, inl, inr, ℕ, ◌<◌, ◌≤◌, Bool, true, false, List, [], ◌∷◌, length, map, get_or, codes, arith, refl, ap}
 use Rattle.std.proofs.lemmas.Slice.Eq.{bytes_eq-Decides}
 use Rattle.std.specs.Bool.{Decides}
 use Rattle.std.specs.Str.{bytes_eq}
-use Rattle.sonic_tool.specs.declared.commands.Command.TheVariants.{Get}
+use Rattle.sonic_tool.specs.declared.commands.Command.TheVariants.{Get, List as Items}
 use Rattle.sonic_tool.specs.Commands.{IsListed}
-use Rattle.sonic_tool.specs.Commands.Asks.{no_word, get_word}
+use Rattle.sonic_tool.specs.Commands.Asks.{no_word, get_word, list_word}
 
 -- no words are none
 pub no_words : {A : Type 0} (f : A → List ℕ) (words : List A) → length words < 1 → map f words ≡ []
@@ -20,14 +20,16 @@ one_word f (w ∷ []) word low high e = rw e refl
 one_word f (w ∷ v ∷ ws) word low high e = absurd (omega arith)
 
 -- one word that asks for a command is its name
-pub only_get : {word : List ℕ} → IsListed (word ∷ []) → word ≡ codes "get"
-only_get (Get, no_word e) = absurd cc
-only_get (Get, get_word e) = cc
+pub only_named : {word : List ℕ} → IsListed (word ∷ []) → (word ≡ codes "get") ⊎ (word ≡ codes "list")
+only_named (Get, no_word e) = absurd cc
+only_named (Get, get_word e) = inl cc
+only_named (Items, list_word e) = inr cc
 
 -- two words and more ask for none
 two_unlisted : (word next : List ℕ) (words : List (List ℕ)) → ¬ IsListed (word ∷ next ∷ words)
 two_unlisted word next words (Get, no_word e) = absurd cc
 two_unlisted word next words (Get, get_word e) = absurd cc
+two_unlisted word next words (Items, list_word e) = absurd cc
 
 -- so do words of such a number
 pub more_unlisted : {A : Type 0} (f : A → List ℕ) (words : List A) → 2 ≤ length words → ¬ IsListed (map f words)
@@ -35,13 +37,27 @@ more_unlisted f [] many listed = omega arith
 more_unlisted f (w ∷ []) many listed = omega arith
 more_unlisted f (w ∷ v ∷ ws) many listed = two_unlisted (f w) (f v) (map f ws) listed
 
+-- a test says so
+by_test : {P : Type 0} (b : Bool) → Decides b P → P ⊎ ¬ P
+by_test true d = inl (d.0 refl)
+by_test false d = inr (λ p. let e = d.1 p in absurd cc)
+
+-- a word is a name or not
+is_name : (word name : List ℕ) → (word ≡ name) ⊎ (word ≢ name)
+is_name word name = by_test (bytes_eq word name) (bytes_eq-Decides word name)
+
 -- one word asks for a command or not
-word_listed : (word : List ℕ) (b : Bool) → Decides b (word ≡ codes "get") → IsListed (word ∷ []) ⊎ ¬ IsListed (word ∷ [])
-word_listed word true d = inl (Get, get_word (ap (λ w. w ∷ []) (d.0 refl)))
-word_listed word false d = inr (λ l. let e = d.1 (only_get l) in absurd cc)
+word_listed : (word : List ℕ) → IsListed (word ∷ []) ⊎ ¬ IsListed (word ∷ [])
+word_listed word = elim (is_name word (codes "get")) [
+  | inl e ↦ inl (Get, get_word (ap (λ w. w ∷ []) e))
+  | inr other ↦ elim (is_name word (codes "list")) [
+    | inl e ↦ inl (Items, list_word (ap (λ w. w ∷ []) e))
+    | inr none ↦ inr (λ l. elim (only_named l) [ inl e ↦ other e | inr e ↦ none e ])
+  ]
+]
 
 -- words ask for a command or not
 pub listed_or_not : (words : List (List ℕ)) → IsListed words ⊎ ¬ IsListed words
 listed_or_not [] = inl (Get, no_word refl)
-listed_or_not (word ∷ []) = word_listed word (bytes_eq word (codes "get")) (bytes_eq-Decides word (codes "get"))
+listed_or_not (word ∷ []) = word_listed word
 listed_or_not (word ∷ next ∷ words) = inr (two_unlisted word next words)

@@ -1,6 +1,7 @@
 mod BufferLemmas
 mod CommandLemmas
 mod GetLemmas
+mod ListLemmas
 mod OutsideLemmas
 mod ReplyLemmas
 mod ReportLemmas

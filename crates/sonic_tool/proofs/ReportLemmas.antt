@@ -1,38 +1,65 @@
 -- The words and the input have one report.
 use Rattle.std.proofs.Common.{◌≡◌, ◌⊎◌, inl, inr, ℕ, List, length, arith, refl}
 use Rattle.std.proofs.lemmas.Bool.{cases_lt}
-use Rattle.sonic_tool.specs.declared.commands.Command.TheVariants.{Get}
+use Rattle.sonic_tool.specs.declared.commands.Command.{Command}
+use Rattle.sonic_tool.specs.declared.commands.Command.TheVariants.{Get, List as Items}
 use Rattle.sonic_tool.specs.declared.outside.reading.TheConstants.{LIMIT}
 use Rattle.sonic_tool.specs.declared.status.Status.{Status}
 use Rattle.sonic_tool.specs.declared.status.Status.TheVariants.{Done, NoMemory}
-use Rattle.sonic_tool.specs.Commands.{Asks}
+use Rattle.sonic_tool.specs.Commands.{Asks, no_word, get_word, list_word}
 use Rattle.sonic_tool.specs.Commands.Get.{IsAnswerableInput}
 use Rattle.sonic_tool.specs.Laws.{HasOneReport}
-use Rattle.sonic_tool.specs.Reports.{IsReport}
-use Rattle.sonic_tool.specs.Reports.IsReport.{usage, large, get}
+use Rattle.sonic_tool.specs.Reports.{Writes, IsReport}
+use Rattle.sonic_tool.specs.Reports.IsReport.{usage, large, written}
 use Rattle.sonic_tool.proofs.CommandLemmas.{listed_or_not}
 use Rattle.sonic_tool.proofs.GetLemmas.{Same, SomeText, get_report_one, get_report_some, answerable_report}
+use Rattle.sonic_tool.proofs.ListLemmas.{list_report_one, list_report_some}
+
+-- words ask for one command
+asks_one : {words : List (List ℕ)} {a b : Command} → Asks words a → Asks words b → a ≡ b
+asks_one (no_word e) (no_word f) = refl
+asks_one (no_word e) (get_word f) = refl
+asks_one (no_word e) (list_word f) = absurd cc
+asks_one (get_word e) (no_word f) = refl
+asks_one (get_word e) (get_word f) = refl
+asks_one (get_word e) (list_word f) = absurd cc
+asks_one (list_word e) (no_word f) = absurd cc
+asks_one (list_word e) (get_word f) = absurd cc
+asks_one (list_word e) (list_word f) = refl
+
+-- each command writes one report
+writes_one : (command : Command) (input text other : List ℕ) (status ending : Status) → Writes command input text status → Writes command input other ending
+    → Same text status other ending
+writes_one Get input text other status ending r s = get_report_one r s
+writes_one Items input text other status ending r s = list_report_one r s
+
+-- of each input
+writes_some : (command : Command) (input : List ℕ) → SomeText (Writes command input)
+writes_some Get input = get_report_some input
+writes_some Items input = list_report_some input
 
 -- the words and the input have one report
 report_one : {words : List (List ℕ)} {input text other : List ℕ} {status ending : Status} → IsReport words input text status → IsReport words input other ending
     → Same text status other ending
 report_one (usage n) (usage m) = (refl, refl)
 report_one (usage n) (large m l) = absurd (n m)
-report_one (usage n) (get m l r) = absurd (n (Get, m))
+report_one (usage n) (written m l r) = absurd (n (_, m))
 report_one (large n l) (usage m) = absurd (m n)
 report_one (large n l) (large m k) = (refl, refl)
-report_one (large n l) (get m k r) = absurd (omega arith)
-report_one (get n l r) (usage m) = absurd (m (Get, n))
-report_one (get n l r) (large m k) = absurd (omega arith)
-report_one (get n l r) (get m k s) = get_report_one r s
+report_one (large n l) (written m k r) = absurd (omega arith)
+report_one (written n l r) (usage m) = absurd (m (_, n))
+report_one (written n l r) (large m k) = absurd (omega arith)
+report_one {input = input} {text} {other} {status} {ending} (written {asked} n l r) (written m k s) =
+    let own : Writes asked input other ending = rw (asks_one m n) at s in
+    writes_one asked input text other status ending r own
 
 -- the words and the input have a report
 report_some : (words : List (List ℕ)) (input : List ℕ) → SomeText (IsReport words input)
 report_some words input = elim (listed_or_not words) [
   | inr unlisted ↦ (_, _, usage unlisted)
-  | inl (Get, asks) ↦ elim (cases_lt LIMIT (length input)) [
-    | inl many ↦ (_, _, large (Get, asks) many)
-    | inr few ↦ let r = get_report_some input in (r.0, r.1, get asks (omega arith) r.2)
+  | inl (asked, asks) ↦ elim (cases_lt LIMIT (length input)) [
+    | inl many ↦ (_, _, large (asked, asks) many)
+    | inr few ↦ let r = writes_some asked input in (r.0, r.1, written asks (omega arith) r.2)
   ]
 ]
 
@@ -44,7 +71,7 @@ has_one_report words input =
 
 -- an input that is answerable is answered with the status 0
 pub answered_done : {words : List (List ℕ)} {input : List ℕ} → Asks words Get → IsAnswerableInput input → (text : List ℕ) × IsReport words input text Done
-answered_done asks i = let r = answerable_report i in (r.0, get asks i.within r.1)
+answered_done asks i = let r = answerable_report i in (r.0, written asks i.within r.1)
 
 -- so a run ends that ends with the status of each report or out of memory
 pub done_surely : {words : List (List ℕ)} {input : List ℕ} {ending : Status}

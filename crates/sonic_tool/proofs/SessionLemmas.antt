@@ -4,7 +4,8 @@ use Rattle.std.specs.Prelude.{IfSome}
 use Rattle.std.specs.declared.option.Option.{Option}
 use Rattle.std.specs.Io.KnownBytes.{IsAtEnd}
 use Rattle.sonic_lazy.specs.Answers.{Answer}
-use Rattle.sonic_tool.specs.declared.commands.Command.TheVariants.{Get}
+use Rattle.sonic_tool.specs.declared.commands.Command.{Command}
+use Rattle.sonic_tool.specs.declared.commands.Command.TheVariants.{Get, List as Items}
 use Rattle.sonic_tool.specs.declared.outside.reading.TheConstants.{LIMIT}
 use Rattle.sonic_tool.specs.declared.run.Request.{Request}
 use Rattle.sonic_tool.specs.declared.run.Request.TheVariants.{Usage, Large, Input}
@@ -14,10 +15,12 @@ use Rattle.sonic_tool.specs.Commands.{IsListed}
 use Rattle.sonic_tool.specs.Commands.Get.{IsAnswerReport, IsGetReport}
 use Rattle.sonic_tool.specs.Commands.Get.IsAnswerReport.{entry_lines, error_line}
 use Rattle.sonic_tool.specs.Commands.Get.IsGetReport.{bad_line, answered}
+use Rattle.sonic_lazy.specs.Items.{Ending, closed, stopped}
+use Rattle.sonic_tool.specs.Commands.Items.{IsListReport, status_of_ending}
 use Rattle.sonic_tool.specs.Internal.Requests.{IsAsked, IsAnswered}
 use Rattle.sonic_tool.specs.Outside.{Gave, Took, TookPrefix, Rose}
-use Rattle.sonic_tool.specs.Reports.{IsReport}
-use Rattle.sonic_tool.specs.Reports.IsReport.{usage, large, get}
+use Rattle.sonic_tool.specs.Reports.{Writes, IsReport}
+use Rattle.sonic_tool.specs.Reports.IsReport.{usage, large, written}
 use Rattle.sonic_tool.specs.Sessions.{Session, IsReported, IsOfInput, IsReply, Reports, ReportsOnly, AnswersAll, ReadsTooMuch, IsRun}
 use Rattle.sonic_tool.proofs.ReportLemmas.{has_one_report, answered_done}
 
@@ -58,6 +61,15 @@ get_status : {input text : List ℕ} {ending : Status} → IsGetReport input tex
 get_status (bad_line h b t) = inr (inr refl)
 get_status (answered h a r) = answer_status r.report
 
+-- what the items end with goes with one
+ended_status : {ending : Status} (end : Ending) → ending ≡ status_of_ending end → IsOfInput ending
+ended_status closed e = inl e
+ended_status (stopped s) e = inr (inl e)
+
+-- a report by `list`
+list_status : {input text : List ℕ} {ending : Status} → IsListReport input text ending → IsOfInput ending
+list_status r = ended_status r.listing.ending r.ending
+
 -- a report of what the source had left, and what its status says of the words and of the source
 pub record IsPrepared (run : Session) (text : List ℕ) (ending : Status) : Type 0 where
   pub reply : IsReply run text ending
@@ -66,6 +78,11 @@ pub record IsPrepared (run : Session) (text : List ℕ) (ending : Status) : Type
   pub listed : ending ≡ BadUsage → ¬ (IsListed run.words)
   pub whole : IsOfInput ending → IsAtEnd run.after.left
   pub large : ending ≡ TooLarge → ReadsTooMuch run
+
+-- what a command writes goes with a status of a whole input
+written_status : (command : Command) (input text : List ℕ) (ending : Status) → Writes command input text ending → IsOfInput ending
+written_status Get input text ending r = get_status r
+written_status Items input text ending r = list_status r
 
 -- what answers the request is such a report
 pub prepared : (run : Session) {text : List ℕ} {ending : Status} (request : Request) → IsAsked run.words run.before.left run.after.left request
@@ -86,14 +103,15 @@ prepared run {text} {ending} Large (bytes, listed, long, gave) (t, e) = let i = 
   whole = λ o. absurd ((of_input ending o).2 e);
   large = λ l. (bytes, long, gave);
 }
-prepared run {text} {ending} (Input Get bytes) (asks, gave, end, within) report = let o = of_input ending (get_status report) in record {
-  reply = record { input = bytes.items; known = whole_input run.before.left run.after.left bytes.items gave end; report = get asks within report };
-  reported = o.0;
-  unlisted = λ u. absurd (u (Get, asks));
-  listed = λ u. absurd (o.1 u);
-  whole = λ p. end;
-  large = λ l. absurd (o.2 l);
-}
+prepared run {text} {ending} (Input command bytes) (asks, gave, end, within) answers =
+    let o = of_input ending (written_status command bytes.items text ending answers) in record {
+      reply = record { input = bytes.items; known = whole_input run.before.left run.after.left bytes.items gave end; report = written asks within answers };
+      reported = o.0;
+      unlisted = λ u. absurd (u (command, asks));
+      listed = λ u. absurd (o.1 u);
+      whole = λ p. end;
+      large = λ l. absurd (o.2 l);
+    }
 
 -- what a run reports of an input that is known is the one report of it
 the_report : (run : Session) {ending : Status} → Reports run ending → ReportsOnly run ending

@@ -1,5 +1,6 @@
 -- The commands, and the words of a command line that ask for them.
 pub mod Get
+pub mod Items
 use Rattle.std.specs.Prelude.{◌≡◌, List, [], ◌∷◌, ℕ, codes}
 use Rattle.sonic_tool.specs.declared.commands.Command.{Command}
 use Rattle.sonic_tool.specs.declared.commands.Command.TheVariants as command
@@ -8,6 +9,7 @@ use Rattle.sonic_tool.specs.declared.commands.Command.TheVariants as command
 pub data Asks (words : List (List ℕ)) : Command → Type 0 where
   no_word : words ≡ [] → Asks words command.Get
   get_word : words ≡ codes "get" ∷ [] → Asks words command.Get
+  list_word : words ≡ codes "list" ∷ [] → Asks words command.List
 
 -- the words ask for some command
 abbrev pub IsListed : List (List ℕ) → Type 0

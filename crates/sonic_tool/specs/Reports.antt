@@ -1,11 +1,18 @@
 -- What a run writes, and the status that goes with it.
 use Rattle.std.specs.Prelude.{ℕ, ◌<◌, ◌≤◌, List, length, codes}
-use Rattle.sonic_tool.specs.declared.commands.Command.TheVariants.{Get}
+use Rattle.sonic_tool.specs.declared.commands.Command.{Command}
+use Rattle.sonic_tool.specs.declared.commands.Command.TheVariants as command
 use Rattle.sonic_tool.specs.declared.outside.reading.TheConstants.{LIMIT}
 use Rattle.sonic_tool.specs.declared.status.Status.{Status}
 use Rattle.sonic_tool.specs.declared.status.Status.TheVariants.{BadUsage, TooLarge}
 use Rattle.sonic_tool.specs.Commands.{Asks, IsListed}
 use Rattle.sonic_tool.specs.Commands.Get.{IsGetReport}
+use Rattle.sonic_tool.specs.Commands.Items.{IsListReport}
+
+-- what each command writes of an input
+abbrev pub Writes : Command → List ℕ → List ℕ → Status → Type 0
+Writes command.Get input text status = IsGetReport input text status
+Writes command.List input text status = IsListReport input text status
 
 -- what a run with these words writes of an input
 pub data IsReport (words : List (List ℕ)) (input : List ℕ) : List ℕ → Status → Type 0 where
@@ -14,4 +21,5 @@ pub data IsReport (words : List (List ℕ)) (input : List ℕ) : List ℕ → St
   -- an input of more than 256 MiB is answered by its size alone
   large : IsListed words → LIMIT < length input → IsReport words input (codes "! large\n") TooLarge
   -- each command writes its own report of the others
-  get : {text : List ℕ} {status : Status} → Asks words Get → length input ≤ LIMIT → IsGetReport input text status → IsReport words input text status
+  written : {asked : Command} {text : List ℕ} {status : Status} → Asks words asked → length input ≤ LIMIT → Writes asked input text status
+      → IsReport words input text status

@@ -4,12 +4,16 @@ ghost use Rattle.sonic_tool.specs.Commands.{Asks, IsListed};
 
 // What `get` writes: where the paths of an input's head lead in its document.
 pub(crate) mod get;
+// What `list` writes: the items of the container that an input is.
+pub(crate) mod list;
 
 /// What a run is asked to write of its input.
 #[derive(Clone, Copy, Debug, PartialEq, Eq)]
 pub enum Command {
     /// Where the paths of the head lead in the document. No word and the word `get` ask for it.
     Get,
+    /// The elements of an array or the members of an object. The word `list` asks for it.
+    List,
 }
 
 // The command that the words ask for.
@@ -31,6 +35,7 @@ fn named_command(word: &str) -> Option<Command>
 {
     match word {
         "get" => Some(Command::Get),
+        "list" => Some(Command::List),
         _ => None,
     }
 }

@@ -1,18 +1,17 @@
-//! The line that says an error of a document, which is the whole report.
+//! The line that says an error of a document.
 ghost use Rattle.std.specs.Prelude.{◌≡◌, string_bytes, IfOk};
+ghost use Rattle.std.specs.Cow.{cow_str_bytes};
 ghost use Rattle.sonic_error.specs.Errors.{error_line, error_column, error_offset};
 ghost use Rattle.sonic_tool.specs.ErrorLines.{word_of, name_of, position_text};
-ghost use Rattle.sonic_tool.specs.Internal.Replies.{IsErrorReply};
+ghost use Rattle.sonic_tool.specs.Internal.Replies.{IsLineOf};
 
-use crate::reply::Reply;
-use crate::status::Status;
 use sonic_error::{Category, Error, ErrorCode};
 use std::alloc::{AllocError, Global};
 use std::borrow::CowStr;
 
-// The report of an error, unless memory ran out.
-pub(crate) fn report_error<'i>(alloc: Global, error: &Error) -> Result<Reply<'i>, AllocError>
-    ensures { IfOk result (λ reply. IsErrorReply reply error.now) }
+// The line of an error, unless memory ran out.
+pub(crate) fn error_line<'i>(alloc: Global, error: &Error) -> Result<CowStr<'i>, AllocError>
+    ensures { IfOk result (λ line. IsLineOf (cow_str_bytes line) error.now) }
 {
     if let ErrorCode::NoMemory = error.code() {
         return Err(AllocError);
@@ -21,7 +20,7 @@ pub(crate) fn report_error<'i>(alloc: Global, error: &Error) -> Result<Reply<'i>
     let name = name(error.code());
     let position = position(alloc, error)?;
     let line = format!(in alloc; "! {word} {name} {position}\n")?;
-    Ok(Reply::one(alloc, Status::DocumentError, CowStr::Owned(line)))
+    Ok(CowStr::Owned(line))
 }
 
 // The line, the column and the offset of an error.

@@ -2,8 +2,10 @@
 ghost use Rattle.std.specs.Prelude.{◌≡◌, ◌++◌, IfOk, OnOk, OnErr};
 ghost use Rattle.std.specs.Cow.{cow_str_bytes};
 ghost use Rattle.std.specs.List.{flat_map};
+ghost use Rattle.sonic_lazy.specs.LazyValues.{raw_bytes};
 ghost use Rattle.sonic_tool.specs.Internal.Buffers.{held, TookBut};
-ghost use Rattle.sonic_tool.specs.Internal.Replies.{text_of, line_of_value};
+ghost use Rattle.sonic_tool.specs.Internal.Replies.{text_of, text_of_lines, line_of_value, line_of_member};
+ghost use Rattle.sonic_tool.specs.Lines.{counted, line_of_text};
 ghost use Rattle.sonic_tool.specs.Outside.{Rose, Took, TookPrefix};
 
 use crate::outside::buffer::Buffer;
@@ -18,46 +20,57 @@ use std::borrow::CowStr;
 // How many bytes a report of many pieces is written by: 64 KiB.
 const ROOM: usize = 65_536;
 
-// A report that is ready to be written, with the status that goes with it: a first piece, and the
-// lines of the values after it. Short pieces are put together in the room.
+// The lines of a report.
+#[derive(Drop)]
+pub(crate) enum Lines<'i> {
+    // Of values, and a dash where there is none.
+    Values(Vec<Option<LazyValue<'i>>>),
+    // Of members, each with its key.
+    Members(Vec<(CowStr<'i>, LazyValue<'i>)>),
+}
+
+// A report that is ready to be written, with the status that goes with it: lines, and a last piece
+// after them. Short pieces are put together in the room.
 #[derive(Drop)]
 pub(crate) struct Reply<'i> {
     pub(crate) status: Status,
-    pub(crate) first: CowStr<'i>,
-    pub(crate) values: Vec<Option<LazyValue<'i>>>,
+    pub(crate) lines: Lines<'i>,
+    pub(crate) last: CowStr<'i>,
     pub(crate) room: Vec<u8>,
 }
 
 impl<'i> Reply<'i> {
     // A report of one piece. It takes no memory.
-    pub(crate) fn one(alloc: Global, status: Status, first: CowStr<'i>) -> Reply<'i>
-        ensures text { text_of result ≡ cow_str_bytes first.entry }
+    pub(crate) fn one(alloc: Global, status: Status, last: CowStr<'i>) -> Reply<'i>
+        ensures text { text_of result ≡ cow_str_bytes last.entry }
         ensures status { result.status ≡ status }
     {
-        let values = Vec::new(alloc);
+        let lines = Lines::Values(Vec::new(alloc));
         let room = Vec::new(alloc);
         Reply {
             status,
-            first,
-            values,
+            lines,
+            last,
             room,
         }
     }
 
-    // A report of the lines of these values, with the status 0. The only memory that it takes is
-    // its room.
-    pub(crate) fn done(
+    // A report of these lines, and a last piece. The only memory that it takes is its room.
+    pub(crate) fn of_lines(
         alloc: Global,
-        values: Vec<Option<LazyValue<'i>>>,
+        status: Status,
+        lines: Lines<'i>,
+        last: CowStr<'i>,
     ) -> Result<Reply<'i>, AllocError>
-        ensures text { IfOk result (λ reply. text_of reply ≡ flat_map line_of_value values.entry.items) }
-        ensures status { IfOk result (λ reply. reply.status ≡ Status.Done) }
+        ensures text { IfOk result (λ reply.
+            text_of reply ≡ text_of_lines lines.entry ++ cow_str_bytes last.entry) }
+        ensures status { IfOk result (λ reply. reply.status ≡ status) }
     {
         let room = zeros(alloc, ROOM)?;
         Ok(Reply {
-            status: Status::Done,
-            first: CowStr::Borrowed(""),
-            values,
+            status,
+            lines,
+            last,
             room,
         })
     }
@@ -74,14 +87,29 @@ pub(crate) fn deliver<K: Sink>(sink: &mut K, reply: Reply<'_>) -> Result<(), Fai
     ensures cause { OnErr result (Rose (K.faults sink.old) (K.faults sink.new)) }
 {
     let mut buffer = Buffer::new(reply.room);
-    buffer.write(sink, reply.first.as_bytes())?;
-    write_lines(sink, &mut buffer, &reply.values)?;
+    write_lines(sink, &mut buffer, &reply.lines)?;
+    buffer.write(sink, reply.last.as_bytes())?;
     buffer.flush(sink)?;
     sink.finish()
 }
 
+// Writes lines, through a buffer.
+fn write_lines<K: Sink>(sink: &mut K, buffer: &mut Buffer, lines: &Lines<'_>) -> Result<(), Failed>
+    ensures all { OnOk result (TookBut (K.written sink.old) (K.written sink.new)
+        (held buffer.new) (held buffer.old ++ text_of_lines lines.now)) }
+    ensures prefix { OnErr result (TookPrefix (K.written sink.old) (K.written sink.new)
+        (held buffer.old ++ text_of_lines lines.now)) }
+    ensures calm { OnOk result (K.faults sink.new ≡ K.faults sink.old) }
+    ensures cause { OnErr result (Rose (K.faults sink.old) (K.faults sink.new)) }
+{
+    match lines {
+        Lines::Values(values) => write_values(sink, buffer, values),
+        Lines::Members(members) => write_members(sink, buffer, members),
+    }
+}
+
 // Writes the lines of the values, through a buffer.
-fn write_lines<K: Sink>(
+fn write_values<K: Sink>(
     sink: &mut K,
     buffer: &mut Buffer,
     values: &[Option<LazyValue<'_>>],
@@ -94,13 +122,13 @@ fn write_lines<K: Sink>(
     ensures cause { OnErr result (Rose (K.faults sink.old) (K.faults sink.new)) }
 {
     for value in values {
-        write_line(sink, buffer, value)?;
+        write_entry(sink, buffer, value)?;
     }
     Ok(())
 }
 
 // Writes the line of a value, or of none, through a buffer.
-fn write_line<K: Sink>(
+fn write_entry<K: Sink>(
     sink: &mut K,
     buffer: &mut Buffer,
     value: &Option<LazyValue<'_>>,
@@ -112,13 +140,78 @@ fn write_line<K: Sink>(
     ensures calm { OnOk result (K.faults sink.new ≡ K.faults sink.old) }
     ensures cause { OnErr result (Rose (K.faults sink.old) (K.faults sink.new)) }
 {
-    let Some(value) = value else {
-        return buffer.write(sink, b"-\n");
-    };
-    let text = value.as_raw_str().as_bytes();
+    match value {
+        Some(value) => write_value(sink, buffer, value),
+        None => buffer.write(sink, b"-\n"),
+    }
+}
+
+// Writes the lines of the members, through a buffer.
+fn write_members<K: Sink>(
+    sink: &mut K,
+    buffer: &mut Buffer,
+    members: &[(CowStr<'_>, LazyValue<'_>)],
+) -> Result<(), Failed>
+    ensures all { OnOk result (TookBut (K.written sink.old) (K.written sink.new)
+        (held buffer.new) (held buffer.old ++ flat_map line_of_member members.now)) }
+    ensures prefix { OnErr result (TookPrefix (K.written sink.old) (K.written sink.new)
+        (held buffer.old ++ flat_map line_of_member members.now)) }
+    ensures calm { OnOk result (K.faults sink.new ≡ K.faults sink.old) }
+    ensures cause { OnErr result (Rose (K.faults sink.old) (K.faults sink.new)) }
+{
+    for member in members {
+        write_member(sink, buffer, member)?;
+    }
+    Ok(())
+}
+
+// Writes the line of a member, through a buffer.
+fn write_member<K: Sink>(
+    sink: &mut K,
+    buffer: &mut Buffer,
+    member: &(CowStr<'_>, LazyValue<'_>),
+) -> Result<(), Failed>
+    ensures all { OnOk result (TookBut (K.written sink.old) (K.written sink.new)
+        (held buffer.new) (held buffer.old ++ line_of_member member.now)) }
+    ensures prefix { OnErr result (TookPrefix (K.written sink.old) (K.written sink.new)
+        (held buffer.old ++ line_of_member member.now)) }
+    ensures calm { OnOk result (K.faults sink.new ≡ K.faults sink.old) }
+    ensures cause { OnErr result (Rose (K.faults sink.old) (K.faults sink.new)) }
+{
+    let (key, value) = member;
+    write_counted(sink, buffer, key.as_bytes())?;
+    buffer.write(sink, b" ")?;
+    write_value(sink, buffer, value)
+}
+
+// Writes the line of a value, through a buffer.
+fn write_value<K: Sink>(
+    sink: &mut K,
+    buffer: &mut Buffer,
+    value: &LazyValue<'_>,
+) -> Result<(), Failed>
+    ensures all { OnOk result (TookBut (K.written sink.old) (K.written sink.new)
+        (held buffer.new) (held buffer.old ++ line_of_text (raw_bytes value.now))) }
+    ensures prefix { OnErr result (TookPrefix (K.written sink.old) (K.written sink.new)
+        (held buffer.old ++ line_of_text (raw_bytes value.now))) }
+    ensures calm { OnOk result (K.faults sink.new ≡ K.faults sink.old) }
+    ensures cause { OnErr result (Rose (K.faults sink.old) (K.faults sink.new)) }
+{
+    write_counted(sink, buffer, value.as_raw_str().as_bytes())?;
+    buffer.write(sink, b"\n")
+}
+
+// Writes a text after its length, through a buffer.
+fn write_counted<K: Sink>(sink: &mut K, buffer: &mut Buffer, text: &[u8]) -> Result<(), Failed>
+    ensures all { OnOk result (TookBut (K.written sink.old) (K.written sink.new)
+        (held buffer.new) (held buffer.old ++ counted text.now)) }
+    ensures prefix { OnErr result (TookPrefix (K.written sink.old) (K.written sink.new)
+        (held buffer.old ++ counted text.now)) }
+    ensures calm { OnOk result (K.faults sink.new ≡ K.faults sink.old) }
+    ensures cause { OnErr result (Rose (K.faults sink.old) (K.faults sink.new)) }
+{
     let mut digits = itoa::Buffer::new();
     buffer.write(sink, digits.format(text.len()).as_bytes())?;
     buffer.write(sink, b" ")?;
-    buffer.write(sink, text)?;
-    buffer.write(sink, b"\n")
+    buffer.write(sink, text)
 }

@@ -2,6 +2,7 @@
 mod documents;
 mod faults;
 mod format;
+mod lists;
 mod outside;
 mod paths;
 mod rows;

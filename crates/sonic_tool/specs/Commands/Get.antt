@@ -11,12 +11,9 @@ use Rattle.sonic_tool.specs.declared.outside.reading.TheConstants.{LIMIT}
 use Rattle.sonic_tool.specs.declared.status.Status.{Status}
 use Rattle.sonic_tool.specs.declared.status.Status.TheVariants.{Done, DocumentError, BadLines}
 use Rattle.sonic_tool.specs.ErrorLines.{line_of_error}
+use Rattle.sonic_tool.specs.Lines.{line_of_text}
 use Rattle.sonic_paths.specs.Heads.{IsHead}
 use Rattle.sonic_paths.specs.Lines.{AreLines, IsFirstBadLine}
-
--- the line of a value: the length of its text in bytes, and the text itself
-abbrev pub line_of_text : List ℕ → List ℕ
-line_of_text text = decimal (length text) ++ codes " " ++ text ++ codes "\n"
 
 -- the line of an entry: of the value that a path finds, or a dash where a key is lacked
 abbrev pub line_of_entry : List ℕ → Option Span → List ℕ

@@ -2,15 +2,14 @@
 use Rattle.std.specs.Prelude.{◌≡◌, ℕ, ◌+◌, ◌≤◌, List, length, codes}
 use Rattle.std.specs.Io.KnownBytes.{IsAtEnd}
 use Rattle.std.specs.declared.option.Option.{Option}
-use Rattle.sonic_tool.specs.declared.commands.Command.TheVariants.{Get}
 use Rattle.sonic_tool.specs.declared.outside.reading.TheConstants.{LIMIT}
 use Rattle.sonic_tool.specs.declared.run.Request.{Request}
 use Rattle.sonic_tool.specs.declared.run.Request.TheVariants.{Usage, Large, Input}
 use Rattle.sonic_tool.specs.declared.status.Status.{Status}
 use Rattle.sonic_tool.specs.declared.status.Status.TheVariants.{BadUsage, TooLarge}
 use Rattle.sonic_tool.specs.Commands.{Asks, IsListed}
-use Rattle.sonic_tool.specs.Commands.Get.{IsGetReport}
 use Rattle.sonic_tool.specs.Outside.{Gave}
+use Rattle.sonic_tool.specs.Reports.{Writes}
 
 -- what is to be answered, by the words and by what the source had left and has
 abbrev pub IsAsked : List (List ℕ) → Option (List ℕ) → Option (List ℕ) → Request → Type 0
@@ -22,4 +21,4 @@ IsAsked words before now (Input command bytes) = Asks words command × Gave befo
 abbrev pub IsAnswered : Request → List ℕ → Status → Type 0
 IsAnswered Usage text status = (text ≡ codes "! usage\n") × (status ≡ BadUsage)
 IsAnswered Large text status = (text ≡ codes "! large\n") × (status ≡ TooLarge)
-IsAnswered (Input Get bytes) text status = IsGetReport bytes.items text status
+IsAnswered (Input command bytes) text status = Writes command bytes.items text status

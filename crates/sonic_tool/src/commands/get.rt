@@ -3,8 +3,8 @@ ghost use Rattle.std.specs.Prelude.{IfOk};
 ghost use Rattle.sonic_tool.specs.Commands.Get.{IsGetReport, ReportsPaths};
 ghost use Rattle.sonic_tool.specs.Internal.Replies.{text_of};
 
-use crate::error_line::report_error;
-use crate::reply::Reply;
+use crate::error_line::error_line;
+use crate::reply::{Lines, Reply};
 use crate::status::Status;
 use sonic_lazy::get_many;
 use sonic_paths::{Head, read_paths};
@@ -35,7 +35,13 @@ fn report_paths<'i>(
     ensures { IfOk result (λ reply. ReportsPaths document.now tree.now (text_of reply) reply.status) }
 {
     match get_many(alloc, document, tree) {
-        Ok(values) => Reply::done(alloc, values),
-        Err(error) => report_error(alloc, &error),
+        Ok(values) => {
+            let lines = Lines::Values(values);
+            Reply::of_lines(alloc, Status::Done, lines, CowStr::Borrowed(""))
+        }
+        Err(error) => {
+            let line = error_line(alloc, &error)?;
+            Ok(Reply::one(alloc, Status::DocumentError, line))
+        }
     }
 }

@@ -6,7 +6,7 @@ use std::test::Fail;
 // Words, an input, its report, and the status.
 type Example = (&'static [&'static str], &'static [u8], &'static str, Status);
 
-const EXAMPLES: [Example; 18] = [
+const EXAMPLES: [Example; 24] = [
     (
         &[],
         b"[\"a\"]\n[\"b\",1]\n[\"c\"]\n\n{\"a\": \"x\", \"b\": [2, 30]}",
@@ -99,6 +99,42 @@ const EXAMPLES: [Example; 18] = [
         b"[\"a\"]\n\n{\"a\": 1}",
         "! usage\n",
         Status::BadUsage,
+    ),
+    (
+        &["list"],
+        b"[1, [2, 3], \"a\"] x",
+        "1 1\n6 [2, 3]\n3 \"a\"\n",
+        Status::Done,
+    ),
+    (
+        &["list"],
+        b"{\"a\\n\": 1, \"b\": {}}",
+        "2 a\n 1 1\n1 b 2 {}\n",
+        Status::Done,
+    ),
+    (
+        &["list"],
+        b"[1, 2",
+        "1 1\n1 2\n! syntax ExpectedArrayCommaOrEnd 1 5 4\n",
+        Status::DocumentError,
+    ),
+    (
+        &["list"],
+        b"{\"a\": 1,",
+        "1 a 1 1\n! syntax ExpectObjectKeyOrEnd 1 8 7\n",
+        Status::DocumentError,
+    ),
+    (
+        &["list"],
+        b"7",
+        "! syntax ExpectedArrayStart 1 1 0\n",
+        Status::DocumentError,
+    ),
+    (
+        &["list"],
+        b"[1, \"\xff\"]",
+        "! syntax InvalidUTF8 1 6 5\n",
+        Status::DocumentError,
     ),
 ];
 

@@ -32,7 +32,7 @@ const ERROR: Row = Row {
     ..PLAIN
 };
 
-fn owned(alloc: Global, words: &[&str]) -> Result<Vec<String>, Fail> {
+pub fn owned(alloc: Global, words: &[&str]) -> Result<Vec<String>, Fail> {
     let mut all = Vec::new(alloc);
     for word in words {
         all.push(String::from_str(alloc, word)?)?;
@@ -349,7 +349,7 @@ fn refuses_other_words(rt: HostRuntime) -> Result<(), Fail> {
         &rt,
         alloc,
         Row {
-            words: &["get", "get"],
+            words: &["get", "list"],
             ..usage
         },
     )?;
@@ -552,7 +552,7 @@ fn prints_nothing_where_a_read_fails(rt: HostRuntime) -> Result<(), Fail> {
 #[test]
 fn reads_nothing_for_other_words(rt: HostRuntime) -> Result<(), Fail> {
     let alloc = rt.alloc();
-    let words = owned(alloc, &["list"])?;
+    let words = owned(alloc, &["lists"])?;
     let status = run(
         alloc,
         &words,

@@ -1,14 +1,18 @@
 use Rattle.std.proofs.Common.{arith}
-use Rattle.std.proofs.lemmas.Str.{IsCharBoundary-after_ascii}
 use Rattle.sonic_lazy.proofs.StringTextLemmas.{plain_string}
 use Rattle.sonic_lazy.proofs.unescaped.unquoted.Goals as goal
+use Rattle.sonic_text.proofs.Strings.{chars_later}
 
--- after the opening quote a char begins
-pub range-requires-clause-start_boundary : goal.range-requires-clause-start_boundary
-range-requires-clause-start_boundary c some =
-    let string = c.requires.string.1 in
-    IsCharBoundary-after_ascii c.args.raw.now 0 c.utf8.raw (omega (arith, string.end)) (rw string.opens (omega arith))
+-- the quotes are two
+pub slice_bounds-contents-count : goal.slice_bounds-contents-count
+slice_bounds-contents-count c = let x = c.requires.string.is in omega (arith, x.end, chars_later x.chars)
 
--- all between the quotes is what the string denotes
+-- all between them is what the string denotes
+pub from_utf8_unchecked-requires : goal.from_utf8_unchecked-requires
+from_utf8_unchecked-requires c = let x = c.requires.string in rw (← plain_string x.is c.requires.plain x.within) x.utf8
+
 pub returns : goal.returns
-returns c = rw c.range.ensures.value (plain_string c.requires.string.1 c.requires.plain)
+returns c = let x = c.requires.string in rw (c.from_utf8_unchecked.ensures, ← plain_string x.is c.requires.plain x.within) x.is
+
+pub slice_bounds-contents-start : goal.slice_bounds-contents-start
+slice_bounds-contents-start c = let x = c.requires.string.is in omega (arith, x.end, chars_later x.chars, c.requires.string.within)

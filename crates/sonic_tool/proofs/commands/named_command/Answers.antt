@@ -1,6 +1,9 @@
 use Rattle.std.proofs.Common.{ap, ◌∷◌, []}
-use Rattle.sonic_tool.specs.Commands.Asks.{get_word}
+use Rattle.sonic_tool.specs.Commands.Asks.{get_word, list_word}
 use Rattle.sonic_tool.proofs.commands.named_command.Goals as goal
 
 pub returns-in-get-clause-asked : goal.returns-in-get-clause-asked
 returns-in-get-clause-asked c = get_word (ap (λ w. w ∷ []) c.in-get.is)
+
+pub returns-in-list-clause-asked : goal.returns-in-list-clause-asked
+returns-in-list-clause-asked c = list_word (ap (λ w. w ∷ []) c.in-list.is)

@@ -1,21 +1,4 @@
-use Rattle.std.proofs.Common.{◌∙◌}
-use Rattle.sonic_tool.specs.Internal.Buffers.{held}
-use Rattle.sonic_tool.specs.Internal.Replies.{line_of_value}
-use Rattle.sonic_tool.proofs.OutsideLemmas.{on_err}
-use Rattle.sonic_tool.proofs.BufferLemmas.{but_text, but_text_prefix}
 use Rattle.sonic_tool.proofs.reply.write_lines.Goals as goal
 
-pub returns-in_err-write_line-clause-prefix : goal.returns-in_err-write_line-clause-prefix
-returns-in_err-write_line-clause-prefix g c =
-    on_err c.from_residual.result _
-    (but_text_prefix line_of_value (held c.args.buffer.now) c.args.values.now c.loop-value.value-index c.value-item.result
-    c.loop-value-test.true c.loop-value.invariant.taken
-    (rw (← c.value-item.is) c.in_err-write_line.ensures.prefix))
-
-pub loop-value-preserved : goal.loop-value-preserved
-loop-value-preserved g c = record {
-  taken = but_text line_of_value (held c.args.buffer.now) c.args.values.now c.loop-value.value-index c.value-item.result
-      c.loop-value-test.true c.loop-value.invariant.taken
-      (rw (← c.value-item.is) c.in_ok-write_line.ensures.all);
-  calm = c.in_ok-write_line.ensures.calm ∙ c.loop-value.invariant.calm;
-}
+pub returns-in-Members-clause-prefix : goal.returns-in-Members-clause-prefix
+returns-in-Members-clause-prefix g c = rw c.in-Members.is (rw c.deref-in-Members.ensures.value at c.write_members.ensures.prefix)

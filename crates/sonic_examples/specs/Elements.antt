@@ -1,0 +1,23 @@
+-- The elements of an array as a caller collects them.
+use Rattle.std.specs.Prelude.{◌≡◌, ℕ, false, List, map}
+use Rattle.sonic_text.specs.declared.kind.Kind.TheVariants.{Array}
+use Rattle.sonic_lazy.specs.declared.lazyvalue.LazyValue.{LazyValue}
+use Rattle.sonic_lazy.specs.Items.{Item, closed, AreItems, IsListing}
+use Rattle.sonic_lazy.specs.LazyValues.{raw_bytes}
+use Rattle.sonic_lazy.specs.Shown.{span_text}
+
+-- the text of an item's value
+abbrev pub item_text : List ℕ → Item → List ℕ
+item_text t item = span_text t item.span
+
+-- the values are the first n elements of the array that begins the text
+pub record AreFirst (t : List ℕ) (n : ℕ) (values : List LazyValue) : Type 0 where
+  pub items : List Item
+  pub are : AreItems t Array n items
+  pub shown : map raw_bytes values ≡ map (item_text t) items
+
+-- the values are all its elements, and it is closed
+pub record AreElements (t : List ℕ) (values : List LazyValue) : Type 0 where
+  pub items : List Item
+  pub all : IsListing t false Array (record { items = items; ending = closed })
+  pub shown : map raw_bytes values ≡ map (item_text t) items

@@ -1,0 +1,84 @@
+-- What the steps of an iterator know of the items that they pass.
+use Rattle.std.specs.Prelude.{◌≡◌, ◌↔◌, ℕ, ◌+◌, ◌<◌, ◌≤◌, true, false, List, length, IsTrue, IfSome}
+use Rattle.std.specs.Str.{IsUtf8}
+use Rattle.std.specs.declared.borrow.CowStr.{CowStr}
+use Rattle.std.specs.declared.option.Option.{Option}
+use Rattle.std.specs.declared.option.Option.TheVariants.{Some, None}
+use Rattle.sonic_text.specs.declared.kind.Kind.{Kind}
+use Rattle.sonic_text.specs.declared.kind.Kind.TheVariants.{Array, Object}
+use Rattle.sonic_text.specs.Documents.{StartsWithUtf8Value}
+use Rattle.sonic_text.specs.Places.{after_space}
+use Rattle.sonic_text.specs.Strings.{strict, IsString, IsEscapedString}
+use Rattle.sonic_text.specs.Values.{IsKey, IsValue}
+use Rattle.sonic_input.specs.Slices.{slice_bytes}
+use Rattle.sonic_lazy.specs.declared.items.Found.{Found}
+use Rattle.sonic_lazy.specs.declared.unescaped.StringSpan.{StringSpan}
+use Rattle.sonic_lazy.specs.declared.iteration.Items.TheInside.{Inside}
+use Rattle.sonic_lazy.specs.Internal.Located.{IsStatus}
+use Rattle.sonic_lazy.specs.Internal.StringSpans.{IsStringSpan}
+use Rattle.sonic_lazy.specs.StringTexts.{IsTextAt}
+use Rattle.sonic_lazy.specs.Items.{Item, ItemsReach, IsItemAt}
+use Rattle.sonic_lazy.specs.Iterators.{Iterating}
+use Rattle.sonic_lazy.specs.Wholes.{IsPart}
+
+-- so many items were passed up to here: none before the container, or the last of them ends here
+pub data IsAfterItems (t : List ℕ) (kind : Kind) (n p : ℕ) : Type 0 where
+  before_all : n ≡ 0 → p ≡ after_space t 0 → IsAfterItems t kind n p
+  after_last : {m : ℕ} {last : Item} → IsItemAt t kind m last → n ≡ m + 1 → p ≡ last.span.1 → IsAfterItems t kind n p
+
+-- the key of a member is from its first quote to after its last, denotes these bytes, and has a backslash where it says so
+pub record IsKeyAt (t : List ℕ) (h v : ℕ) (key : StringSpan) : Type 0 where
+  pub bytes : List ℕ
+  pub start : key.start ≡ h
+  pub string : IsString strict t h key.end bytes
+  pub colon : IsKey strict t h v bytes
+  pub escaped : IsTrue key.escaped ↔ IsEscapedString t h key.end
+
+-- of the item that is expected at h the value is expected at v, and this is the key before it
+pub data IsHead (t : List ℕ) : Kind → ℕ → ℕ → Option StringSpan → Type 0 where
+  no_key : {h v : ℕ} → v ≡ h → IsHead t Array h v None
+  a_key : {h v : ℕ} {key : StringSpan} → IsKeyAt t h v key → IsHead t Object h v (Some key)
+
+-- this is the item after n others
+pub record IsFound (t : List ℕ) (kind : Kind) (n : ℕ) (x : Found) : Type 0 where
+  pub place : ℕ
+  pub before : ItemsReach t kind n place
+  pub head : IsHead t kind place x.value.start x.key
+  pub value : IsValue strict t x.value.start x.value.end
+  pub status : IsStatus t x.value.start x.value.end x.value.status
+
+-- and its value is a part of the text in UTF-8, and its key a string
+pub record IsFoundPart (t : List ℕ) (kind : Kind) (n : ℕ) (x : Found) : Type 0 where
+  pub found : IsFound t kind n x
+  pub part : IsPart t x.value.start x.value.end
+  pub key : IfSome x.key (IsStringSpan t)
+
+-- a key is there, and a part of the text
+abbrev pub IsKeyOf : List ℕ → Option StringSpan → Type 0
+IsKeyOf t None = ⊥
+IsKeyOf t (Some key) = IsStringSpan t key
+
+-- the text is what the key denotes, and borrowed exactly where no backslash is in it
+abbrev pub IsKeyText : {Z : Type 0} → List ℕ → Option StringSpan → CowStr Z → Type 0
+IsKeyText t None text = ⊥
+IsKeyText t (Some key) text = IsTextAt t key.start key.end text
+
+-- the iterator that its callers see
+abbrev pub iterating_of : Inside → Iterating
+iterating_of items = record {
+  kind = items.kind;
+  text = items.steps.text;
+  is_bytes = items.is_bytes;
+  checks = items.steps.checks;
+  given = items.given;
+  ended = items.ended;
+}
+
+-- it has passed the items that it gave; its text is UTF-8 once that was looked at, or starts with a value, which needs no look
+pub record IsIterator (items : Inside) : Type 0 where
+  pub raw : slice_bytes items.raw ≡ items.steps.text
+  pub text : items.text.now ≡ items.steps.text
+  pub after : items.ended ≡ false → IsAfterItems items.steps.text items.kind items.given items.steps.place
+  pub within : items.given ≤ length items.steps.text
+  pub utf8 : items.steps.checks ≡ true → (items.is_bytes ≡ true → 0 < items.given) → IsUtf8 items.steps.text
+  pub sure : items.steps.checks ≡ false → StartsWithUtf8Value items.steps.text × (items.is_bytes ≡ false)

@@ -1,0 +1,181 @@
+// How far an iterator has come in its container.
+ghost use Rattle.std.specs.Prelude.{◌≡◌, ◌<◌, ◌≤◌, ◌^◌, None, true, false, length, slice_range, IfSome, IfNone, IfOk, IfErr, IsErrOf, OnOk};
+ghost use Rattle.std.specs.Str.{IsUtf8};
+ghost use Rattle.sonic_input.specs.Slices.{slice_bytes};
+ghost use Rattle.sonic_text.specs.declared.kind.Kind.{Kind};
+ghost use Rattle.sonic_text.specs.Documents.{StartsWithUtf8Value};
+ghost use Rattle.sonic_text.specs.Places.{after_space};
+ghost use Rattle.sonic_parser.specs.Faults.{IsStopFor};
+ghost use Rattle.sonic_lazy.specs.Internal.Items.{IsAfterItems, IsFound, IsFoundPart};
+ghost use Rattle.sonic_lazy.specs.Internal.Located.{IsStatus};
+ghost use Rattle.sonic_lazy.specs.Internal.Steps.{HasWhole};
+ghost use Rattle.sonic_lazy.specs.Items.{stopped, AreClosed, EndsItems};
+ghost use Rattle.sonic_lazy.specs.Iterators.{iterator_over, IsGiven, IsOver};
+ghost use Rattle.sonic_lazy.specs.LazyValues.{raw_bytes};
+ghost use Rattle.sonic_lazy.specs.Wholes.{IsPart};
+
+use crate::answer::check;
+use crate::items::{Found, find_item};
+use crate::lazyvalue::LazyValue;
+use crate::located::Located;
+use crate::steps::Steps;
+use sonic_input::{JsonInput, JsonSlice, Read};
+use sonic_parser::Fault;
+use sonic_text::{Kind, Stop};
+use std::alloc::Global;
+use std::marker::Model;
+
+// The items of a container, of which some were given.
+#[derive(Drop)]
+pub(crate) struct Items<'de> {
+    kind: Kind,
+    raw: JsonSlice<'de>,
+    text: &'de [u8],
+    steps: Steps<'de>,
+    // Whether the text came as bytes whose UTF-8 is looked at before the first item.
+    is_bytes: bool,
+    given: usize,
+    ended: bool,
+}
+
+impl<'de> Model for Items<'de> {
+    ghost use Rattle.sonic_lazy.specs.Iterators.{Iterating};
+
+    ghost Value = { Iterating };
+
+    ghost use Rattle.sonic_lazy.specs.Internal.Items.{iterating_of, IsIterator};
+
+    ghost view = { iterating_of };
+
+    ghost invariant = { IsIterator };
+}
+
+impl<'de> Items<'de> {
+    // The items of the container of this kind that begins an input, which are looked at.
+    pub(crate) fn checked<I: JsonInput<'de>>(alloc: Global, json: I, kind: Kind) -> Items<'de>
+        ensures { result ≡ iterator_over kind (I.JsonInput.content json) I.JsonInput.is_bytes true }
+    {
+        let raw = json.to_json_slice();
+        let steps = Steps::checked(alloc, Read::unscanned(raw));
+        Items {
+            kind,
+            raw,
+            text: json.to_u8_slice(),
+            steps,
+            is_bytes: json.need_utf8_valid(),
+            given: 0,
+            ended: false,
+        }
+    }
+
+    // The items of the container of this kind that begins a text, which begins with a value in UTF-8.
+    pub(crate) fn unchecked(raw: JsonSlice<'de>, kind: Kind) -> Items<'de>
+        requires { StartsWithUtf8Value (slice_bytes raw) }
+        ensures { result ≡ iterator_over kind (slice_bytes raw.entry) false false }
+    {
+        let steps = Steps::unchecked(Read::unscanned(raw));
+        Items {
+            kind,
+            raw,
+            text: raw.bytes(),
+            steps,
+            is_bytes: false,
+            given: 0,
+            ended: false,
+        }
+    }
+
+    // The next item.
+    pub(crate) fn next(&mut self) -> Option<Result<Found, Fault>>
+        ensures found { IfSome result (λ r.
+            IfOk r (IsGiven (λ t n x. IsFoundPart t self.old.kind n x) self.old self.new)) }
+        ensures going { IfSome result (λ r. IfErr r (λ _. self.old.ended ≡ false)) }
+        ensures fault { IfSome result (λ r. IfErr r (IsStopFor (λ s.
+            EndsItems self.old.text self.old.is_bytes self.old.kind self.old.given (stopped s)))) }
+        ensures within { IfSome result (λ r. IfErr r (IsStopFor (λ s. s.place ≤ length self.old.text))) }
+        ensures memory { IfSome result (λ r.
+            IsErrOf r Fault.OutOfMemory → self.old.checks ≡ true) }
+        ensures ended { IfSome result (λ r. IfErr r (λ _. self.new ≡ record self.old { ended = true })) }
+        ensures none { IfNone result (IsOver self.old self.new) }
+    {
+        if self.ended {
+            return None;
+        }
+        match find(&mut self.steps, self.kind, self.given, self.is_bytes) {
+            Ok(Some(found)) => {
+                self.given += 1;
+                Some(Ok(found))
+            }
+            Ok(None) => {
+                self.ended = true;
+                None
+            }
+            Err(fault) => {
+                self.ended = true;
+                Some(Err(fault))
+            }
+        }
+    }
+
+    // Ends, whatever comes.
+    pub(crate) fn end(&mut self)
+        ensures { self.new ≡ record self.old { ended = true } }
+    {
+        self.ended = true;
+    }
+
+    // The whole text.
+    pub(crate) fn text(&self) -> &'de [u8]
+        ensures { result.now ≡ self.now.text }
+    {
+        self.text
+    }
+
+    // A value of the text.
+    pub(crate) fn value(&self, found: Located) -> LazyValue<'de>
+        requires part { IsPart self.now.text found.start found.end }
+        requires status { IsStatus self.now.text found.start found.end found.status }
+        ensures { raw_bytes result ≡ slice_range self.now.text found.start found.end }
+    {
+        let Located { start, end, status } = found;
+        LazyValue::whole(self.raw.part(start, end), status.has_escaped())
+    }
+}
+
+// Passes the item that comes after those that were given, if there is one, in a text that came as
+// bytes, whose UTF-8 is looked at before the first item, or not.
+fn find(
+    steps: &mut Steps<'_>,
+    kind: Kind,
+    given: usize,
+    is_bytes: bool,
+) -> Result<Option<Found>, Fault>
+    requires after { IsAfterItems steps.old.text kind given steps.old.place }
+    requires whole { steps.old.checks ≡ false → HasWhole steps.old.text (after_space steps.old.text 0) }
+    requires utf8 { is_bytes ≡ true → 0 < given → IsUtf8 steps.old.text }
+    ensures utf8 { OnOk result (is_bytes ≡ true → IsUtf8 steps.old.text) }
+    ensures found { IfOk result (λ found. IfSome found (IsFound steps.old.text kind given)) }
+    ensures place { IfOk result (λ found. IfSome found (λ x. steps.new.place ≡ x.value.end)) }
+    ensures fits { IfOk result (λ found. IfSome found (λ x. x.value.end < 2 ^ 64)) }
+    ensures closed { IfOk result (λ found. found ≡ None → AreClosed steps.old.text kind given) }
+    ensures moved { steps.new ≡ record steps.old { place = steps.new.place } }
+    ensures err { IfErr result (IsStopFor (λ s. EndsItems steps.old.text is_bytes kind given (stopped s))) }
+    ensures within { IfErr result (IsStopFor (λ s. s.place ≤ length steps.old.text)) }
+    ensures memory { IsErrOf result Fault.OutOfMemory → steps.old.checks ≡ true }
+{
+    look(steps.text(), given, is_bytes)?;
+    find_item(steps, kind, given)
+}
+
+// Looks at the UTF-8 of a text that came as bytes, before the first item.
+fn look(text: &[u8], given: usize, is_bytes: bool) -> Result<(), Stop>
+    requires { is_bytes ≡ true → 0 < given → IsUtf8 text.now }
+    ensures ok { OnOk result (is_bytes ≡ true → IsUtf8 text.now) }
+    ensures err { IfErr result (λ s. (kind : Kind) → EndsItems text.now is_bytes kind given (stopped s)) }
+    ensures within { IfErr result (λ s. s.place ≤ length text.now) }
+{
+    if is_bytes && given == 0 {
+        return check(text, text.len());
+    }
+    Ok(())
+}
