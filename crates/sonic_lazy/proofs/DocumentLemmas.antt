@@ -9,7 +9,9 @@ use Rattle.sonic_error.specs.declared.code.ErrorCode.TheVariants.{InvalidUTF8, T
 use Rattle.sonic_error.specs.declared.error.Error.{Error}
 use Rattle.sonic_lazy.proofs.AnswerLemmas.One.{utf8_or_not}
 use Rattle.sonic_lazy.proofs.WholeLemmas.{utf8_up_to}
-use Rattle.sonic_lazy.specs.Documents.{IsAfterRoot, IsValidDocument, IsInvalid, no_root, text_after, broken_text, IsInvalidError, out_of_memory, invalid}
+use Rattle.sonic_lazy.specs.Documents.{IsAfterRoot, IsAlone, IsValidDocument, IsInvalid, no_root, text_after, broken_text, IsInvalidError, out_of_memory, invalid}
+use Rattle.sonic_lazy.specs.Internal.Roots.{IsRoot}
+use Rattle.sonic_lazy.specs.declared.document.Root.{Root}
 use Rattle.sonic_lazy.specs.Laws.{HoldsOrHasOneReason}
 use Rattle.sonic_parser.specs.Faults.{IsStopFor, IsErrorOf}
 use Rattle.sonic_parser.specs.Parsers.{Parsing, moved, value_start, IsPassed}
@@ -59,7 +61,7 @@ alone_or_after : {t : List ℕ} {p : ℕ} → IsAfterRoot t (length t) → IsAft
 alone_or_after x y l = let e = after_one x y in omega (arith, e, l)
 
 -- a text has one reason
-reason_one : {t : List ℕ} {is_bytes : Bool} {s r : Stop} → IsInvalid t is_bytes s → IsInvalid t is_bytes r → s ≡ r
+pub reason_one : {t : List ℕ} {is_bytes : Bool} {s r : Stop} → IsInvalid t is_bytes s → IsInvalid t is_bytes r → s ≡ r
 reason_one (no_root f) (no_root g) = value_fault_one f g
 reason_one (no_root f) (text_after y l e) = absurd (value_never_both y.root f)
 reason_one (no_root f) (broken_text y b n e) = absurd (value_never_both y.root f)
@@ -84,23 +86,48 @@ document_one t is_bytes text = record {
   never_both = λ s x y. never_invalid x y;
 }
 
--- a parser that skipped the root, and then white space, has come after it
-pub after_root : {t : List ℕ} {p q r s : Parsing} {needs : ParseStatus} → p.text ≡ t → p.place ≡ 0 → p.lossy ≡ false → q ≡ moved p (value_start p)
-    → IsPassed q r needs → r ≡ moved q r.place → s ≡ moved r (value_start r) → IsAfterRoot t s.place
-after_root {t} {p} {q} {r} {s} text start lossy first passed kept last =
+-- a parser that skipped the root, and then white space, has passed both
+pub root_passed : {t : List ℕ} {p q r s : Parsing} {needs : ParseStatus} → p.text ≡ t → p.place ≡ 0 → p.lossy ≡ false → q ≡ moved p (value_start p)
+    → IsPassed q r needs → r ≡ moved q r.place → s ≡ moved r (value_start r)
+    → IsRoot t (record { span = record { start = q.place; end = r.place }; after = s.place })
+root_passed {t} {p} {q} {r} {s} text start lossy first passed kept last =
     let same : q.text ≡ t = ap (λ (x : Parsing). x.text) first ∙ text in
     let later : r.text ≡ t = ap (λ (x : Parsing). x.text) kept ∙ same in
     let place : q.place ≡ after_space t 0 = ap (λ (x : Parsing). x.place) first ∙ rw (text, start) refl in
     let way : q.lossy ≡ false = ap (λ (x : Parsing). x.lossy) first ∙ lossy in
     record {
-      end = r.place;
-      root = rw (way, same, place) at passed.value;
-      place = sym (ap (λ (x : Parsing). x.place) last ∙ rw later refl);
+      start = sym place;
+      value = rw (way, same, place) at passed.value;
+      after = sym (ap (λ (x : Parsing). x.place) last ∙ rw later refl);
     }
 
--- where no text follows the root, the end does
-pub alone_after : {t : List ℕ} {p : ℕ} → IsAfterRoot t p → length t ≤ p → p ≤ length t → IsAfterRoot t (length t)
-alone_after {t} {p} x l within = let e : p ≡ length t = omega (arith, l, within) in rw e at x
+-- the place after a root
+pub after_root : {t : List ℕ} {root : Root} → IsRoot t root → IsAfterRoot t root.after
+after_root {root = root} x = record { end = root.span.end; root = x.value; place = x.after }
+
+-- a root that no text follows is alone
+pub root_alone : {t : List ℕ} {root : Root} → IsRoot t root → length t ≤ root.after → root.after ≤ length t → IsAlone t root.span.start root.span.end
+root_alone {t} {root} x l within = record { start = x.start; root = x.value; end = x.after ∙ omega (arith, l, within) }
+
+-- and the end comes after it
+pub after_alone : {t : List ℕ} {i j : ℕ} → IsAlone t i j → IsAfterRoot t (length t)
+after_alone {j = j} x = record { end = j; root = x.root; place = x.end }
+
+-- one value is alone
+pub alone_one : {t : List ℕ} {i j p q : ℕ} → IsAlone t i j → IsAlone t p q → (i ≡ p) × (j ≡ q)
+alone_one x y = (sym x.start ∙ y.start, value_end_one x.root y.root)
+
+-- what is alone in UTF-8 is valid
+pub alone_never_invalid : {t : List ℕ} {i j : ℕ} {s : Stop} → IsAlone t i j → IsInvalid t false s → ⊥
+alone_never_invalid x (no_root f) = value_never_both x.root f
+alone_never_invalid x (text_after y l e) = alone_or_after (after_alone x) y l
+alone_never_invalid x (broken_text y b n e) = absurd cc
+
+-- a reason that holds of a text however it came
+pub reason_either : (t : List ℕ) (is_bytes : Bool) (fault : Fault) → IsStopFor (λ s. (is_bytes : Bool) → IsInvalid t is_bytes s) fault
+    → IsStopFor (IsInvalid t is_bytes) fault
+reason_either t is_bytes OutOfMemory h = h
+reason_either t is_bytes (At s) h = h is_bytes
 
 -- broken bytes are the reason
 pub reason_broken : {t : List ℕ} {is_bytes : Bool} {s : Stop} → IsAfterRoot t (length t) → is_bytes ≡ true → ¬ IsUtf8 (take (length t) t)

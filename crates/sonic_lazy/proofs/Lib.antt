@@ -16,6 +16,8 @@ pub mod ListingLemmas
 pub mod PartLemmas
 -- Where a node leads on to, and the one outcome of a path.
 pub mod PathLemmas
+-- What a document says of the number that it may be.
+pub mod RawNumberLemmas
 -- What the first byte says of a whole value.
 pub mod ScalarLemmas
 -- Which lazy values show an answer.

@@ -15,6 +15,12 @@ pub record IsAfterRoot (t : List ℕ) (p : ℕ) : Type 0 where
   pub root : IsWhole t end
   pub place : after_space t end ≡ p
 
+-- the text is the value from i to j with nothing but white space round it
+pub record IsAlone (t : List ℕ) (i j : ℕ) : Type 0 where
+  pub start : after_space t 0 ≡ i
+  pub root : IsWhole t j
+  pub end : after_space t j ≡ length t
+
 -- the text is one value with nothing but white space round it, in UTF-8
 pub record IsValidDocument (t : List ℕ) : Type 0 where
   pub alone : IsAfterRoot t (length t)

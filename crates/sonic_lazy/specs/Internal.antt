@@ -3,6 +3,7 @@ pub mod Fill
 pub mod Follow
 pub mod Items
 pub mod Located
+pub mod Roots
 pub mod StepViews
 pub mod Steps
 pub mod StringSpans

@@ -7,6 +7,7 @@ pub mod Iterators
 pub mod Laws
 pub mod LazyValues
 pub mod Paths
+pub mod RawNumbers
 pub mod Scalars
 pub mod Shown
 pub mod Spans

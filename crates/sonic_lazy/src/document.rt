@@ -1,31 +1,61 @@
 // Whether an input is one value with white space round it, in UTF-8.
-ghost use Rattle.std.specs.Prelude.{◌≡◌, ◌≤◌, false, length, IfOk, IfErr, OnOk};
+ghost use Rattle.std.specs.Prelude.{◌≡◌, ◌≤◌, Bool, false, length, IfOk, IfErr, OnOk};
 ghost use Rattle.std.specs.Str.{IsUtf8};
 ghost use Rattle.sonic_error.specs.Errors.{IsPlainError};
 ghost use Rattle.sonic_text.specs.Documents.{IsRootFault, StartsWithUtf8Value};
 ghost use Rattle.sonic_parser.specs.Faults.{IsStopFor};
-ghost use Rattle.sonic_lazy.specs.Documents.{IsAfterRoot, IsValidDocument, IsInvalid, IsInvalidError};
+ghost use Rattle.sonic_lazy.specs.Documents.{IsAlone, IsValidDocument, IsInvalid, IsInvalidError};
+ghost use Rattle.sonic_lazy.specs.Internal.Roots.{IsRoot};
 
 use crate::answer::check;
+use crate::span::Span;
 use sonic_error::{Error, ErrorCode};
 use sonic_input::{JsonInput, Read};
 use sonic_parser::{Fault, Parser};
 use sonic_text::Stop;
 use std::alloc::Global;
 
-// Passes the root and the white space after it, and gives the place after these.
-fn pass_root(alloc: Global, read: Read<'_>) -> Result<usize, Fault>
+// The root, and the place after the white space that follows it.
+#[derive(Clone, Copy)]
+struct Root {
+    span: Span,
+    after: usize,
+}
+
+// Passes the root and the white space after it.
+fn pass_root(alloc: Global, read: Read<'_>) -> Result<Root, Fault>
     requires { read.place ≡ 0 }
-    ensures ok { IfOk result (IsAfterRoot read.entry.text) }
-    ensures inside { IfOk result (λ place. place ≤ length read.entry.text) }
+    ensures ok { IfOk result (IsRoot read.entry.text) }
+    ensures inside { IfOk result (λ root. root.after ≤ length read.entry.text) }
     ensures err { IfErr result (IsStopFor (IsRootFault read.entry.text)) }
     ensures within { IfErr result (IsStopFor (λ s. s.place ≤ length read.entry.text)) }
 {
     let mut parser = Parser::new(read);
     parser.skip_space_peek();
+    let start = parser.offset();
     parser.skip_value(alloc)?;
+    let end = parser.offset();
     parser.skip_space_peek();
-    Ok(parser.offset())
+    Ok(Root {
+        span: Span { start, end },
+        after: parser.offset(),
+    })
+}
+
+// The span of the one value that a text is, or the reason why it is none.
+pub(crate) fn pass_alone(alloc: Global, read: Read<'_>) -> Result<Span, Fault>
+    requires { read.place ≡ 0 }
+    ensures ok { IfOk result (λ span. IsAlone read.entry.text span.start span.end) }
+    ensures err { IfErr result (IsStopFor (λ s. (is_bytes : Bool) → IsInvalid read.entry.text is_bytes s)) }
+    ensures within { IfErr result (IsStopFor (λ s. s.place ≤ length read.entry.text)) }
+{
+    let text = read.as_u8_slice();
+    let Root { span, after: place } = pass_root(alloc, read)?;
+    if place < text.len() {
+        let code = ErrorCode::TrailingCharacters;
+        return Err(Fault::At(Stop { place, code }));
+    }
+    Ok(span)
 }
 
 // Passes a whole document, or stops at the reason why the text is none.
@@ -37,11 +67,7 @@ fn pass_document(alloc: Global, read: Read<'_>, is_bytes: bool) -> Result<(), Fa
     ensures within { IfErr result (IsStopFor (λ s. s.place ≤ length read.entry.text)) }
 {
     let text = read.as_u8_slice();
-    let place = pass_root(alloc, read)?;
-    if place < text.len() {
-        let code = ErrorCode::TrailingCharacters;
-        return Err(Fault::At(Stop { place, code }));
-    }
+    pass_alone(alloc, read)?;
     if is_bytes {
         check(text, text.len())?;
     }

@@ -11,6 +11,7 @@ ghost use Rattle.sonic_lazy.specs.Items.{Listing, IsListing, closed, stopped, st
 ghost use Rattle.sonic_lazy.specs.Laws.{AreGetAnswers, ExactlyOne, HoldsOrHasOneReason};
 ghost use Rattle.sonic_lazy.specs.Laws.{Finds, LeadsInPart, MixNowhere, outcome_in_whole};
 ghost use Rattle.sonic_lazy.specs.Paths.{Outcome, Evaluates, Leads, found, lacks, fails, cut};
+ghost use Rattle.sonic_lazy.specs.RawNumbers.{IsNumberDocument, IsNoNumber};
 ghost use Rattle.sonic_lazy.specs.Shown.{span_text};
 
 /// The law of paths, for every text, every place and every path: it leads to an outcome, and there
@@ -77,6 +78,17 @@ pub fn path_has_one_answer()
 pub fn document_is_valid_or_has_one_reason()
     ensures { (t : List ℕ) (is_bytes : Bool) → (is_bytes ≡ false → IsUtf8 t)
         → HoldsOrHasOneReason (IsValidDocument t) (IsInvalid t is_bytes) }
+{}
+
+/// The law of numbers by their text, for every text in UTF-8: it is the document of one number, or
+/// of none for exactly one reason, and never both.
+///
+/// So `"1.10"`, with its quotes or without, is that of `1.10` alone, and `[1]` of none as it is an
+/// array.
+pub fn document_is_one_number_or_has_one_reason()
+    ensures reason { (t : List ℕ) → IsUtf8 t
+        → HoldsOrHasOneReason ((n : List ℕ) × IsNumberDocument t n) (IsNoNumber t) }
+    ensures one { (t n m : List ℕ) → IsNumberDocument t n → IsNumberDocument t m → n ≡ m }
 {}
 
 /// The law of the two calls, for every text that starts with a value in UTF-8, whether it came as

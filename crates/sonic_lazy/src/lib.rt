@@ -29,6 +29,8 @@ mod many_unchecked;
 mod one;
 // Where one path leads in a text.
 mod path;
+// Numbers that keep their text.
+mod rawnumber;
 // A part of an input.
 mod span;
 // Which children of a prefix of the tree were visited.
@@ -59,14 +61,16 @@ pub use iterator::{
 };
 pub use law::{
     a_cut_is_the_root_fault, a_path_goes_on_in_its_value, container_has_one_listing,
-    document_is_valid_or_has_one_reason, fails_at_one_place_agree, get_many_agrees_with_get,
-    items_of_a_value_are_closed, outcomes_come_before_the_fault, path_has_one_answer,
-    path_has_one_outcome, paths_have_one_answer, utf8_has_the_same_items,
+    document_is_one_number_or_has_one_reason, document_is_valid_or_has_one_reason,
+    fails_at_one_place_agree, get_many_agrees_with_get, items_of_a_value_are_closed,
+    outcomes_come_before_the_fault, path_has_one_answer, path_has_one_outcome,
+    paths_have_one_answer, utf8_has_the_same_items,
 };
 pub use lazyvalue::LazyValue;
 pub use many::get_many;
 pub use many_unchecked::{find_many_unchecked, get_many_unchecked};
 pub use one::{get, get_from_bytes, get_from_faststr, get_from_slice, get_from_str};
+pub use rawnumber::RawNumber;
 pub use span::Span;
 pub use unchecked::{
     get_from_bytes_unchecked, get_from_faststr_unchecked, get_from_slice_unchecked,

@@ -7,5 +7,6 @@ mod lazyvalue;
 mod lookups;
 mod many_unchecked;
 mod one;
+mod rawnumbers;
 mod reference;
 mod scalars;
