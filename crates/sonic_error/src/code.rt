@@ -36,9 +36,11 @@ pub enum ErrorCode {
     EofWhileParsing,
     /// No colon follows a key.
     ExpectedColon,
-    /// Neither a comma nor a closing bracket follows an element.
+    /// Neither a comma nor a closing bracket follows an element, or, to an iterator alone, the text
+    /// ends after the opening bracket.
     ExpectedArrayCommaOrEnd,
-    /// Neither a comma nor a closing brace follows a member.
+    /// Neither a comma nor a closing brace follows a member, or, to an iterator alone, neither a key
+    /// nor the closing brace follows the opening one.
     ExpectedObjectCommaOrEnd,
     /// A byte that isn't the next letter of `true`, `false` or `null`.
     InvalidLiteral,

@@ -8,7 +8,9 @@ use Rattle.sonic_error.specs.Texts.{valid_up_to}
 use Rattle.sonic_error.specs.declared.code.ErrorCode.TheVariants.{InvalidUTF8, TrailingCharacters, NoMemory}
 use Rattle.sonic_error.specs.declared.error.Error.{Error}
 use Rattle.sonic_lazy.proofs.AnswerLemmas.One.{utf8_or_not}
-use Rattle.sonic_lazy.proofs.WholeLemmas.{utf8_up_to}
+use Rattle.sonic_lazy.proofs.WholeLemmas.{utf8_up_to, utf8_of_span}
+use Rattle.sonic_lazy.specs.Wholes.{IsPart}
+use Rattle.sonic_text.specs.Values.{IsValue}
 use Rattle.sonic_lazy.specs.Documents.{IsAfterRoot, IsAlone, IsValidDocument, IsInvalid, no_root, text_after, broken_text, IsInvalidError, out_of_memory, invalid}
 use Rattle.sonic_lazy.specs.Internal.Roots.{IsRoot}
 use Rattle.sonic_lazy.specs.declared.document.Root.{Root}
@@ -89,7 +91,7 @@ document_one t is_bytes text = record {
 -- a parser that skipped the root, and then white space, has passed both
 pub root_passed : {t : List ℕ} {p q r s : Parsing} {needs : ParseStatus} → p.text ≡ t → p.place ≡ 0 → p.lossy ≡ false → q ≡ moved p (value_start p)
     → IsPassed q r needs → r ≡ moved q r.place → s ≡ moved r (value_start r)
-    → IsRoot t (record { span = record { start = q.place; end = r.place }; after = s.place })
+    → IsRoot t (record { value = record { start = q.place; end = r.place; status = needs }; after = s.place })
 root_passed {t} {p} {q} {r} {s} text start lossy first passed kept last =
     let same : q.text ≡ t = ap (λ (x : Parsing). x.text) first ∙ text in
     let later : r.text ≡ t = ap (λ (x : Parsing). x.text) kept ∙ same in
@@ -99,14 +101,15 @@ root_passed {t} {p} {q} {r} {s} text start lossy first passed kept last =
       start = sym place;
       value = rw (way, same, place) at passed.value;
       after = sym (ap (λ (x : Parsing). x.place) last ∙ rw later refl);
+      status = rw same at passed.status;
     }
 
 -- the place after a root
 pub after_root : {t : List ℕ} {root : Root} → IsRoot t root → IsAfterRoot t root.after
-after_root {root = root} x = record { end = root.span.end; root = x.value; place = x.after }
+after_root {root = root} x = record { end = root.value.end; root = x.value; place = x.after }
 
 -- a root that no text follows is alone
-pub root_alone : {t : List ℕ} {root : Root} → IsRoot t root → length t ≤ root.after → root.after ≤ length t → IsAlone t root.span.start root.span.end
+pub root_alone : {t : List ℕ} {root : Root} → IsRoot t root → length t ≤ root.after → root.after ≤ length t → IsAlone t root.value.start root.value.end
 root_alone {t} {root} x l within = record { start = x.start; root = x.value; end = x.after ∙ omega (arith, l, within) }
 
 -- and the end comes after it
@@ -150,3 +153,10 @@ pub document_starts : {t : List ℕ} → IsValidDocument t → StartsWithUtf8Val
 document_starts {t} x =
     let within = value_within x.alone.root in
     record { end = x.alone.end; root = x.alone.root; utf8 = utf8_up_to (length t) (rw (take-length t) x.utf8) x.alone.root within }
+
+-- the one value of a text in UTF-8 is a part of its own
+pub alone_part : {t : List ℕ} {i j : ℕ} → IsUtf8 t → IsAlone t i j → IsPart t i j
+alone_part {t} {i} {j} utf8 x =
+    let value : IsValue strict t i j = rw x.start at x.root in
+    let within = value_within value in
+    record { value = value; inside = within; utf8 = utf8_of_span (length t) (rw (take-length t) utf8) value within (omega arith) }

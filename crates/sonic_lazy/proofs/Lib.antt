@@ -22,8 +22,6 @@ pub mod RawNumberLemmas
 pub mod ScalarLemmas
 -- Which lazy values show an answer.
 pub mod ShownLemmas
--- What a string without a backslash denotes.
-pub mod StringTextLemmas
 -- What paths come to in a text that is known to start with a value.
 pub mod UncheckedLemmas
 -- The steps of a walk, a file for each.

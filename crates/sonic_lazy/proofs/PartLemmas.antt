@@ -6,7 +6,7 @@ use Rattle.sonic_lazy.proofs.AnswerLemmas.Walk.{found_value}
 use Rattle.sonic_lazy.proofs.PathLemmas.Outcome.{evaluates_one, evaluates_some, nowhere_ends, nowhere_empty, nowhere_past, nowhere_other}
 use Rattle.sonic_lazy.specs.Answers.{Span}
 use Rattle.sonic_lazy.specs.Laws.{Finds, LeadsInPart, outcome_in_whole}
-use Rattle.sonic_lazy.specs.Paths.{Outcome, found, type_at, kind_of, past_end, nowhere, IsNamed, LeadsOn, Evaluates, Leads}
+use Rattle.sonic_lazy.specs.Paths.{Outcome, found, kind_of, past_end, nowhere, IsNamed, LeadsOn, Evaluates, Leads}
 use Rattle.sonic_lazy.specs.Paths.Evaluates.{found_here, goes_on, leads_nowhere, cut_here, cut_before}
 use Rattle.sonic_lazy.specs.Shown.{span_text}
 use Rattle.sonic_text.proofs.PartItems.{IsInPart, value_down, first_byte, opens, empty_down, filled_down, item_in_part, items_down, head_down, items_up, head_up}
@@ -17,7 +17,7 @@ use Rattle.sonic_text.proofs.Within.{value_within}
 use Rattle.sonic_text.specs.Paths.{Node, Path}
 use Rattle.sonic_text.specs.Places.{byte, after_space}
 use Rattle.sonic_text.specs.Strings.{strict}
-use Rattle.sonic_text.specs.Values.{opening, IsValue, ItemsFit}
+use Rattle.sonic_text.specs.Values.{type_at, opening, IsValue, ItemsFit}
 use Rattle.sonic_text.specs.declared.kind.Kind.{Kind}
 use Rattle.sonic_text.specs.declared.kind.Kind.TheVariants.{Array, Object}
 

@@ -14,8 +14,7 @@ use Rattle.sonic_error.specs.Errors.{IsPlainError}
 use Rattle.sonic_lazy.proofs.DocumentLemmas.{alone_one, alone_never_invalid, reason_one, document_one}
 use Rattle.sonic_lazy.specs.Documents.{IsAlone, IsInvalid}
 use Rattle.sonic_lazy.specs.Laws.{HoldsOrHasOneReason}
-use Rattle.sonic_lazy.specs.Paths.{type_at}
-use Rattle.sonic_lazy.specs.RawNumbers.{IsNumberText, contents, IsNumberDocument, a_number, a_quoted_number, IsNoNumber, no_document, other_type, other_string, IsNumberError, out_of_memory, no_number}
+use Rattle.sonic_lazy.specs.RawNumbers.{IsNumberText, IsNumberDocument, a_number, a_quoted_number, IsNoNumber, no_document, other_type, other_string, IsNumberError, out_of_memory, no_number}
 use Rattle.sonic_parser.specs.Faults.{IsStopFor, IsErrorOf}
 use Rattle.sonic_parser.specs.declared.fault.Fault.{Fault}
 use Rattle.sonic_parser.specs.declared.fault.Fault.TheVariants.{OutOfMemory, At}
@@ -26,8 +25,8 @@ use Rattle.sonic_text.proofs.Values.{first_letter, items_open, value-longer}
 use Rattle.sonic_text.proofs.Within.{value_within}
 use Rattle.sonic_text.specs.Numbers.{IsNumber, IsNumberFault}
 use Rattle.sonic_text.specs.Places.{byte, after_space}
-use Rattle.sonic_text.specs.Strings.{strict}
-use Rattle.sonic_text.specs.Values.{IsValue, null_literal, true_literal, false_literal, number, string, empty, filled, opening}
+use Rattle.sonic_text.specs.Strings.{contents, strict}
+use Rattle.sonic_text.specs.Values.{type_at, IsValue, null_literal, true_literal, false_literal, number, string, empty, filled, opening}
 use Rattle.sonic_text.specs.declared.kind.Kind.{Kind}
 use Rattle.sonic_text.specs.declared.kind.Kind.TheVariants.{Array, Object}
 use Rattle.sonic_text.specs.declared.stop.Stop.{Stop}

@@ -1,5 +1,5 @@
 -- Whole documents (RFC 8259, sections 2 and 8.1), and why a text is none.
-use Rattle.std.specs.Prelude.{◌≡◌, ℕ, ◌<◌, Bool, true, List, length}
+use Rattle.std.specs.Prelude.{◌≡◌, ℕ, ◌<◌, Bool, true, List, length, slice_range}
 use Rattle.std.specs.Str.{IsUtf8}
 use Rattle.sonic_error.specs.declared.code.ErrorCode.TheVariants.{InvalidUTF8, TrailingCharacters, NoMemory}
 use Rattle.sonic_error.specs.declared.error.Error.{Error}
@@ -20,6 +20,13 @@ pub record IsAlone (t : List ℕ) (i j : ℕ) : Type 0 where
   pub start : after_space t 0 ≡ i
   pub root : IsWhole t j
   pub end : after_space t j ≡ length t
+
+-- the text is the value with these bytes, with nothing but white space round it
+pub record IsDocumentValue (t bytes : List ℕ) : Type 0 where
+  pub start : ℕ
+  pub end : ℕ
+  pub alone : IsAlone t start end
+  pub is : bytes ≡ slice_range t start end
 
 -- the text is one value with nothing but white space round it, in UTF-8
 pub record IsValidDocument (t : List ℕ) : Type 0 where

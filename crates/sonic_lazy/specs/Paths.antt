@@ -1,9 +1,7 @@
 -- Where a path of keys and indexes leads in a text (compare RFC 6901, section 4).
-use Rattle.std.specs.Prelude.{◌≡◌, ℕ, ◌+◌, ◌-◌, ◌<◌, ◌==◌, ◌&&◌, ◌||◌, List, [], ◌∷◌, Option, Some, None, if◌then◌else◌}
+use Rattle.std.specs.Prelude.{◌≡◌, ℕ, ◌+◌, ◌-◌, ◌<◌, ◌==◌, ◌&&◌, List, [], ◌∷◌, Option, Some, None, if◌then◌else◌}
 use Rattle.sonic_error.specs.declared.code.ErrorCode.{ErrorCode}
 use Rattle.sonic_error.specs.declared.code.ErrorCode.TheVariants.{Message, GetInEmptyArray, GetInEmptyObject, GetIndexOutOfArray}
-use Rattle.sonic_error.specs.declared.json_type.JsonType.{JsonType}
-use Rattle.sonic_error.specs.declared.json_type.JsonType.TheVariants.{Null, Boolean, Number, String, Object as AnObject, Array as AnArray}
 use Rattle.sonic_error.specs.declared.json_type.Note.TheVariants.{Mismatch}
 use Rattle.sonic_error.specs.declared.json_type.Wanted.{Wanted}
 use Rattle.sonic_error.specs.declared.json_type.Wanted.TheVariants.{Array as WantedArray, Object as WantedObject}
@@ -13,7 +11,7 @@ use Rattle.sonic_text.specs.declared.stop.Stop.{Stop}
 use Rattle.sonic_text.specs.Places.{byte, after_space}
 use Rattle.sonic_text.specs.Strings.{strict}
 use Rattle.sonic_text.specs.Paths.{Node, key, index, Path}
-use Rattle.sonic_text.specs.Values.{opening, closing, ItemHead, IsValue, ItemsFit}
+use Rattle.sonic_text.specs.Values.{opening, closing, type_at, ItemHead, IsValue, ItemsFit}
 use Rattle.sonic_text.specs.Faults.{IsFault}
 
 -- where a path leads: to the span of a value; nowhere, as an object that isn't empty lacks the key, at its closing brace;
@@ -23,16 +21,6 @@ pub data Outcome : Type 0 where
   lacks : ℕ → Outcome
   fails : Stop → Outcome
   cut : Stop → Outcome
-
--- the type of the value at i, by its first byte
-abbrev pub type_at : List ℕ → ℕ → JsonType
-type_at t i =
-    if byte t i == 110 then Null
-    else if byte t i == 116 || byte t i == 102 then Boolean
-    else if byte t i == 34 then String
-    else if byte t i == 91 then AnArray
-    else if byte t i == 123 then AnObject
-    else Number
 
 -- the kind of container that a node asks for
 abbrev pub kind_of : Node → Kind

@@ -1,5 +1,5 @@
 -- Numbers that keep their text (RFC 8259, section 6), and the documents that are one.
-use Rattle.std.specs.Prelude.{◌≡◌, ◌≢◌, ℕ, ◌+◌, ◌-◌, false, List, length, slice_range}
+use Rattle.std.specs.Prelude.{◌≡◌, ◌≢◌, ℕ, ◌-◌, false, List, length, slice_range}
 use Rattle.sonic_error.specs.declared.code.ErrorCode.TheVariants.{InvalidNumber, Message, NoMemory}
 use Rattle.sonic_error.specs.declared.error.Error.{Error}
 use Rattle.sonic_error.specs.declared.json_type.Note.TheVariants.{Mismatch}
@@ -8,16 +8,13 @@ use Rattle.sonic_error.specs.Errors.{IsErrorAt, IsPlainError}
 use Rattle.sonic_text.specs.declared.stop.Stop.{Stop}
 use Rattle.sonic_text.specs.Numbers.{IsNumber}
 use Rattle.sonic_text.specs.Places.{byte}
+use Rattle.sonic_text.specs.Strings.{contents}
+use Rattle.sonic_text.specs.Values.{type_at}
 use Rattle.sonic_lazy.specs.Documents.{IsAlone, IsInvalid}
-use Rattle.sonic_lazy.specs.Paths.{type_at}
 
 -- the whole text is a number
 abbrev pub IsNumberText : List ℕ → Type 0
 IsNumberText n = IsNumber n 0 (length n)
-
--- what is between the quotes of the string from i to j
-abbrev pub contents : List ℕ → ℕ → ℕ → List ℕ
-contents t i j = slice_range t (i + 1) (j - 1)
 
 -- the document is this number, or a string that has its text between the quotes
 pub data IsNumberDocument (t n : List ℕ) : Type 0 where

@@ -4,13 +4,17 @@ ghost use Rattle.std.specs.Str.{IsUtf8};
 ghost use Rattle.sonic_error.specs.Errors.{IsPlainError};
 ghost use Rattle.sonic_text.specs.Documents.{IsRootFault, StartsWithUtf8Value};
 ghost use Rattle.sonic_parser.specs.Faults.{IsStopFor};
-ghost use Rattle.sonic_lazy.specs.Documents.{IsAlone, IsValidDocument, IsInvalid, IsInvalidError};
+ghost use Rattle.sonic_lazy.specs.Documents.{IsAlone, IsValidDocument, IsInvalid, IsInvalidError, IsDocumentValue};
+ghost use Rattle.sonic_lazy.specs.Internal.Located.{IsStatus};
+ghost use Rattle.sonic_lazy.specs.LazyValues.{raw_bytes};
 ghost use Rattle.sonic_lazy.specs.Internal.Roots.{IsRoot};
 
 use crate::answer::check;
-use crate::span::Span;
+use crate::entry::entry;
+use crate::lazyvalue::LazyValue;
+use crate::located::Located;
 use sonic_error::{Error, ErrorCode};
-use sonic_input::{JsonInput, Read};
+use sonic_input::{JsonInput, JsonSlice, Read};
 use sonic_parser::{Fault, Parser};
 use sonic_text::Stop;
 use std::alloc::Global;
@@ -18,7 +22,7 @@ use std::alloc::Global;
 // The root, and the place after the white space that follows it.
 #[derive(Clone, Copy)]
 struct Root {
-    span: Span,
+    value: Located,
     after: usize,
 }
 
@@ -33,29 +37,33 @@ fn pass_root(alloc: Global, read: Read<'_>) -> Result<Root, Fault>
     let mut parser = Parser::new(read);
     parser.skip_space_peek();
     let start = parser.offset();
-    parser.skip_value(alloc)?;
+    let status = parser.skip_value(alloc)?;
     let end = parser.offset();
     parser.skip_space_peek();
     Ok(Root {
-        span: Span { start, end },
+        value: Located { start, end, status },
         after: parser.offset(),
     })
 }
 
-// The span of the one value that a text is, or the reason why it is none.
-pub(crate) fn pass_alone(alloc: Global, read: Read<'_>) -> Result<Span, Fault>
+// The one value that a text is, or the reason why it is none.
+pub(crate) fn pass_alone(alloc: Global, read: Read<'_>) -> Result<Located, Fault>
     requires { read.place ≡ 0 }
-    ensures ok { IfOk result (λ span. IsAlone read.entry.text span.start span.end) }
+    ensures ok { IfOk result (λ x. IsAlone read.entry.text x.start x.end) }
+    ensures status { IfOk result (λ x. IsStatus read.entry.text x.start x.end x.status) }
     ensures err { IfErr result (IsStopFor (λ s. (is_bytes : Bool) → IsInvalid read.entry.text is_bytes s)) }
     ensures within { IfErr result (IsStopFor (λ s. s.place ≤ length read.entry.text)) }
 {
     let text = read.as_u8_slice();
-    let Root { span, after: place } = pass_root(alloc, read)?;
+    let Root {
+        value,
+        after: place,
+    } = pass_root(alloc, read)?;
     if place < text.len() {
         let code = ErrorCode::TrailingCharacters;
         return Err(Fault::At(Stop { place, code }));
     }
-    Ok(span)
+    Ok(value)
 }
 
 // Passes a whole document, or stops at the reason why the text is none.
@@ -96,6 +104,26 @@ pub fn validate<'de, I: JsonInput<'de>>(alloc: Global, json: I) -> Result<(), Er
     let read = Read::unscanned(json.to_json_slice());
     match pass_document(alloc, read, json.need_utf8_valid()) {
         Ok(()) => Ok(()),
+        Err(fault) => Err(fault.error(text)),
+    }
+}
+
+/// The value that a text is, with nothing but white space round it (RFC 8259, section 2).
+///
+/// Else the error is the first of these: the fault of the value, and
+/// `ErrorCode::TrailingCharacters` at the first byte after it that is no white space. Running out of
+/// memory is `ErrorCode::NoMemory` without a place.
+///
+/// Of ` [1, 2] ` it is `[1, 2]`, and of `[1] x` the error has the offset 4.
+pub fn from_str<'de>(alloc: Global, json: &'de str) -> Result<LazyValue<'de>, Error>
+    ensures ok { IfOk result (λ value. IsDocumentValue json.now (raw_bytes value)) }
+    ensures err { IfErr result (IsInvalidError json.now false) }
+    ensures complete { IsValidDocument json.now
+        → IfErr result (λ error. IsPlainError error ErrorCode.NoMemory) }
+{
+    let text = json.as_bytes();
+    match pass_alone(alloc, Read::unscanned(JsonSlice::Raw(text))) {
+        Ok(found) => Ok(entry(json, found)),
         Err(fault) => Err(fault.error(text)),
     }
 }

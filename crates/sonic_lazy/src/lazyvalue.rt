@@ -111,6 +111,16 @@ impl<'a> LazyValue<'a> {
         }
     }
 
+    /// Whether the value is a string with a backslash, which denotes other bytes than those between
+    /// its quotes.
+    ///
+    /// Of `"\n"` it is true, and of `"n"` and `["\n"]` it isn't.
+    pub fn has_escaped(&self) -> bool
+        ensures { result ≡ has_escapes self.now }
+    {
+        self.has_escaped
+    }
+
     // The part of the input that is the value.
     pub(crate) fn raw(&self) -> JsonSlice<'a>
         ensures { slice_bytes result ≡ raw_bytes self.now }

@@ -54,7 +54,7 @@ mod walk;
 mod within;
 
 pub use container_trait::JsonContainerTrait;
-pub use document::validate;
+pub use document::{from_str, validate};
 pub use iterator::{
     ArrayJsonIter, ObjectJsonIter, to_array_iter, to_array_iter_unchecked, to_object_iter,
     to_object_iter_unchecked,

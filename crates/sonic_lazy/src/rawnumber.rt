@@ -16,13 +16,12 @@ ghost use Rattle.sonic_lazy.specs.RawNumbers.{IsNumberText, IsNumberDocument, Is
 
 use crate::document::pass_alone;
 use crate::lazyvalue::LazyValue;
-use crate::span::Span;
-use crate::steps::type_at;
+use crate::located::Located;
 use crate::value_trait::JsonValueTrait;
 use sonic_error::{ErrorCode, Note, Result, Wanted};
 use sonic_input::{FastStr, JsonSlice, Read};
 use sonic_parser::Fault;
-use sonic_text::{Stop, skip_number, whole_i64, whole_u64};
+use sonic_text::{Stop, skip_number, type_of, whole_i64, whole_u64};
 use std::alloc::Global;
 use std::fmt;
 use std::hash::{Hash, Hasher};
@@ -129,8 +128,9 @@ fn number_of(alloc: Global, text: &[u8]) -> std::result::Result<&str, Fault>
     ensures err { IfErr result (IsStopFor (IsNoNumber text.now)) }
     ensures within { IfErr result (IsStopFor (λ s. s.place ≤ length text.now)) }
 {
-    let Span { start, end } = pass_alone(alloc, Read::unscanned(JsonSlice::Raw(text)))?;
-    if text[start] == b'"' {
+    let Located { start, end, .. } = pass_alone(alloc, Read::unscanned(JsonSlice::Raw(text)))?;
+    let first = text[start];
+    if first == b'"' {
         return match whole_number(&text[start + 1..end - 1]) {
             Some(number) => Ok(number),
             None => Err(stop_at(start, ErrorCode::InvalidNumber)),
@@ -139,7 +139,7 @@ fn number_of(alloc: Global, text: &[u8]) -> std::result::Result<&str, Fault>
     match whole_number(&text[start..end]) {
         Some(number) => Ok(number),
         None => {
-            let found = type_at(text, start);
+            let found = type_of(first);
             let wanted = Wanted::Number;
             let code = ErrorCode::Message(Note::Mismatch { found, wanted });
             Err(stop_at(end - 1, code))

@@ -9,12 +9,12 @@ ghost use Rattle.sonic_parser.specs.Faults.{IsStopFor};
 ghost use Rattle.sonic_lazy.specs.Internal.Located.{IsStatus};
 ghost use Rattle.sonic_lazy.specs.Internal.Steps.{IsSkippable};
 ghost use Rattle.sonic_lazy.specs.Internal.Walk.{IsNoEntry};
-ghost use Rattle.sonic_lazy.specs.Paths.{type_at, empty_code, wanted_of};
+ghost use Rattle.sonic_lazy.specs.Paths.{empty_code, wanted_of};
 
-use sonic_error::{ErrorCode, JsonType, Note, Wanted};
+use sonic_error::{ErrorCode, Note, Wanted};
 use sonic_input::Read;
 use sonic_parser::{Fault, ParseStatus, Parser};
-use sonic_text::{Kind, Stop, StringEnd, byte_at};
+use sonic_text::{Kind, Stop, StringEnd, byte_at, type_of};
 use std::alloc::Global;
 use std::marker::Model;
 
@@ -150,7 +150,7 @@ impl<'de> Steps<'de> {
         ensures moved { self.new ≡ record self.old { place = self.new.place } }
         ensures memory { result ≡ Fault.OutOfMemory → self.old.checks ≡ true }
     {
-        let found = type_at(self.parser.text(), self.parser.offset());
+        let found = type_of(byte_at(self.parser.text(), self.parser.offset()));
         if let Err(fault) = self.skip() {
             return fault;
         }
@@ -205,19 +205,5 @@ pub(crate) fn wanted_of(kind: Kind) -> Wanted
     match kind {
         Kind::Array => Wanted::Array,
         Kind::Object => Wanted::Object,
-    }
-}
-
-// The type of the value at a place, by its first byte.
-pub(crate) fn type_at(text: &[u8], place: usize) -> JsonType
-    ensures { result ≡ type_at text.now place }
-{
-    match byte_at(text, place) {
-        b'n' => JsonType::Null,
-        b't' | b'f' => JsonType::Boolean,
-        b'"' => JsonType::String,
-        b'[' => JsonType::Array,
-        b'{' => JsonType::Object,
-        _ => JsonType::Number,
     }
 }

@@ -5,9 +5,8 @@ ghost use Rattle.sonic_text.specs.Trees.{Tree, Means};
 ghost use Rattle.sonic_lazy.specs.Scalars.{Scalar, null, truth, text, container, scalar_of, scalar_of_tree, type_of, truth_of, IsU64, IsI64, natural_of, integer_of};
 
 use crate::lazyvalue::LazyValue;
-use crate::steps::type_at;
 use sonic_error::JsonType;
-use sonic_text::{Kind, byte_at, whole_i64, whole_u64};
+use sonic_text::{Kind, byte_at, type_of, whole_i64, whole_u64};
 
 /// The calls that ask what a value is (RFC 8259, section 3).
 ///
@@ -158,7 +157,7 @@ impl<'a> JsonValueTrait for LazyValue<'a> {
     ghost scalar = { λ value. scalar_of (raw_bytes value) };
 
     fn get_type(&self) -> JsonType {
-        type_at(self.as_raw_str().as_bytes(), 0)
+        type_of(byte_at(self.as_raw_str().as_bytes(), 0))
     }
 
     fn as_bool(&self) -> Option<bool> {

@@ -3,4 +3,5 @@ mod DescentLemmas
 pub mod FaultLemmas
 mod RefusalLemmas
 mod SkippingLemmas
+mod TextLemmas
 mod UncheckedLemmas

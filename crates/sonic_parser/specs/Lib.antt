@@ -1,6 +1,9 @@
 pub mod Containers
 pub mod Faults
 pub mod Parsers
+pub mod Rows
 pub mod Skipping
+pub mod StringsAhead
+pub mod Texts
 pub mod Unchecked
 pub mod Views

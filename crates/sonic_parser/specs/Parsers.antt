@@ -1,14 +1,16 @@
 -- A parser, and what its calls do with the text that is left.
-use Rattle.std.specs.Prelude.{◌≡◌, ◌≢◌, ◌↔◌, ◌⊎◌, ℕ, ◌+◌, ◌<◌, Bool, List, slice_range, IsTrue}
+use Rattle.std.specs.Prelude.{◌≡◌, ◌≢◌, ◌↔◌, ◌⊎◌, ℕ, ◌+◌, ◌-◌, ◌<◌, Bool, List, slice_range, IsTrue}
 use Rattle.sonic_error.specs.declared.error.Error.{Error}
-use Rattle.sonic_error.specs.declared.code.ErrorCode.TheVariants.{NoMemory}
+use Rattle.sonic_error.specs.declared.code.ErrorCode.TheVariants.{Message, NoMemory}
+use Rattle.sonic_error.specs.declared.json_type.Note.TheVariants.{Mismatch}
+use Rattle.sonic_error.specs.declared.json_type.Wanted.{Wanted}
 use Rattle.sonic_error.specs.Errors.{IsErrorAt, IsPlainError}
 use Rattle.sonic_text.specs.declared.kind.Kind.{Kind}
 use Rattle.sonic_text.specs.declared.stop.Stop.{Stop}
 use Rattle.sonic_text.specs.declared.string.StringEnd.{StringEnd}
 use Rattle.sonic_text.specs.Places.{byte, after_space}
 use Rattle.sonic_text.specs.Strings.{IsString, IsEscapedString}
-use Rattle.sonic_text.specs.Values.{opening, closing, IsKey, IsValue}
+use Rattle.sonic_text.specs.Values.{opening, closing, type_at, IsKey, IsValue}
 use Rattle.sonic_text.specs.Faults.{IsFault}
 use Rattle.sonic_parser.specs.declared.status.ParseStatus.{ParseStatus}
 use Rattle.sonic_parser.specs.declared.status.ParseStatus.TheVariants.{HasEscaped}
@@ -52,15 +54,15 @@ pub record IsStopped (Fails : Stop → Type 0) (before now : Parsing) (e : Error
 abbrev pub IsFilledContainer : List ℕ → ℕ → Type 0
 IsFilledContainer t i = (kind : Kind) × (byte t i ≡ opening kind) × (byte t (after_space t (i + 1)) ≢ closing kind)
 
--- there is no memory to skip the container with items that is expected, and the parser is where it was
-pub record IsOutOfMemory (before now : Parsing) (e : Error) : Type 0 where
-  pub container : IsFilledContainer before.text (value_start before)
+-- there is no memory to skip the container with items at i, and the parser is where it was
+pub record IsOutOfMemory (i : ℕ) (before now : Parsing) (e : Error) : Type 0 where
+  pub container : IsFilledContainer before.text i
   pub error : IsPlainError e NoMemory
   pub cursor : now ≡ before
 
 -- no value was skipped, as it has a fault, or by running out of memory
 abbrev pub IsUnskipped : Parsing → Parsing → Error → Type 0
-IsUnskipped before now e = IsStopped (IsFault before.lossy before.text (value_start before)) before now e ⊎ IsOutOfMemory before now e
+IsUnskipped before now e = IsStopped (IsFault before.lossy before.text (value_start before)) before now e ⊎ IsOutOfMemory (value_start before) before now e
 
 -- the container of this kind at the cursor has a first item, which is at the cursor now
 pub record IsEntered (kind : Kind) (before now : Parsing) : Type 0 where
@@ -79,3 +81,9 @@ pub record IsPassed (before now : Parsing) (needs : ParseStatus) : Type 0 where
   pub later : before.place < now.place
   pub value : IsValue before.lossy before.text before.place now.place
   pub status : (needs ≡ HasEscaped) ↔ IsEscapedString before.text before.place now.place
+
+-- no value of the type that is wanted begins before the cursor: it has a fault, or it is of another type, which is told at its last byte
+pub data IsMismatch (parser : Parsing) (wanted : Wanted) (s : Stop) : Type 0 where
+  no_value : IsFault parser.lossy parser.text (parser.place - 1) s → IsMismatch parser wanted s
+  other_type : {j : ℕ} → IsValue parser.lossy parser.text (parser.place - 1) j
+      → s ≡ record { place = j - 1; code = Message (Mismatch (type_at parser.text (parser.place - 1)) wanted) } → IsMismatch parser wanted s

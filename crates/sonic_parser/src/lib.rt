@@ -12,6 +12,8 @@ mod fault;
 mod parser;
 // The loop over items that fit.
 mod quick;
+// Text that is borrowed from one of two places.
+mod reference;
 // The loop over open containers.
 mod skip;
 // What a skipped value needs.
@@ -23,4 +25,5 @@ mod unchecked;
 
 pub use fault::Fault;
 pub use parser::Parser;
+pub use reference::Reference;
 pub use status::ParseStatus;

@@ -23,6 +23,11 @@ use sonic_text::{Kind, Stop, StringEnd, literal_end, number_end, skip_space};
 use std::alloc::Global;
 use std::marker::Model;
 
+// What is said of a value of another type than is wanted.
+mod mismatch;
+// Strings, read as text.
+mod strings;
+
 /// A parser that reads the values of a text one after the other.
 ///
 /// ```text
@@ -135,6 +140,14 @@ impl<'de> Parser<'de> {
             Ok(()) => Error::syntax(reason, self.text(), self.offset().saturating_sub(1)),
             Err(error) => error,
         }
+    }
+
+    // Moves to a place.
+    fn move_to(&mut self, place: usize)
+        requires { place ≤ length self.old.text }
+        ensures { self.new ≡ moved self.old place }
+    {
+        self.read.set_index(place);
     }
 
     // Moves past what is from one place to another, and gives it.
@@ -362,7 +375,8 @@ impl<'de> Parser<'de> {
         ensures ok { IfOk result (λ found. IsSkipped self.old self.new found.0.now found.1) }
         ensures err { IfErr result (λ error. IsUnskipped self.old self.new error) }
         ensures memory { IfErr result (λ error.
-            error_code error ≡ ErrorCode.NoMemory → IsOutOfMemory self.old self.new error) }
+            error_code error ≡ ErrorCode.NoMemory
+            → IsOutOfMemory (value_start self.old) self.old self.new error) }
     {
         let place = self.read.index();
         self.skip_space_peek();

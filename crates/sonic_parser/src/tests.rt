@@ -3,5 +3,7 @@ mod blocks;
 mod calls;
 mod depth;
 mod faults;
+mod mismatches;
 mod reference;
+mod strings;
 mod unchecked;

@@ -18,8 +18,11 @@ pub mod Outcomes
 pub mod PartItems
 pub mod Parts
 pub mod Places
+pub mod PlainStrings
 pub mod Stops
 pub mod QuotedLemmas
+mod QuotedTextLemmas
+mod QuoteLemmas
 mod ReadingLemmas
 mod StringPartLemmas
 mod StringReadingLemmas
@@ -30,3 +33,5 @@ pub mod TreeLemmas
 pub mod ValueParts
 pub mod Values
 pub mod Within
+-- What is written as a string is one.
+mod WrittenLemmas

@@ -1,8 +1,8 @@
 -- A string of a text that is UTF-8 denotes bytes that are UTF-8.
-use Rattle.std.proofs.Common.{◌≡◌, ◌≢◌, ℕ, zero, suc, ◌+◌, ◌*◌, ◌-◌, ◌<◌, ◌≤◌, List, [], ◌∷◌, ◌++◌, Some, length, append_assoc, append-nil, arith, refl}
+use Rattle.std.proofs.Common.{◌≡◌, ◌≢◌, Bool, ℕ, zero, suc, ◌+◌, ◌*◌, ◌-◌, ◌<◌, ◌≤◌, List, [], ◌∷◌, ◌++◌, Some, length, append_assoc, append-nil, arith, refl}
 use Rattle.std.proofs.lemmas.Bool.Decides.{nat_tests}
 use Rattle.std.proofs.lemmas.List.Edits.{between_none, between_more}
-use Rattle.std.proofs.lemmas.Str.{IsUtf8-nil, IsUtf8-append, IsUtf8-between, IsUtf8-encode, IsUtf8-from_ascii, IsCharBoundary-before_ascii, IsCharBoundary-after_ascii}
+use Rattle.std.proofs.lemmas.Str.{IsUtf8-nil, IsUtf8-append, IsUtf8-between, IsUtf8-encode, IsUtf8-from_ascii, IsCharBoundary-before_ascii, IsCharBoundary-after_ascii, IsCharBoundary-start, IsCharBoundary-end}
 use Rattle.std.specs.Prelude.{slice_range}
 use Rattle.std.specs.Char.{IsScalar}
 use Rattle.std.specs.Str.{IsUtf8, IsAscii, IsCharBoundary}
@@ -14,7 +14,10 @@ use Rattle.sonic_text.specs.Strings.AreChars.{no_char, one_more}
 use Rattle.sonic_text.proofs.Places.{byte_within}
 use Rattle.sonic_text.proofs.EscapeFaultLemmas.{escaped_letter}
 use Rattle.sonic_text.proofs.HexDigitLemmas.{hex_small}
+use Rattle.sonic_text.proofs.Parts.{part_is, part_length}
+use Rattle.sonic_text.proofs.StringPartLemmas.{chars_part}
 use Rattle.sonic_text.proofs.StringReadingLemmas.{escape_within}
+use Rattle.sonic_text.proofs.Strings.{chars_later}
 
 -- a hexadecimal digit is an ASCII byte
 digit_ascii : (b a : ℕ) → hex_digit b ≡ Some a → b < 128
@@ -129,3 +132,25 @@ string_utf8 {t} {i} utf8 s =
     let start = IsCharBoundary-after_ascii t i utf8 begin.0 (rw s.opens (omega arith)) in
     let close = before_byte t s.close 34 s.closes (λ z. omega arith) (omega arith) in
     cut_here utf8 (chars_cut utf8 start s.chars) close.1
+
+-- and so does one whose contents are UTF-8
+pub contents_text : {t : List ℕ} {i j : ℕ} {b : List ℕ} → IsString strict t i j b → j ≤ length t → IsUtf8 (slice_range t (i + 1) (j - 1)) → IsUtf8 b
+contents_text {t} {i} {j} {b} s within utf8 =
+    let end = s.end in
+    let later = chars_later s.chars in
+    let u = slice_range t (i + 1) (j - 1) in
+    let part = part_is t (i + 1) (j - 1) (omega arith) (omega arith) in
+    let long = part_length t (i + 1) (j - 1) (omega arith) (omega arith) in
+    let own : AreChars strict u 0 (length u) b = chars_part part 0 (length u) (omega arith) (omega arith) (omega arith) s.chars in
+    cut_here utf8 (chars_cut utf8 (IsCharBoundary-start u utf8) own) (IsCharBoundary-end u)
+
+-- the contents of a string of a text that is UTF-8
+pub contents_utf8 : {m : Bool} {t : List ℕ} {i j : ℕ} {b : List ℕ} → IsUtf8 t → IsString m t i j b → IsUtf8 (slice_range t (i + 1) (j - 1))
+contents_utf8 {t = t} {i} {j} utf8 s =
+    let end = s.end in
+    let later = chars_later s.chars in
+    let begin = before_byte t i 34 s.opens (λ z. omega arith) (omega arith) in
+    let start = IsCharBoundary-after_ascii t i utf8 begin.0 (rw s.opens (omega arith)) in
+    let close = before_byte t s.close 34 s.closes (λ z. omega arith) (omega arith) in
+    let last : s.close ≡ j - 1 = omega arith in
+    IsUtf8-between t (i + 1) (j - 1) utf8 (omega arith) start (rw last at close.1)

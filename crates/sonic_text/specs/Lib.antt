@@ -6,6 +6,7 @@ pub mod Literals
 pub mod Numbers
 pub mod Paths
 pub mod Places
+pub mod Quoting
 pub mod Reading
 pub mod Strings
 pub mod Trees

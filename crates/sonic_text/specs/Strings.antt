@@ -1,5 +1,5 @@
 -- Strings (RFC 8259, section 7), with surrogate escapes in pairs (RFC 7493, section 2.1). A lossy reader takes single ones too.
-use Rattle.std.specs.Prelude.{◌≡◌, ◌≢◌, ℕ, ◌+◌, ◌-◌, ◌*◌, ◌<◌, ◌≤◌, ◌==◌, ◌||◌, ◌&&◌, Bool, true, false, not, List, [], ◌∷◌, ◌++◌, nat_le, if◌then◌else◌, is_some, unwrap_or, encode_utf8, Some, None}
+use Rattle.std.specs.Prelude.{◌≡◌, ◌≢◌, ℕ, ◌+◌, ◌-◌, ◌*◌, ◌<◌, ◌≤◌, ◌==◌, ◌||◌, ◌&&◌, Bool, true, false, not, List, [], ◌∷◌, ◌++◌, nat_le, if◌then◌else◌, is_some, unwrap_or, slice_range, encode_utf8, Some, None}
 use Rattle.std.specs.declared.option.Option.{Option}
 use Rattle.sonic_error.specs.declared.code.ErrorCode.{ErrorCode}
 use Rattle.sonic_error.specs.declared.code.ErrorCode.TheVariants.{ControlCharacterWhileParsingString, InvalidEscape, InvalidUnicodeCodePoint, InvalidSurrogateUnicodeCodePoint}
@@ -93,6 +93,10 @@ pub record IsString (m : Bool) (t : List ℕ) (i j : ℕ) (b : List ℕ) : Type 
   pub chars : AreChars m t (i + 1) close b
   pub closes : byte t close ≡ 34
   pub end : j ≡ close + 1
+
+-- what is between the quotes of the string from i to j
+abbrev pub contents : List ℕ → ℕ → ℕ → List ℕ
+contents t i j = slice_range t (i + 1) (j - 1)
 
 -- what is from i to j is a string with a backslash between its quotes
 abbrev pub IsEscapedString : List ℕ → ℕ → ℕ → Type 0

@@ -1,5 +1,7 @@
 -- Values (RFC 8259, sections 3 to 5).
-use Rattle.std.specs.Prelude.{◌≡◌, ◌≢◌, ℕ, ◌+◌, Bool, List, Option, Some, None, codes}
+use Rattle.std.specs.Prelude.{◌≡◌, ◌≢◌, ℕ, ◌+◌, ◌==◌, ◌||◌, Bool, List, Option, Some, None, codes, if◌then◌else◌}
+use Rattle.sonic_error.specs.declared.json_type.JsonType.{JsonType}
+use Rattle.sonic_error.specs.declared.json_type.JsonType.TheVariants.{Null, Boolean, Number, String, Object as AnObject, Array as AnArray}
 use Rattle.sonic_text.specs.declared.kind.Kind.{Kind}
 use Rattle.sonic_text.specs.declared.kind.Kind.TheVariants.{Array, Object}
 use Rattle.sonic_text.specs.Places.{byte, after_space}
@@ -45,3 +47,17 @@ mutual
     first_item : {kind : Kind} {i n h : ℕ} → byte t i ≡ opening kind → h ≡ after_space t (i + 1) → byte t h ≢ closing kind → n ≡ 0 → ItemsFit m t kind i n h
     next_item : {kind : Kind} {i p u v e n h : ℕ} {l : Option (List ℕ)} → ItemsFit m t kind i p u → ItemHead m t kind u v l → IsValue m t v e → byte t (after_space t e) ≡ 44
         → h ≡ after_space t (after_space t e + 1) → n ≡ p + 1 → ItemsFit m t kind i n h
+
+-- the type of a value, by its first byte
+abbrev pub type_of : ℕ → JsonType
+type_of first =
+    if first == 110 then Null
+    else if first == 116 || first == 102 then Boolean
+    else if first == 34 then String
+    else if first == 91 then AnArray
+    else if first == 123 then AnObject
+    else Number
+
+-- the type of the value at i
+abbrev pub type_at : List ℕ → ℕ → JsonType
+type_at t i = type_of (byte t i)

@@ -15,7 +15,11 @@ mod law;
 mod literal;
 // Numbers: where they end, and what whole ones are.
 mod number;
-// Bytes, white space and digits at a place.
+// Strings as they are written.
+mod quote;
+// Text that is written as a string without a buffer.
+mod quoted;
+// Bytes, white space, digits and types at a place.
 mod scan;
 // Which bytes are white space.
 mod space;
@@ -44,10 +48,12 @@ pub use law::{
 };
 pub use literal::{literal_end, skip_literal};
 pub use number::{number_end, skip_number, whole_i64, whole_u64};
-pub use scan::{byte_at, skip_digits, skip_space, stop_at};
+pub use quote::{QUOTE_TAB, format_string};
+pub use quoted::write_quoted;
+pub use scan::{byte_at, skip_digits, skip_space, stop_at, type_of};
 pub use space::is_whitespace;
 pub use stop::Stop;
 pub use string::{StringEnd, skip_string, string_end};
-pub use string_law::{string_denotes_one_text, string_has_one_outcome};
+pub use string_law::{quoted_text_is_a_string, string_denotes_one_text, string_has_one_outcome};
 pub use unescape::{ESCAPED_TAB, unescape_into};
 pub use utf8::codepoint_to_utf8;

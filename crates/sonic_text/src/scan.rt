@@ -1,9 +1,10 @@
 ghost use Rattle.std.specs.Prelude.{◌≡◌, ◌<◌, ◌≤◌, length};
 ghost use Rattle.sonic_text.specs.Places.{byte, after_space, digits_end, bad, IsDigit};
+ghost use Rattle.sonic_text.specs.Values.{type_of};
 
 use crate::stop::Stop;
 use sonic_blocks::{digits_end, space_end};
-use sonic_error::ErrorCode;
+use sonic_error::{ErrorCode, JsonType};
 
 /// The byte at a place, and 0 after the end, where no rule of the grammar asks for a 0.
 ///
@@ -65,4 +66,21 @@ pub fn skip_digits(text: &[u8], start: usize) -> usize
     ensures within { result ≤ length text.now }
 {
     digits_end(text, start)
+}
+
+/// The type of the value whose first byte this is.
+///
+/// Of `[` it is `JsonType::Array`, and of `-` it is `JsonType::Number`. Of a byte with which no
+/// value begins it says nothing.
+pub fn type_of(first: u8) -> JsonType
+    ensures { result ≡ type_of first }
+{
+    match first {
+        b'n' => JsonType::Null,
+        b't' | b'f' => JsonType::Boolean,
+        b'"' => JsonType::String,
+        b'[' => JsonType::Array,
+        b'{' => JsonType::Object,
+        _ => JsonType::Number,
+    }
 }

@@ -1,6 +1,7 @@
-ghost use Rattle.std.specs.Prelude.{◌≡◌, ℕ, Bool, List};
+ghost use Rattle.std.specs.Prelude.{◌≡◌, ◌+◌, ◌*◌, ◌≤◌, ◌++◌, ℕ, Bool, List, length};
 ghost use Rattle.sonic_text.specs.Places.{byte};
-ghost use Rattle.sonic_text.specs.Strings.{IsString, IsStringFault};
+ghost use Rattle.sonic_text.specs.Quoting.{quoted};
+ghost use Rattle.sonic_text.specs.Strings.{strict, IsString, IsStringFault};
 ghost use Rattle.sonic_text.specs.Laws.{HasOneOutcome};
 
 /// The law of strings (RFC 8259, section 7), for both ways of reading, every text and every quote
@@ -16,4 +17,17 @@ pub fn string_has_one_outcome()
 pub fn string_denotes_one_text()
     ensures { (m : Bool) (t : List ℕ) (i j k : ℕ) (b c : List ℕ)
         → IsString m t i j b → IsString m t i k c → (j ≡ k) × (b ≡ c) }
+{}
+
+/// The law of quoting, for all bytes and wherever they are written: what [`format_string`] writes
+/// of them is a string of a strict reader (RFC 8259, section 7) that denotes these bytes, of at most
+/// six times their length and two.
+///
+/// So what is quoted and read again is what it was.
+///
+/// [`format_string`]: crate::format_string
+pub fn quoted_text_is_a_string()
+    ensures string { (front b back : List ℕ)
+        → IsString strict (front ++ quoted b ++ back) (length front) (length front + length (quoted b)) b }
+    ensures short { (b : List ℕ) → length (quoted b) ≤ 6 * length b + 2 }
 {}

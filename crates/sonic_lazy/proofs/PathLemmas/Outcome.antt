@@ -8,7 +8,7 @@ use Rattle.sonic_error.specs.declared.code.ErrorCode.TheVariants.{Message}
 use Rattle.sonic_error.specs.declared.json_type.Note.TheVariants.{Mismatch}
 use Rattle.sonic_lazy.proofs.PathLemmas.Lead.{leads_on_one, leads_or_not, named_one, leads_to_fault}
 use Rattle.sonic_lazy.specs.Laws.{ExactlyOne, MixNowhere}
-use Rattle.sonic_lazy.specs.Paths.{Outcome, Evaluates, fails, kind_of, IsNamed, NoneNamed, LeadsOn, found, lacks, cut, fails_at, past_end, nowhere, type_at, empty_code, wanted_of}
+use Rattle.sonic_lazy.specs.Paths.{Outcome, Evaluates, fails, kind_of, IsNamed, NoneNamed, LeadsOn, found, lacks, cut, fails_at, past_end, nowhere, empty_code, wanted_of}
 use Rattle.sonic_lazy.specs.Paths.Evaluates.{found_here, goes_on, leads_nowhere, cut_here, cut_before}
 use Rattle.sonic_text.proofs.Insides.{item_whole, item_before_end, item_before_fault, comma_after, items_after}
 use Rattle.sonic_text.proofs.Outcomes.{value_some_outcome}
@@ -17,7 +17,7 @@ use Rattle.sonic_text.specs.Faults.{IsFault}
 use Rattle.sonic_text.specs.Paths.{Node, Path}
 use Rattle.sonic_text.specs.Places.{byte, after_space}
 use Rattle.sonic_text.specs.Strings.{strict}
-use Rattle.sonic_text.specs.Values.{IsValue, ItemsFit, opening, closing, ItemHead}
+use Rattle.sonic_text.specs.Values.{type_at, IsValue, ItemsFit, opening, closing, ItemHead}
 use Rattle.sonic_text.specs.declared.kind.Kind.{Kind}
 use Rattle.sonic_text.specs.declared.kind.Kind.TheVariants.{Object, Array}
 use Rattle.sonic_text.specs.declared.stop.Stop.{Stop}

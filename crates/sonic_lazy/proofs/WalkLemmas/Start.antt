@@ -9,14 +9,14 @@ use Rattle.sonic_lazy.proofs.PathLemmas.Outcome.{nowhere_empty, nowhere_other}
 use Rattle.sonic_lazy.proofs.WalkLemmas.List.{first_of}
 use Rattle.sonic_lazy.proofs.WalkLemmas.Path.{held, child_at, path_of_child, stopped_one, cut_stops}
 use Rattle.sonic_lazy.specs.Internal.Walk.{fails_so, cut_so, Findings, Point, Container, IsPath, AreFindings, BelowSettled, IsCause, path_stops, IsStop, IsNoEntry, IsContainer, SomeOpen, IsFollowed}
-use Rattle.sonic_lazy.specs.Paths.{fails, Evaluates, type_at, kind_of, empty_code, wanted_of, nowhere}
+use Rattle.sonic_lazy.specs.Paths.{fails, Evaluates, kind_of, empty_code, wanted_of, nowhere}
 use Rattle.sonic_lazy.specs.Paths.Evaluates.{cut_here, leads_nowhere}
 use Rattle.sonic_pointer.specs.Paths.{HasPrefix, IsChildren}
 use Rattle.sonic_text.specs.Faults.{IsFault}
 use Rattle.sonic_text.specs.Paths.{Node, Path}
 use Rattle.sonic_text.specs.Places.{byte, after_space}
 use Rattle.sonic_text.specs.Strings.{strict}
-use Rattle.sonic_text.specs.Values.{ItemsFit, opening, closing, IsValue, empty}
+use Rattle.sonic_text.specs.Values.{type_at, ItemsFit, opening, closing, IsValue, empty}
 use Rattle.sonic_text.specs.declared.kind.Kind.{Kind}
 use Rattle.sonic_text.specs.declared.stop.Stop.{Stop}
 

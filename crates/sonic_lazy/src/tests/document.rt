@@ -1,6 +1,6 @@
 // What no clause says: that documents are looked at over each kind of input, and where memory is
 // ample. The expected values are by the grammar.
-use crate::validate;
+use crate::{from_str, validate};
 use bytes::Bytes;
 use sonic_error::ErrorCode;
 use sonic_input::{FastStr, JsonInput};
@@ -24,10 +24,26 @@ fn check<'de, I: JsonInput<'de>>(rt: &impl Abort, alloc: Global, input: I, wante
     }
 }
 
+// Checks that the text is read as its one value, without white space round it, or has that reason.
+fn check_value(rt: &impl Abort, alloc: Global, text: &str, wanted: Option<Reason>) {
+    match (from_str(alloc, text), wanted) {
+        (Ok(value), None) => {
+            assert_eq!(rt; value.as_raw_str(), text.trim());
+            assert_eq!(rt; value.has_escaped(), text.contains('\\'), "{text}");
+        }
+        (Err(error), Some((code, offset))) => {
+            assert_eq!(rt; error.code(), code);
+            assert_eq!(rt; error.offset(), offset, "{code}");
+        }
+        _ => panic!(rt; "{text} is read otherwise"),
+    }
+}
+
 // A text, and the reason why it is no document, if it is none. The end of an input is reported at
 // its last byte.
-const TEXTS: [(&str, Option<Reason>); 26] = [
+const TEXTS: [(&str, Option<Reason>); 27] = [
     ("null", None),
+    ("\t\"\\n\" ", None),
     (" \t\r\n7 \t\r\n", None),
     ("\"\u{e9}\u{1F600}\"", None),
     ("{\"a\":[1,{\"b\":[]}],\"a\":-0.5e3}\n", None),
@@ -68,6 +84,7 @@ fn looks_at_documents_of_each_kind_of_input(rt: HostRuntime) -> Result<(), Fail>
     for (text, wanted) in TEXTS {
         let owned = String::from_str(alloc, text)?;
         let shared = FastStr::new(alloc, text)?;
+        check_value(&rt, alloc, text, wanted);
         check(&rt, alloc, text, wanted);
         check(&rt, alloc, text.as_bytes(), wanted);
         check(&rt, alloc, &owned, wanted);

@@ -11,14 +11,14 @@ ghost use Rattle.sonic_lazy.specs.Paths.{found, lacks, fails, cut, fails_at, kin
 
 use crate::located::Located;
 use crate::many::find_many;
-use crate::steps::{empty_code, type_at, wanted_of};
+use crate::steps::{empty_code, wanted_of};
 use crate::tests::lookups::{Paths, tree_of};
 use sonic_error::{ErrorCode, Note};
 use sonic_input::{JsonSlice, Read};
 use sonic_parser::{Fault, Parser};
 use sonic_pointer::PointerNode::{Index, Key};
 use sonic_pointer::{PointerNode, PointerTree};
-use sonic_text::{Kind, Stop, byte_at, same_key, skip_space};
+use sonic_text::{Kind, Stop, byte_at, same_key, skip_space, type_of};
 use std::alloc::{AllocError, Global};
 use std::process::Abort;
 use std::test::Fail;
@@ -150,7 +150,7 @@ fn refusal(text: &[u8], start: usize, kind: Kind) -> Option<ErrorCode>
     ensures lacks { IfNone result ((q : ℕ) → nowhere text.now start q kind ≡ lacks q) }
 {
     if byte_at(text, start) != kind.opening() {
-        let found = type_at(text, start);
+        let found = type_of(byte_at(text, start));
         let wanted = wanted_of(kind);
         return Some(ErrorCode::Message(Note::Mismatch { found, wanted }));
     }

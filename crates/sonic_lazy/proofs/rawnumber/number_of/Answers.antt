@@ -16,25 +16,25 @@ bounds-text-start c =
 
 pub slice_bounds-whole_number-count : goal.slice_bounds-whole_number-count
 slice_bounds-whole_number-count c =
-    let l = alone_quoted (rw c.unscanned.ensures.text at c.in_ok-start.ensures.ok) c.if-text-start-eq34.true in
+    let l = alone_quoted (rw c.unscanned.ensures.text at c.in_ok-start.ensures.ok) c.if-first-eq34.true in
     omega (arith, l)
 
 pub slice_bounds-whole_number-start : goal.slice_bounds-whole_number-start
 slice_bounds-whole_number-start c =
     let alone = rw c.unscanned.ensures.text at c.in_ok-start.ensures.ok in
-    let l = alone_quoted alone c.if-text-start-eq34.true in
+    let l = alone_quoted alone c.if-first-eq34.true in
     omega (arith, l, (alone_span alone).1)
 
 pub returns-in-Some-clause-ok : goal.returns-in-Some-clause-ok
 returns-in-Some-clause-ok c =
     let alone = rw c.unscanned.ensures.text at c.in_ok-start.ensures.ok in
     let some = c.in-Some.ensures.some in
-    a_quoted_number alone c.if-text-start-eq34.true some.0 some.1
+    a_quoted_number alone c.if-first-eq34.true some.0 some.1
 
 pub returns-in-None-clause-err : goal.returns-in-None-clause-err
 returns-in-None-clause-err c =
     let alone = rw c.unscanned.ensures.text at c.in_ok-start.ensures.ok in
-    rw c.stop_at.ensures (other_string alone c.if-text-start-eq34.true (c.in-None.ensures.none refl) refl)
+    rw c.stop_at.ensures (other_string alone c.if-first-eq34.true (c.in-None.ensures.none refl) refl)
 
 pub slice_bounds-whole_number-count-2 : goal.slice_bounds-whole_number-count-2
 slice_bounds-whole_number-count-2 c =
@@ -60,4 +60,4 @@ returns-in-Some-whole_number-clause-ok c =
 pub returns-in-None-whole_number-clause-err : goal.returns-in-None-whole_number-clause-err
 returns-in-None-whole_number-clause-err c =
     let alone = rw c.unscanned.ensures.text at c.in_ok-start.ensures.ok in
-    rw (c.stop_at-in-None-whole_number.ensures, c.type_at-found.ensures) (other_type alone c.if-text-start-eq34.false (c.in-None-whole_number.ensures.none refl) refl)
+    rw (c.stop_at-in-None-whole_number.ensures, c.type_of-found.ensures) (other_type alone c.if-first-eq34.false (c.in-None-whole_number.ensures.none refl) refl)

@@ -1,5 +1,5 @@
 use Rattle.std.proofs.Common.{arith}
-use Rattle.sonic_lazy.proofs.StringTextLemmas.{plain_string}
+use Rattle.sonic_text.proofs.PlainStrings.{plain_string}
 use Rattle.sonic_lazy.proofs.unescaped.unquoted.Goals as goal
 use Rattle.sonic_text.proofs.Strings.{chars_later}
 

@@ -16,7 +16,7 @@ overflow_sub-place c =
 pub returns-clause-stop : goal.returns-clause-stop
 returns-clause-stop c =
     let place = c.offset-place.ensures.place ∙ ap (λ steps. steps.place) c.self-2.view_is in
-    let found = rw (c.text.ensures, c.offset.ensures.place) at c.type_at-found.ensures in
+    let found = rw (c.byte_at.ensures.value, c.text.ensures, c.offset.ensures.place) at c.type_of-found.ensures in
     let kind = rw (← c.self.view_is) at c.requires.other in
     let value = rw (← place) at c.in_default.ensures.value in
     no_entry_by_kind value c.requires.other (rw (c.wanted_of-wanted.ensures, ← c.self.view_is, found) refl)

@@ -1,0 +1,20 @@
+use Rattle.std.proofs.Common.{false, refl, ◌∙◌}
+use Rattle.sonic_lazy.proofs.DocumentLemmas.{alone_part, reason_either, invalid_error, valid_but_memory}
+use Rattle.sonic_lazy.proofs.document.from_str.Goals as goal
+
+pub entry-requires : goal.entry-requires
+entry-requires c κs =
+    let text = c.unscanned.ensures.text ∙ c.as_bytes-text.ensures.value in
+    let alone = rw text at c.in-Ok.ensures.ok in
+    let status = rw text at c.in-Ok.ensures.status in
+    ((refl, tt), (alone_part c.utf8.json alone, status))
+
+pub returns-in-Err-clause-err : goal.returns-in-Err-clause-err
+returns-in-Err-clause-err c =
+    let e = rw (c.unscanned.ensures.text ∙ c.as_bytes-text.ensures.value) at c.in-Err.ensures.err in
+    invalid_error c.in-Err.fault (reason_either c.args.json.now false c.in-Err.fault e) (rw c.as_bytes-text.ensures.value at c.error.ensures)
+
+pub returns-in-Err-clause-complete : goal.returns-in-Err-clause-complete
+returns-in-Err-clause-complete c = λ valid.
+    let e = rw (c.unscanned.ensures.text ∙ c.as_bytes-text.ensures.value) at c.in-Err.ensures.err in
+    valid_but_memory valid (invalid_error c.in-Err.fault (reason_either c.args.json.now false c.in-Err.fault e) (rw c.as_bytes-text.ensures.value at c.error.ensures))
