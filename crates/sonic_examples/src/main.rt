@@ -9,6 +9,8 @@ mod items;
 mod lookup;
 // A log reader that takes three fields of each record.
 mod records;
+// An editor that opens a file of settings.
+mod settings;
 // Lazy values: their types, and paths inside them.
 mod values;
 
@@ -21,7 +23,8 @@ fn show(rt: &impl Print, alloc: Global) -> io::Result<()> {
     gateway::show(rt, alloc)?;
     records::show(rt, alloc)?;
     values::show(rt, alloc)?;
-    items::show(rt, alloc)
+    items::show(rt, alloc)?;
+    settings::show(rt, alloc)
 }
 
 fn main(rt: HostRuntime) -> ExitCode {

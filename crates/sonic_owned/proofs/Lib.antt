@@ -1,0 +1,4 @@
+mod Folds
+mod Lists
+mod OpenLemmas
+mod Texts

@@ -1,0 +1,16 @@
+use Rattle.std.proofs.Common.{◌≡◌, ◌∙◌, ap, ◌+◌, [], length, arith}
+use Rattle.std.proofs.lemmas.List.{append-nil}
+use Rattle.sonic_owned.proofs.Folds.{node_form, form-node, form-text}
+use Rattle.sonic_owned.specs.Forms.{text}
+use Rattle.sonic_owned.specs.Views.{form}
+use Rattle.sonic_text.specs.Quoting.{quoted}
+use Rattle.sonic_text.specs.Strings.{strict, IsString}
+use Rattle.sonic_owned.proofs.value.OwnedLazyValue.as_str.Goals as goal
+
+pub returns-in-Text-clause-text : goal.returns-in-Text-clause-text
+returns-in-Text-clause-text c =
+    let s = c.in-Text.text.text in
+    let end : 0 + length (quoted s) ≡ length (quoted s) = omega arith in
+    let alone : IsString strict (quoted s) 0 (length (quoted s)) s = rw (append-nil (quoted s), end) at (c.quoted_text_is_a_string.ensures.string [] s []) in
+    let shown : text (form c.args.self.now) ≡ quoted s = ap text (form-node c.args.self.now ∙ ap node_form c.in-Text.is ∙ form-text c.in-Text.text) in
+    rw (shown, c.as_str.ensures, c.text.ensures) alone

@@ -1,0 +1,4 @@
+pub mod Forms
+pub mod Opened
+pub mod Owned
+pub mod Views

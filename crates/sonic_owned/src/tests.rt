@@ -1,0 +1,3 @@
+// What no clause says: that calls answer the worked examples, and succeed where memory is ample.
+mod levels;
+mod values;

@@ -1,0 +1,203 @@
+// Values that are read, made, opened, copied and written.
+use crate::{LazyArray, LazyObject, OwnedLazyValue};
+use sonic_error::{ErrorCode, JsonType};
+use sonic_input::FastStr;
+use sonic_lazy::{JsonContainerTrait, JsonValueTrait};
+use std::alloc::Global;
+use std::borrow::CowStr;
+use std::process::Abort;
+use std::test::Fail;
+
+// Checks the text of a value.
+fn check_text(rt: &impl Abort, alloc: Global, value: &OwnedLazyValue, wanted: &str) {
+    match value.to_string(alloc) {
+        Ok(text) => assert_eq!(rt; &text[..], wanted),
+        Err(error) => panic!(rt; "{error}"),
+    }
+}
+
+fn read(rt: &impl Abort, alloc: Global, json: &str) -> OwnedLazyValue {
+    match OwnedLazyValue::from_str(alloc, json) {
+        Ok(value) => value,
+        Err(error) => panic!(rt; "{error}"),
+    }
+}
+
+fn load(rt: &impl Abort, alloc: Global, value: &mut OwnedLazyValue) {
+    if let Err(error) = value.load(alloc) {
+        panic!(rt; "{error}");
+    }
+}
+
+// Texts, and what is written of them before and after they are opened.
+fn opened_texts() -> [(&'static str, &'static str, &'static str); 12] {
+    [
+        ("{\"\\/\" : 1}", "{\"\\/\" : 1}", "{\"/\":1}"),
+        (
+            " [ 1 , [ 2 ] , {\"a\" : 3}]\n",
+            "[ 1 , [ 2 ] , {\"a\" : 3}]",
+            "[1,[ 2 ],{\"a\" : 3}]",
+        ),
+        (
+            "{ \"a\":\"\\u0061\", \"a\" :null }",
+            "{ \"a\":\"\\u0061\", \"a\" :null }",
+            "{\"a\":\"\\u0061\",\"a\":null}",
+        ),
+        (
+            "{\"\\u0022\\n\\u001f\\u00e9\":0}",
+            "{\"\\u0022\\n\\u001f\\u00e9\":0}",
+            "{\"\\\"\\n\\u001f\u{e9}\":0}",
+        ),
+        ("[ ]", "[ ]", "[]"),
+        ("\t{\n} ", "{\n}", "{}"),
+        ("{\"\":[]}", "{\"\":[]}", "{\"\":[]}"),
+        (" 1.10 ", "1.10", "1.10"),
+        ("\"\\/\"", "\"\\/\"", "\"\\/\""),
+        ("true", "true", "true"),
+        ("null\r\n", "null", "null"),
+        ("-0", "-0", "-0"),
+    ]
+}
+
+#[test]
+fn writes_what_was_read_and_what_was_opened(rt: HostRuntime) -> Result<(), Fail> {
+    let alloc = rt.alloc();
+    for (json, before, after) in opened_texts() {
+        let mut value = read(&rt, alloc, json);
+        check_text(&rt, alloc, &value, before);
+        load(&rt, alloc, &mut value);
+        check_text(&rt, alloc, &value, after);
+        // A level is opened once.
+        load(&rt, alloc, &mut value);
+        check_text(&rt, alloc, &value, after);
+        match value.clone(alloc) {
+            Ok(copy) => check_text(&rt, alloc, &copy, after),
+            Err(error) => panic!(rt; "{error}"),
+        }
+    }
+    Ok(())
+}
+
+// Texts that are no document, and why.
+fn broken_texts() -> [(&'static str, ErrorCode, usize); 13] {
+    [
+        ("", ErrorCode::EofWhileParsing, 0),
+        ("{\"a\":", ErrorCode::EofWhileParsing, 4),
+        ("{\"a\":123", ErrorCode::EofWhileParsing, 7),
+        ("{\"a\":}", ErrorCode::InvalidJsonValue, 5),
+        ("{\"a\": x}", ErrorCode::InvalidJsonValue, 6),
+        ("{\"a\":1.}", ErrorCode::InvalidNumber, 7),
+        ("{\"a:1.}", ErrorCode::EofWhileParsing, 6),
+        ("{\"a\" 1}", ErrorCode::ExpectedColon, 5),
+        ("{\"a\"[1}}", ErrorCode::ExpectedColon, 4),
+        ("[1] x", ErrorCode::TrailingCharacters, 4),
+        ("1 2", ErrorCode::TrailingCharacters, 2),
+        (
+            "\"\\ud800\"",
+            ErrorCode::InvalidSurrogateUnicodeCodePoint,
+            7,
+        ),
+        ("\u{FEFF}1", ErrorCode::InvalidJsonValue, 0),
+    ]
+}
+
+#[test]
+fn says_why_a_text_is_no_document(rt: HostRuntime) -> Result<(), Fail> {
+    for (json, code, offset) in broken_texts() {
+        match OwnedLazyValue::from_str(rt.alloc(), json) {
+            Err(error) => {
+                assert_eq!(rt; error.code(), code, "{json}");
+                assert_eq!(rt; error.offset(), offset, "{json}");
+            }
+            Ok(_) => panic!(rt; "{json} is no document"),
+        }
+    }
+    Ok(())
+}
+
+#[test]
+fn is_what_its_text_says(rt: HostRuntime) -> Result<(), Fail> {
+    let alloc = rt.alloc();
+    let Ok(lazy) = sonic_lazy::from_str(alloc, "true") else {
+        panic!(rt; "it is a document");
+    };
+    match OwnedLazyValue::from_lazy(alloc, &lazy) {
+        Ok(value) => assert!(rt; value.is_true() && !value.is_false()),
+        Err(error) => panic!(rt; "{error}"),
+    }
+    let falsehood = read(&rt, alloc, "false");
+    assert!(rt; falsehood.is_false() && !falsehood.is_true());
+    assert_eq!(rt; read(&rt, alloc, "-7").as_i64(), Some(-7));
+    assert_eq!(rt; read(&rt, alloc, "7").as_u64(), Some(7));
+    assert_eq!(rt; read(&rt, alloc, "\"7\"").as_u64(), None);
+    assert_eq!(rt; read(&rt, alloc, "[7]").get_type(), JsonType::Array);
+    assert_eq!(rt; OwnedLazyValue::default().get_type(), JsonType::Null);
+    assert_eq!(rt; OwnedLazyValue::from(()).get_type(), JsonType::Null);
+    assert_eq!(rt; OwnedLazyValue::from(true).as_bool(), Some(true));
+    assert_eq!(rt; OwnedLazyValue::from(false).as_bool(), Some(false));
+    match read(&rt, alloc, "1.10").as_raw_number(alloc) {
+        Ok(Some(number)) => assert_eq!(rt; number.as_str(), "1.10"),
+        _ => panic!(rt; "1.10 is a number"),
+    }
+    match read(&rt, alloc, "\"1\"").as_raw_number(alloc) {
+        Ok(None) => {}
+        _ => panic!(rt; "a quoted number is a string"),
+    }
+    Ok(())
+}
+
+#[test]
+fn reads_the_text_of_strings(rt: HostRuntime) -> Result<(), Fail> {
+    let alloc = rt.alloc();
+    match read(&rt, alloc, "\"x\"").as_str(alloc) {
+        Ok(Some(CowStr::Borrowed(text))) => assert_eq!(rt; text, "x"),
+        _ => panic!(rt; "a string without a backslash is borrowed"),
+    }
+    match read(&rt, alloc, "\"\\n\"").as_str(alloc) {
+        Ok(Some(CowStr::Owned(text))) => assert_eq!(rt; &text[..], "\n"),
+        _ => panic!(rt; "a string with a backslash is made anew"),
+    }
+    let made = OwnedLazyValue::from_text(FastStr::new(alloc, "a\"\n")?);
+    check_text(&rt, alloc, &made, "\"a\\\"\\n\"");
+    match made.as_str(alloc) {
+        Ok(Some(CowStr::Borrowed(text))) => assert_eq!(rt; text, "a\"\n"),
+        _ => panic!(rt; "the text of a made string is borrowed"),
+    }
+    match read(&rt, alloc, "[]").as_str(alloc) {
+        Ok(None) => {}
+        _ => panic!(rt; "an array is no string"),
+    }
+    Ok(())
+}
+
+#[test]
+fn has_a_level_once_it_is_opened(rt: HostRuntime) -> Result<(), Fail> {
+    let alloc = rt.alloc();
+    let mut object = read(&rt, alloc, "{\"a\":1}");
+    assert!(rt; object.as_object().is_none() && object.as_array().is_none());
+    load(&rt, alloc, &mut object);
+    assert!(rt; object.as_object().is_some() && object.as_array().is_none());
+    let mut array = read(&rt, alloc, "[1]");
+    load(&rt, alloc, &mut array);
+    assert!(rt; array.as_object().is_none() && array.as_array().is_some());
+    let empty = OwnedLazyValue::from(LazyArray::new(alloc));
+    check_text(&rt, alloc, &empty, "[]");
+    let empty = OwnedLazyValue::from(LazyObject::new(alloc));
+    check_text(&rt, alloc, &empty, "{}");
+    Ok(())
+}
+
+#[test]
+fn keeps_deep_values_unopened(rt: HostRuntime) -> Result<(), Fail> {
+    const DEPTH: usize = 100_000;
+    let alloc = rt.alloc();
+    let mut text = "[".repeat(alloc, DEPTH)?;
+    text.push_str(&"]".repeat(alloc, DEPTH)?)?;
+    let mut value = read(&rt, alloc, &text);
+    load(&rt, alloc, &mut value);
+    match value.clone(alloc) {
+        Ok(copy) => check_text(&rt, alloc, &copy, &text),
+        Err(error) => panic!(rt; "{error}"),
+    }
+    Ok(())
+}

@@ -1,0 +1,118 @@
+// Values, and the levels that they open to.
+ghost use Rattle.std.specs.Prelude.{◌≡◌, false, IfOk, IfErr};
+ghost use Rattle.sonic_error.specs.Errors.{IsPlainError};
+ghost use Rattle.sonic_lazy.specs.Documents.{IsDocumentValue, IsInvalidError, IsValidDocument};
+ghost use Rattle.sonic_lazy.specs.LazyValues.{raw_bytes};
+ghost use Rattle.sonic_owned.specs.Forms.{raw};
+ghost use Rattle.sonic_owned.specs.Owned.{IsRawDocument};
+ghost use Rattle.sonic_owned.specs.Views.{form};
+ghost use Rattle.sonic_text.specs.Quoting.{quoted};
+
+use crate::made::MadeText;
+use crate::raw::RawValue;
+use sonic_error::{ErrorCode, Result};
+use sonic_input::FastStr;
+use sonic_lazy::LazyValue;
+use std::alloc::Global;
+
+// Values that are made of scalars and levels.
+mod convert;
+// Copies.
+mod copy;
+// What a value is.
+mod kind;
+// The levels that are opened.
+mod level;
+// The first level opened.
+mod load;
+// The text.
+mod show;
+
+/// A JSON value that owns its text, and is opened a level at a time.
+///
+/// What was never opened keeps its text, byte for byte. A level that is opened is an array or an
+/// object of such values, and is written anew, without white space.
+///
+/// ```text
+/// let value = OwnedLazyValue::from_str(alloc, " {\"a\": [1, 2]} ")?;
+/// assert_eq!(rt; &value.to_string(alloc)?[..], "{\"a\": [1, 2]}");
+/// ```
+#[cycle(owned)]
+#[derive(Drop)]
+pub struct OwnedLazyValue {
+    node: Node,
+}
+
+// What a value is kept as.
+#[cycle(owned)]
+#[derive(Drop)]
+enum Node {
+    Null,
+    Bool(bool),
+    Text(MadeText),
+    Raw(RawValue),
+    Array(LazyArray),
+    Object(LazyObject),
+}
+
+/// An array that is opened: its elements, in order.
+#[cycle(owned)]
+#[derive(Drop)]
+pub struct LazyArray {
+    elements: Vec<OwnedLazyValue>,
+}
+
+/// An object that is opened: its members, in order, with keys that may be repeated.
+#[cycle(owned)]
+#[derive(Drop)]
+pub struct LazyObject {
+    members: Vec<(MadeText, OwnedLazyValue)>,
+}
+
+impl OwnedLazyValue {
+    /// The value whose text a lazy value is.
+    ///
+    /// The text is copied, or shared where the lazy value is a part of shared bytes. The only error
+    /// is `ErrorCode::NoMemory`.
+    pub fn from_lazy(alloc: Global, value: &LazyValue<'_>) -> Result<OwnedLazyValue>
+        ensures ok { IfOk result (λ made. form made ≡ raw (raw_bytes value.now)) }
+        ensures err { IfErr result (λ error. IsPlainError error ErrorCode.NoMemory) }
+    {
+        match RawValue::new(alloc, value) {
+            Ok(raw) => Ok(OwnedLazyValue {
+                node: Node::Raw(raw),
+            }),
+            Err(error) => Err(error),
+        }
+    }
+
+    /// The value that a text is, with nothing but white space round it (RFC 8259, section 2).
+    ///
+    /// Else the error is the first of these: the fault of the value, and
+    /// `ErrorCode::TrailingCharacters` at the first byte after it that is no white space. Running
+    /// out of memory is `ErrorCode::NoMemory` without a place.
+    ///
+    /// Of `{"a":1.}` the error is `ErrorCode::InvalidNumber` with the offset 7.
+    pub fn from_str(alloc: Global, json: &str) -> Result<OwnedLazyValue>
+        ensures ok { IfOk result (λ made. IsRawDocument json.now (form made)) }
+        ensures err { IfErr result (IsInvalidError json.now false) }
+        ensures complete { IsValidDocument json.now
+            → IfErr result (λ error. IsPlainError error ErrorCode.NoMemory) }
+    {
+        match sonic_lazy::from_str(alloc, json) {
+            Ok(value) => OwnedLazyValue::from_lazy(alloc, &value),
+            Err(error) => Err(error),
+        }
+    }
+
+    /// The string that denotes a text.
+    ///
+    /// Of the text `a"b` the value's own text is `"a\"b"`.
+    pub fn from_text(text: FastStr) -> OwnedLazyValue
+        ensures { form result ≡ raw (quoted text) }
+    {
+        OwnedLazyValue {
+            node: Node::Text(MadeText::new(text)),
+        }
+    }
+}

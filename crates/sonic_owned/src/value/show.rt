@@ -1,0 +1,90 @@
+// The text of a value, written piece by piece.
+ghost use Rattle.std.specs.Prelude.{◌≡◌, ◌++◌, ◌∷◌, [], string_bytes, IfOk, IfErr};
+ghost use Rattle.std.specs.Fmt.{WritesOnOk};
+ghost use Rattle.sonic_error.specs.Errors.{IsPlainError};
+ghost use Rattle.sonic_owned.specs.Forms.{text, members_text, unnamed, named};
+ghost use Rattle.sonic_owned.specs.Views.{form, elements, members};
+
+use super::{LazyArray, LazyObject, Node, OwnedLazyValue};
+use sonic_error::{Error, ErrorCode, Result};
+use sonic_text::write_quoted;
+use std::alloc::Global;
+use std::fmt;
+use std::fmt::Write;
+
+impl OwnedLazyValue {
+    /// The text of the value: what was never opened as it is, and a level that was opened without
+    /// white space.
+    ///
+    /// The only error is `ErrorCode::NoMemory`. Of `{"\/" : 1}` it is `{"\/" : 1}`, and after
+    /// the value was opened `{"/":1}`.
+    pub fn to_string(&self, alloc: Global) -> Result<String>
+        ensures ok { IfOk result (λ made. string_bytes made ≡ text (form self.now)) }
+        ensures err { IfErr result (λ error. IsPlainError error ErrorCode.NoMemory) }
+    {
+        match format!(in alloc; "{self}") {
+            Ok(text) => Ok(text),
+            Err(_) => Err(Error::plain(ErrorCode::NoMemory)),
+        }
+    }
+}
+
+impl fmt::Display for OwnedLazyValue {
+    ghost use Rattle.std.specs.Prelude.{Some};
+    ghost use Rattle.sonic_owned.specs.Forms.{text};
+    ghost use Rattle.sonic_owned.specs.Views.{form};
+
+    ghost output = { λ value. Some (text (form value)) };
+
+    fn fmt<W: Write>(&self, f: &mut fmt::Formatter<W>) -> fmt::Result {
+        show(self, f)
+    }
+}
+
+// Writes the text of a value. It descends the levels that are opened, which callers opened one by one.
+#[cycle(show)]
+fn show<W: Write>(value: &OwnedLazyValue, f: &mut fmt::Formatter<W>) -> fmt::Result
+    ensures { WritesOnOk W.Write.write_str_gives f.old result (text (form value.now)) f.new }
+{
+    match &value.node {
+        Node::Null => f.write_str("null"),
+        Node::Bool(true) => f.write_str("true"),
+        Node::Bool(false) => f.write_str("false"),
+        Node::Text(text) => write_quoted(text.text().as_str(), f),
+        Node::Raw(raw) => f.write_str(raw.as_str()),
+        Node::Array(level) => show_elements(level, f),
+        Node::Object(level) => show_members(level, f),
+    }
+}
+
+#[cycle(show)]
+fn show_elements<W: Write>(level: &LazyArray, f: &mut fmt::Formatter<W>) -> fmt::Result
+    ensures { WritesOnOk W.Write.write_str_gives f.old result
+        (91 ∷ members_text [] (unnamed (elements level.now)) ++ 93 ∷ []) f.new }
+{
+    f.write_str("[")?;
+    let mut before = "";
+    for element in &level.elements {
+        f.write_str(before)?;
+        show(element, f)?;
+        before = ",";
+    }
+    f.write_str("]")
+}
+
+#[cycle(show)]
+fn show_members<W: Write>(level: &LazyObject, f: &mut fmt::Formatter<W>) -> fmt::Result
+    ensures { WritesOnOk W.Write.write_str_gives f.old result
+        (123 ∷ members_text [] (named (members level.now)) ++ 125 ∷ []) f.new }
+{
+    f.write_str("{")?;
+    let mut before = "";
+    for (key, value) in &level.members {
+        f.write_str(before)?;
+        write_quoted(key.text().as_str(), f)?;
+        f.write_str(":")?;
+        show(value, f)?;
+        before = ",";
+    }
+    f.write_str("}")
+}
