@@ -8,7 +8,7 @@ use Rattle.sonic_owned.specs.Views.{pair_of, form, elements, members, node_step,
 use Rattle.sonic_owned.specs.declared.made.MadeText.{MadeText}
 use Rattle.sonic_owned.specs.declared.value.OwnedLazyValue.{OwnedLazyValue, roll-OwnedLazyValue, fold_out-OwnedLazyValue, fold-roll-OwnedLazyValue}
 use Rattle.sonic_owned.specs.declared.value.Node.TheOpen.{OwnedLazyValue-F, Node-F, LazyArray-F, LazyObject-F}
-use Rattle.sonic_owned.specs.declared.value.Node.{Node, Text, Raw, Array, Object, fold-Node, fold-roll-Node}
+use Rattle.sonic_owned.specs.declared.value.Node.{Node, Text, Raw, Array, Object, roll-Node, map-Node, fold-Node, fold-roll-Node}
 use Rattle.sonic_owned.specs.declared.value.LazyArray.{LazyArray, out-LazyArray, fold-roll-LazyArray, fold_out-LazyArray, roll-LazyArray}
 use Rattle.sonic_owned.specs.declared.value.LazyObject.{LazyObject, out-LazyObject, fold-roll-LazyObject, fold_out-LazyObject, roll-LazyObject}
 
@@ -39,6 +39,9 @@ node_form = fold-Node Form (List Form) (List (List ℕ × Form)) Form node_step 
 
 pub form-node : (v : OwnedLazyValue) → form v ≡ node_form v.node
 form-node v = fold_out-OwnedLazyValue Form (List Form) (List (List ℕ × Form)) Form node_step array_step object_step value_step v
+
+pub node-roll : (r : Node-F Node LazyArray LazyObject OwnedLazyValue) → node_form (roll-Node r) ≡ node_step (map-Node Node LazyArray LazyObject OwnedLazyValue Form (List Form) (List (List ℕ × Form)) Form node_form elements members form r)
+node-roll r = fold-roll-Node Form (List Form) (List (List ℕ × Form)) Form node_step array_step object_step value_step r
 
 pub form-text : (t : MadeText) → node_form (Text t) ≡ raw (quoted t.text)
 unfolding Rattle.sonic_owned.specs.declared.value.Node.TheViews.roll-Node denote.Hole.Carrier.roll

@@ -1,4 +1,5 @@
 mod Folds
+mod LeadingLemmas
 mod Lists
 mod OpenLemmas
 mod Texts

@@ -42,7 +42,7 @@ texts_differ xs ys e same =
     let clash : pointwise nat_eq ys ys ≡ false = rw same at e in
     cc
 
-none_not_some : {X : Type 0} {x : X} → ◌≡◌ {A = Option X} None (Some x) → ⊥
+pub none_not_some : {X : Type 0} {x : X} → ◌≡◌ {A = Option X} None (Some x) → ⊥
 none_not_some e = cc
 
 -- a member with the key

@@ -1,4 +1,6 @@
 pub mod Forms
+pub mod Leading
 pub mod Opened
 pub mod Owned
+pub mod Seen
 pub mod Views

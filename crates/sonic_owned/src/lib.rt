@@ -10,5 +10,8 @@ mod raw;
 mod tests;
 // Values.
 mod value;
+// What a path leads to.
+mod view;
 
 pub use value::{LazyArray, LazyObject, OwnedLazyValue};
+pub use view::OwnedView;

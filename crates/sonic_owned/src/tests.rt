@@ -1,3 +1,4 @@
 // What no clause says: that calls answer the worked examples, and succeed where memory is ample.
 mod levels;
+mod pointers;
 mod values;

@@ -25,6 +25,8 @@ mod kind;
 mod level;
 // The first level opened.
 mod load;
+// What a path leads to.
+mod pointer;
 // The text.
 mod show;
 
