@@ -1,6 +1,9 @@
 -- The form of one level.
 use Rattle.std.proofs.Common.{◌≡◌, ℕ, List, map}
 use Rattle.sonic_owned.specs.Forms.{Form, raw, level, unnamed, named}
+use Rattle.std.specs.Fmt.{signed_decimal}
+use Rattle.sonic_owned.specs.Integers.{value}
+use Rattle.sonic_owned.specs.declared.integer.Integer.{Integer as AnInteger}
 use Rattle.sonic_owned.specs.declared.raw.RawValue.{RawValue}
 use Rattle.sonic_text.specs.declared.kind.Kind.TheVariants.{Array as KArray, Object as KObject}
 use Rattle.sonic_text.specs.Quoting.{quoted}
@@ -8,7 +11,7 @@ use Rattle.sonic_owned.specs.Views.{pair_of, form, elements, members, node_step,
 use Rattle.sonic_owned.specs.declared.made.MadeText.{MadeText}
 use Rattle.sonic_owned.specs.declared.value.OwnedLazyValue.{OwnedLazyValue, roll-OwnedLazyValue, fold_out-OwnedLazyValue, fold-roll-OwnedLazyValue}
 use Rattle.sonic_owned.specs.declared.value.Node.TheOpen.{OwnedLazyValue-F, Node-F, LazyArray-F, LazyObject-F}
-use Rattle.sonic_owned.specs.declared.value.Node.{Node, Text, Raw, Array, Object, roll-Node, map-Node, fold-Node, fold-roll-Node}
+use Rattle.sonic_owned.specs.declared.value.Node.{Node, Integer, Text, Raw, Array, Object, roll-Node, map-Node, fold-Node, fold-roll-Node}
 use Rattle.sonic_owned.specs.declared.value.LazyArray.{LazyArray, out-LazyArray, fold-roll-LazyArray, fold_out-LazyArray, roll-LazyArray}
 use Rattle.sonic_owned.specs.declared.value.LazyObject.{LazyObject, out-LazyObject, fold-roll-LazyObject, fold_out-LazyObject, roll-LazyObject}
 
@@ -46,6 +49,10 @@ node-roll r = fold-roll-Node Form (List Form) (List (List ℕ × Form)) Form nod
 pub form-text : (t : MadeText) → node_form (Text t) ≡ raw (quoted t.text)
 unfolding Rattle.sonic_owned.specs.declared.value.Node.TheViews.roll-Node denote.Hole.Carrier.roll
 form-text t = fold-roll-Node Form (List Form) (List (List ℕ × Form)) Form node_step array_step object_step value_step (Node-F.Text t)
+
+pub form-integer : (z : AnInteger) → node_form (Integer z) ≡ raw (signed_decimal (value z.kept))
+unfolding Rattle.sonic_owned.specs.declared.value.Node.TheViews.roll-Node denote.Hole.Carrier.roll
+form-integer z = fold-roll-Node Form (List Form) (List (List ℕ × Form)) Form node_step array_step object_step value_step (Node-F.Integer z)
 
 pub form-raw : (r : RawValue) → node_form (Raw r) ≡ raw r.text
 unfolding Rattle.sonic_owned.specs.declared.value.Node.TheViews.roll-Node denote.Hole.Carrier.roll

@@ -4,17 +4,18 @@ use Rattle.std.proofs.lemmas.Bool.{cases_Bool}
 use Rattle.std.specs.Cmp.Lexicographic.{pointwise, nat_list_eq_equiv}
 use Rattle.std.proofs.lemmas.Option.{slice_get_past}
 use Rattle.std.specs.List.{slice_get}
-use Rattle.std.specs.Option.{option_map_or}
+use Rattle.std.specs.Option.{IfSome, option_map_or}
 use Rattle.sonic_owned.proofs.Lists.{texts_equal, none_not_some}
 use Rattle.sonic_owned.specs.Forms.{Form, raw, level, Members, unnamed, named}
 use Rattle.sonic_lazy.proofs.PathLemmas.Outcome.{nowhere_ends}
-use Rattle.sonic_lazy.specs.Paths.{kind_of, goes_on, leads_nowhere}
+use Rattle.sonic_lazy.specs.Paths.{kind_of, found_here, goes_on, leads_nowhere}
 use Rattle.sonic_lazy.specs.Shown.{FindsNone}
 use Rattle.sonic_owned.specs.Leading.{Nowhere, item_at, item_of, item_in, LeadsTo, leads_on, leads_in_text}
-use Rattle.sonic_text.proofs.Values.{items_open}
+use Rattle.sonic_text.proofs.Values.{items_open, value_starts}
 use Rattle.sonic_text.specs.Paths.{Node, Path}
 use Rattle.sonic_text.specs.Places.{byte, after_space}
-use Rattle.sonic_text.specs.Values.{opening}
+use Rattle.sonic_text.specs.Strings.{strict}
+use Rattle.sonic_text.specs.Values.{opening, IsValue}
 use Rattle.sonic_text.specs.declared.kind.Kind.{Kind}
 use Rattle.sonic_text.specs.declared.kind.Kind.TheVariants.{Array, Object}
 use Rattle.sonic_owned.proofs.Folds.{node_form, node-roll}
@@ -31,6 +32,13 @@ use Rattle.std.proofs.Math.Seq.{drop-cons}
 use Rattle.sonic_pointer.specs.Nodes.{node_of, path_of}
 use Rattle.sonic_pointer.specs.declared.node.PointerNode.{PointerNode}
 use Rattle.sonic_owned.specs.Owned.{HasKeyAt, IsFirstOfKey}
+use Rattle.std.specs.Fmt.{signed_decimal}
+use Rattle.sonic_lazy.specs.RawNumbers.{IsNumberText}
+use Rattle.sonic_owned.proofs.IntegerLemmas.{integer_number, known}
+use Rattle.sonic_owned.specs.Opened.{IsClosedContainer}
+use Rattle.sonic_owned.specs.Integers.{value}
+use Rattle.sonic_text.proofs.Numbers.{number_begins}
+use Rattle.sonic_text.specs.Values.IsValue.{number}
 
 -- an element
 pub item_at_list : (fs : List Form) (n : ℕ) → item_at n (unnamed fs) ≡ slice_get fs n
@@ -41,6 +49,11 @@ item_at_list (f ∷ fs) (suc n) = item_at_list fs n
 -- what an option holds is one
 some_one : {X : Type 0} {x y : X} → ◌≡◌ {A = Option X} (Some x) (Some y) → x ≡ y
 some_one {x = x} e = ap (λ o. option_map_or (λ z. z) o x) e
+
+-- what follows from what holds of the one in an option holds of it
+pub some_follows : {X : Type 0} {P Q : X → Type 0} (o : Option X) → ((x : X) → P x → Q x) → IfSome o P → IfSome o Q
+some_follows None step tt = tt
+some_follows (Some x) step p = step x p
 
 -- the first member has the key, or it hasn't
 key_first : (m : List ℕ × Form) (ms : List (List ℕ × Form)) (k : List ℕ) → pointwise nat_eq m.0 k ≡ true → HasKeyAt (m ∷ ms) k 0
@@ -85,6 +98,11 @@ pub in_text_alone : {node : Node} {rest : Path} {b : List ℕ} {g : Form} → Fi
 in_text_alone none (leads_on e l) = absurd cc
 in_text_alone none (leads_in_text {i = i} {j} l) = none i j l
 
+-- the empty path leads to the value itself
+pub nothing_in_text : {b : List ℕ} {g : Form} (path : Path) → IsValue strict b 0 (length b) → FindsNone b path → ¬ LeadsTo path (raw b) g
+nothing_in_text {b} [] value none l = none 0 (length b) (rw (value_starts value) (found_here value))
+nothing_in_text (node ∷ rest) value none l = in_text_alone none l
+
 -- by a node that names no item of it, no path goes on from the form
 abbrev pub IsOpen : Form → Type 0
 IsOpen f = (node : Node) → item_in node f ≡ None → Nowhere node f
@@ -99,12 +117,21 @@ word_open b x start first array object node none = scalar_nowhere node (λ kind 
     other Array e = array e
     other Object e = object e
 
+-- neither does a number
+number_open : (b : List ℕ) → IsNumberText b → IsOpen (raw b)
+number_open b is node none = scalar_nowhere node (λ kind e. first kind (rw (value_starts {m = strict} (number is)) at e))
+  where
+    first : (kind : Kind) → byte b 0 ≢ opening kind
+    first Array e = elim (number_begins is) [ inl m ↦ omega (arith, m, e) | inr d ↦ omega (arith, d.1, e) ]
+    first Object e = elim (number_begins is) [ inl m ↦ omega (arith, m, e) | inr d ↦ omega (arith, d.1, e) ]
+
 -- so it is with what a value is kept as, but for a text that isn't opened
 kept_open : (o : Node-F Kept LazyArray LazyObject OwnedLazyValue) → ((r : RawValue) → roll-Node o ≢ KRaw r) → IsOpen (node_form (roll-Node o))
 unfolding Rattle.sonic_owned.specs.declared.value.Node.TheViews.roll-Node denote.Hole.Carrier.roll
 kept_open Node-F.Null other = rw (node-roll Node-F.Null) (word_open (codes "null") 110 refl refl (λ e. omega arith) (λ e. omega arith))
 kept_open (Node-F.Bool true) other = rw (node-roll (Node-F.Bool true)) (word_open (codes "true") 116 refl refl (λ e. omega arith) (λ e. omega arith))
 kept_open (Node-F.Bool false) other = rw (node-roll (Node-F.Bool false)) (word_open (codes "false") 102 refl refl (λ e. omega arith) (λ e. omega arith))
+kept_open (Node-F.Integer z) other = rw (node-roll (Node-F.Integer z)) (number_open (signed_decimal (value z.kept)) (integer_number (value z.kept) z.short))
 kept_open (Node-F.Text t) other = rw (node-roll (Node-F.Text t)) (word_open (quoted t.text) 34 refl refl (λ e. omega arith) (λ e. omega arith))
 kept_open (Node-F.Raw r) other = absurd (other r refl)
 kept_open (Node-F.Array a) other = rw (node-roll (Node-F.Array a)) (level_open Array (unnamed (elements a)))
@@ -116,6 +143,24 @@ Kept_open n = ((r : RawValue) → n ≢ KRaw r) → IsOpen (node_form n)
 
 pub value_open : (n : Kept) → Kept_open n
 value_open = ind-Node Kept_open (λ a. ⊤) (λ o. ⊤) (λ v. ⊤) (λ x y is. kept_open x) (λ x y is. tt) (λ x y is. tt) (λ x y is. tt)
+
+-- a container that isn't opened is such a text
+kept_closed : (o : Node-F Kept LazyArray LazyObject OwnedLazyValue) → IsClosedContainer (node_form (roll-Node o)) → (r : RawValue) × (roll-Node o ≡ KRaw r)
+unfolding Rattle.sonic_owned.specs.declared.value.Node.TheViews.roll-Node denote.Hole.Carrier.roll
+kept_closed Node-F.Null is = absurd (let e = (rw (node-roll Node-F.Null) at is).1 in cc)
+kept_closed (Node-F.Bool true) is = absurd (let e = (rw (node-roll (Node-F.Bool true)) at is).1 in cc)
+kept_closed (Node-F.Bool false) is = absurd (let e = (rw (node-roll (Node-F.Bool false)) at is).1 in cc)
+kept_closed (Node-F.Integer z) is = absurd (let e = (rw (node-roll (Node-F.Integer z)) at is).1 in let k = known z in cc)
+kept_closed (Node-F.Text t) is = absurd (let e = (rw (node-roll (Node-F.Text t)) at is).1 in cc)
+kept_closed (Node-F.Raw r) is = (r, refl)
+kept_closed (Node-F.Array a) is = absurd (rw (node-roll (Node-F.Array a)) at is)
+kept_closed (Node-F.Object o) is = absurd (rw (node-roll (Node-F.Object o)) at is)
+
+abbrev Closed_raw : Kept → Type 0
+Closed_raw n = IsClosedContainer (node_form n) → (r : RawValue) × (n ≡ KRaw r)
+
+pub closed_raw : (n : Kept) → Closed_raw n
+closed_raw = ind-Node Closed_raw (λ a. ⊤) (λ o. ⊤) (λ v. ⊤) (λ x y is. kept_closed x) (λ x y is. tt) (λ x y is. tt) (λ x y is. tt)
 
 -- one path leads from one form where another leads from another
 pub record LeadsAlike (p : Path) (f : Form) (q : Path) (h : Form) : Type 0 where

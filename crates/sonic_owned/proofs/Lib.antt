@@ -1,5 +1,16 @@
 mod Folds
+mod IntegerLemmas
+mod KeptTextLemmas
 mod LeadingLemmas
+mod LevelLemmas
 mod Lists
+mod MeaningLemmas
+mod MeantPathLemmas
+mod OpeningLemmas
 mod OpenLemmas
+mod PartTextLemmas
+mod PlacedLemmas
+mod TextLemmas
 mod Texts
+mod Utf8Lemmas
+mod ValueLemmas

@@ -1,10 +1,13 @@
 -- Forms of values: how far a value is opened.
-use Rattle.std.specs.Prelude.{ℕ, List, [], ◌∷◌, ◌++◌, length, Option, Some, None}
+use Rattle.std.specs.Prelude.{◌≡◌, ℕ, List, [], ◌∷◌, ◌++◌, length, Option, Some, None}
+use Rattle.std.specs.Str.{IsUtf8}
 use Rattle.sonic_lazy.specs.Scalars.{Scalar, container, scalar_of}
 use Rattle.sonic_text.specs.Quoting.{quoted}
 use Rattle.sonic_text.specs.Trees.{Tree, Items, no_item, item, container as a_container, Means}
-use Rattle.sonic_text.specs.Values.{opening, closing}
+use Rattle.sonic_text.specs.Strings.{strict}
+use Rattle.sonic_text.specs.Values.{opening, closing, IsValue}
 use Rattle.sonic_text.specs.declared.kind.Kind.{Kind}
+use Rattle.sonic_text.specs.declared.kind.Kind.TheVariants.{Array, Object}
 
 mutual
   -- a value as it is kept: the text of one value, which isn't opened, or a level, a container whose items have forms of their own
@@ -16,6 +19,22 @@ mutual
   pub data Members : Type 0 where
     no_member : Members
     member : Option (List ℕ) → Form → Members → Members
+
+-- an element has no key, and a member one in UTF-8
+abbrev pub IsLabel : Kind → Option (List ℕ) → Type 0
+IsLabel Array l = l ≡ None
+IsLabel Object l = (k : List ℕ) × (l ≡ Some k) × IsUtf8 k
+
+mutual
+  -- the form is that of a value: a text that isn't opened is one value in UTF-8, and items have the keys that their kind has
+  pub data IsSound : Form → Type 0 where
+    raw_sound : {b : List ℕ} → IsValue strict b 0 (length b) → IsUtf8 b → IsSound (raw b)
+    level_sound : {kind : Kind} {ms : Members} → AreSound kind ms → IsSound (level kind ms)
+
+  -- and so are those of the items of a level
+  pub data AreSound : Kind → Members → Type 0 where
+    none_sound : {kind : Kind} → AreSound kind no_member
+    item_sound : {kind : Kind} {l : Option (List ℕ)} {f : Form} {ms : Members} → IsLabel kind l → IsSound f → AreSound kind ms → AreSound kind (member l f ms)
 
 -- the items of an array, and those of an object
 abbrev pub unnamed : List Form → Members

@@ -1,5 +1,5 @@
 -- Where a path leads in a value, however far it is opened (compare RFC 6901, section 4).
-use Rattle.std.specs.Prelude.{◌≡◌, ℕ, zero, suc, List, [], ◌∷◌, Option, Some, None, slice_range, nat_eq, if◌then◌else◌}
+use Rattle.std.specs.Prelude.{◌≡◌, ℕ, zero, suc, List, [], ◌∷◌, ◌++◌, Option, Some, None, slice_range, nat_eq, if◌then◌else◌}
 use Rattle.std.specs.Cmp.Lexicographic.{pointwise}
 use Rattle.sonic_lazy.specs.Paths.{found, Leads}
 use Rattle.sonic_owned.specs.Forms.{Form, raw, level, Members, no_member, member}
@@ -34,3 +34,7 @@ pub data LeadsTo : Path → Form → Form → Type 0 where
 -- no path goes on from a form by this node
 abbrev pub Nowhere : Node → Form → Type 0
 Nowhere node f = (rest : Path) (g : Form) → ¬ LeadsTo (node ∷ rest) f g
+
+-- these bytes stand in the text
+abbrev pub StandsIn : List ℕ → List ℕ → Type 0
+StandsIn u t = (front : List ℕ) × (back : List ℕ) × (t ≡ front ++ (u ++ back))

@@ -1,4 +1,5 @@
 pub mod Forms
+pub mod Integers
 pub mod Leading
 pub mod Opened
 pub mod Owned

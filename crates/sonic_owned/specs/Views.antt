@@ -1,6 +1,8 @@
 -- The form of an owned value, and the lists that its levels are.
-use Rattle.std.specs.Prelude.{ℕ, ◌-◌, List, map, codes, Option, Some, None, vec_len, vec_capacity, if◌then◌else◌}
-use Rattle.sonic_owned.specs.Forms.{Form, raw, level, unnamed, named}
+use Rattle.std.specs.Prelude.{◌≡◌, ◌≢◌, ℕ, ◌-◌, List, map, codes, Option, Some, None, vec_len, vec_capacity, if◌then◌else◌}
+use Rattle.std.specs.Fmt.{signed_decimal}
+use Rattle.sonic_owned.specs.Forms.{Form, raw, level, Members, unnamed, named}
+use Rattle.sonic_owned.specs.Integers.{value}
 use Rattle.sonic_owned.specs.declared.made.MadeText.{MadeText}
 use Rattle.sonic_owned.specs.declared.value.OwnedLazyValue.{OwnedLazyValue, fold-OwnedLazyValue, out-OwnedLazyValue}
 use Rattle.sonic_owned.specs.declared.value.Node.{Node, out-Node}
@@ -8,6 +10,7 @@ use Rattle.sonic_owned.specs.declared.value.Node.TheOpen.{OwnedLazyValue-F, Node
 use Rattle.sonic_owned.specs.declared.value.LazyArray.{LazyArray, fold-LazyArray, out-LazyArray}
 use Rattle.sonic_owned.specs.declared.value.LazyObject.{LazyObject, fold-LazyObject, out-LazyObject}
 use Rattle.sonic_text.specs.Quoting.{quoted}
+use Rattle.sonic_text.specs.declared.kind.Kind.{Kind}
 use Rattle.sonic_text.specs.declared.kind.Kind.TheVariants.{Array, Object}
 
 -- a member as its key's text and its value's form
@@ -18,6 +21,7 @@ pair_of m = (m.0.text, m.1)
 abbrev pub node_step : Node-F Form (List Form) (List (List ℕ × Form)) Form → Form
 node_step Node-F.Null = raw (codes "null")
 node_step (Node-F.Bool b) = raw (if b then codes "true" else codes "false")
+node_step (Node-F.Integer z) = raw (signed_decimal (value z.kept))
 node_step (Node-F.Text s) = raw (quoted s.text)
 node_step (Node-F.Raw r) = raw r.text
 node_step (Node-F.Array fs) = level Array (unnamed fs)
@@ -65,3 +69,9 @@ array_in v = node_array (out-Node (out-OwnedLazyValue v).node)
 
 abbrev pub object_in : OwnedLazyValue → Option LazyObject
 object_in v = node_object (out-Node (out-OwnedLazyValue v).node)
+
+-- the level that a form is of, if it is one: an array with these elements, an object with these members, or none
+pub data IsLevelOf (f : Form) : Option LazyArray → Option LazyObject → Type 0 where
+  an_array : {a : LazyArray} → f ≡ level Array (unnamed (elements a)) → IsLevelOf f (Some a) None
+  an_object : {o : LazyObject} → f ≡ level Object (named (members o)) → IsLevelOf f None (Some o)
+  no_level : ((kind : Kind) (ms : Members) → f ≢ level kind ms) → IsLevelOf f None None

@@ -1,4 +1,4 @@
-// Text that a caller made.
+// Text as it is denoted: keys and strings.
 ghost use Rattle.std.specs.Prelude.{◌≡◌, IfOk, IfErr, IsUtf8};
 ghost use Rattle.sonic_error.specs.Errors.{IsPlainError};
 ghost use Rattle.std.proofs.Props.{props};

@@ -8,6 +8,7 @@ ghost use Rattle.sonic_owned.specs.Owned.{IsRawDocument};
 ghost use Rattle.sonic_owned.specs.Views.{form};
 ghost use Rattle.sonic_text.specs.Quoting.{quoted};
 
+use crate::integer::Integer;
 use crate::made::MadeText;
 use crate::raw::RawValue;
 use sonic_error::{ErrorCode, Result};
@@ -51,6 +52,7 @@ pub struct OwnedLazyValue {
 enum Node {
     Null,
     Bool(bool),
+    Integer(Integer),
     Text(MadeText),
     Raw(RawValue),
     Array(LazyArray),

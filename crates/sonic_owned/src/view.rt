@@ -1,6 +1,21 @@
 // What a path leads to.
+ghost use Rattle.std.specs.Prelude.{◌≡◌, ◌↔◌, ◌∷◌, [], length, IsSome, IfSome, IfOk, IfErr, OnErr, None};
+ghost use Rattle.std.specs.Cow.{cow_str_bytes};
+ghost use Rattle.sonic_error.specs.Errors.{IsPlainError};
+ghost use Rattle.sonic_lazy.specs.LazyValues.{raw_bytes};
+ghost use Rattle.sonic_lazy.specs.Scalars.{text as a_text};
+ghost use Rattle.sonic_owned.specs.Forms.{Form, raw, text, scalar_of_form};
+ghost use Rattle.sonic_owned.specs.Leading.{LeadsTo};
+ghost use Rattle.sonic_owned.specs.Seen.{view_form};
+ghost use Rattle.sonic_pointer.specs.Nodes.{node_of, path_of};
+ghost use Rattle.sonic_text.specs.Strings.{strict, IsString};
+
 use crate::value::OwnedLazyValue;
+use sonic_error::{ErrorCode, Result};
 use sonic_lazy::LazyValue;
+use sonic_pointer::PointerNode;
+use std::alloc::Global;
+use std::borrow::CowStr;
 
 /// What a path leads to in an [`OwnedLazyValue`]: a value that is kept, or a part of the text of one
 /// that isn't opened.
@@ -10,4 +25,56 @@ pub enum OwnedView<'a> {
     Node(&'a OwnedLazyValue),
     /// A value inside a text that isn't opened.
     Raw(LazyValue<'a>),
+}
+
+impl<'a> OwnedView<'a> {
+    /// The item that a node names, as [`OwnedLazyValue::get`] gives it.
+    pub fn get(&self, node: PointerNode<'_>) -> Option<OwnedView<'a>>
+        ensures some { IfSome result (λ seen. LeadsTo (node_of node.entry ∷ []) (view_form self.now) (view_form seen)) }
+        ensures none { result ≡ None → (g : Form) → ¬ LeadsTo (node_of node.entry ∷ []) (view_form self.now) g }
+    {
+        self.pointer(&[node])
+    }
+
+    /// The value to which a path leads in this one, as [`OwnedLazyValue::pointer`] gives it.
+    pub fn pointer(&self, path: &[PointerNode<'_>]) -> Option<OwnedView<'a>>
+        ensures some { IfSome result (λ seen. LeadsTo (path_of path.now) (view_form self.now) (view_form seen)) }
+        ensures none { result ≡ None → (g : Form) → ¬ LeadsTo (path_of path.now) (view_form self.now) g }
+    {
+        match self {
+            OwnedView::Node(value) => value.pointer(path),
+            OwnedView::Raw(value) => look_into(value, path),
+        }
+    }
+
+    /// What the value denotes where it is a string (RFC 8259, section 7), and else `None`.
+    ///
+    /// The only error is `ErrorCode::NoMemory`, and of a string alone.
+    pub fn as_str(&self, alloc: Global) -> Result<Option<CowStr<'_>>>
+        ensures some { IfOk result (λ found. IsSome found ↔ (scalar_of_form (view_form self.now) ≡ a_text)) }
+        ensures text { IfOk result (λ found. IfSome found (λ shown.
+            IsString strict (text (view_form self.now)) 0 (length (text (view_form self.now))) (cow_str_bytes shown))) }
+        ensures err { IfErr result (λ error. IsPlainError error ErrorCode.NoMemory) }
+        ensures memory { OnErr result (scalar_of_form (view_form self.now) ≡ a_text) }
+    {
+        match self {
+            OwnedView::Node(value) => value.as_str(alloc),
+            OwnedView::Raw(value) => value.as_str(alloc),
+        }
+    }
+}
+
+// What a path leads to in a text that isn't opened.
+pub(crate) fn look_into<'a>(
+    value: &LazyValue<'a>,
+    path: &[PointerNode<'_>],
+) -> Option<OwnedView<'a>>
+    ensures some { IfSome result (λ seen.
+        LeadsTo (path_of path.now) (raw (raw_bytes value.now)) (view_form seen)) }
+    ensures none { result ≡ None → (g : Form) → ¬ LeadsTo (path_of path.now) (raw (raw_bytes value.now)) g }
+{
+    match value.pointer(path) {
+        Some(found) => Some(OwnedView::Raw(found)),
+        None => None,
+    }
 }

@@ -34,4 +34,4 @@ pub mod ValueParts
 pub mod Values
 pub mod Within
 -- What is written as a string is one.
-mod WrittenLemmas
+pub mod WrittenLemmas

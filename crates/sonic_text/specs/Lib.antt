@@ -9,5 +9,6 @@ pub mod Places
 pub mod Quoting
 pub mod Reading
 pub mod Strings
+pub mod TreePaths
 pub mod Trees
 pub mod Values

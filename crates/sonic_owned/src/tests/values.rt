@@ -146,6 +146,61 @@ fn is_what_its_text_says(rt: HostRuntime) -> Result<(), Fail> {
     Ok(())
 }
 
+// Numbers that were made: their text, and what they answer.
+fn made_numbers() -> [(OwnedLazyValue, &'static str, Option<i64>, Option<u64>); 8] {
+    [
+        (0u64.into(), "0", Some(0), Some(0)),
+        (7u64.into(), "7", Some(7), Some(7)),
+        (
+            u64::MAX.into(),
+            "18446744073709551615",
+            None,
+            Some(u64::MAX),
+        ),
+        (
+            (i64::MAX as u64 + 1).into(),
+            "9223372036854775808",
+            None,
+            Some(i64::MAX as u64 + 1),
+        ),
+        (0i64.into(), "0", Some(0), Some(0)),
+        ((-1i64).into(), "-1", Some(-1), None),
+        (
+            i64::MIN.into(),
+            "-9223372036854775808",
+            Some(i64::MIN),
+            None,
+        ),
+        (
+            i64::MAX.into(),
+            "9223372036854775807",
+            Some(i64::MAX),
+            Some(i64::MAX as u64),
+        ),
+    ]
+}
+
+#[test]
+fn makes_numbers(rt: HostRuntime) -> Result<(), Fail> {
+    let alloc = rt.alloc();
+    for (value, text, signed, unsigned) in made_numbers() {
+        check_text(&rt, alloc, &value, text);
+        assert_eq!(rt; value.get_type(), JsonType::Number);
+        assert_eq!(rt; value.as_bool(), None);
+        assert_eq!(rt; value.as_i64(), signed);
+        assert_eq!(rt; value.as_u64(), unsigned);
+        match (value.as_raw_number(alloc), value.as_str(alloc)) {
+            (Ok(Some(number)), Ok(None)) => assert_eq!(rt; number.as_str(), text),
+            _ => panic!(rt; "{text} is a number and no string"),
+        }
+        match value.clone(alloc) {
+            Ok(copy) => assert_eq!(rt; copy.as_i64(), signed),
+            Err(error) => panic!(rt; "{error}"),
+        }
+    }
+    Ok(())
+}
+
 #[test]
 fn reads_the_text_of_strings(rt: HostRuntime) -> Result<(), Fail> {
     let alloc = rt.alloc();
@@ -184,6 +239,13 @@ fn has_a_level_once_it_is_opened(rt: HostRuntime) -> Result<(), Fail> {
     check_text(&rt, alloc, &empty, "[]");
     let empty = OwnedLazyValue::from(LazyObject::new(alloc));
     check_text(&rt, alloc, &empty, "{}");
+    match array.as_array() {
+        Some(level) => assert_eq!(rt;
+            &format!(in alloc; "{level:?} {object:?}")?[..],
+            "[1] {\"a\":1}"
+        ),
+        None => panic!(rt; "the array was opened"),
+    }
     Ok(())
 }
 

@@ -1,5 +1,6 @@
 // Values that are made of scalars and levels.
 use super::{LazyArray, LazyObject, Node, OwnedLazyValue};
+use crate::integer::Integer;
 
 /// The value `null`.
 impl Default for OwnedLazyValue {
@@ -38,6 +39,38 @@ impl From<bool> for OwnedLazyValue {
     fn from(truth: bool) -> OwnedLazyValue {
         OwnedLazyValue {
             node: Node::Bool(truth),
+        }
+    }
+}
+
+/// The number with no sign.
+impl From<u64> for OwnedLazyValue {
+    ghost use Rattle.std.specs.Prelude.{◌≡◌};
+    ghost use Rattle.std.specs.Fmt.{decimal};
+    ghost use Rattle.sonic_owned.specs.Forms.{raw};
+    ghost use Rattle.sonic_owned.specs.Views.{form};
+
+    ghost from_gives = { λ n value. form value ≡ raw (decimal n) };
+
+    fn from(n: u64) -> OwnedLazyValue {
+        OwnedLazyValue {
+            node: Node::Integer(Integer::unsigned(n)),
+        }
+    }
+}
+
+/// The number, with a sign where it is below zero.
+impl From<i64> for OwnedLazyValue {
+    ghost use Rattle.std.specs.Prelude.{◌≡◌};
+    ghost use Rattle.std.specs.Fmt.{signed_decimal};
+    ghost use Rattle.sonic_owned.specs.Forms.{raw};
+    ghost use Rattle.sonic_owned.specs.Views.{form};
+
+    ghost from_gives = { λ z value. form value ≡ raw (signed_decimal z) };
+
+    fn from(z: i64) -> OwnedLazyValue {
+        OwnedLazyValue {
+            node: Node::Integer(Integer::signed(z)),
         }
     }
 }

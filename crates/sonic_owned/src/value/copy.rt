@@ -30,6 +30,7 @@ fn copy(value: &OwnedLazyValue, alloc: Global) -> std::result::Result<OwnedLazyV
     let node = match &value.node {
         Node::Null => Node::Null,
         Node::Bool(truth) => Node::Bool(*truth),
+        Node::Integer(integer) => Node::Integer(integer.copy()),
         Node::Text(text) => match text.clone(alloc) {
             Ok(text) => Node::Text(text),
             Err(_) => return Err(AllocError),

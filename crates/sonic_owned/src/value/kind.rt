@@ -1,15 +1,18 @@
 // What a value is, and the level that it is opened to.
-ghost use Rattle.std.specs.Prelude.{◌≡◌, ◌↔◌, length, IsSome, IfSome, IfOk, IfErr, OnErr};
+ghost use Rattle.std.specs.Prelude.{◌≡◌, ◌↔◌, length, IsSome, IfSome, IfOk, IfErr, OnErr, Some};
+ghost use Rattle.std.specs.Fmt.{signed_decimal};
 ghost use Rattle.std.specs.Cow.{cow_str_bytes};
 ghost use Rattle.sonic_error.specs.Errors.{IsPlainError};
 ghost use Rattle.sonic_lazy.specs.RawNumbers.{IsNumberText};
 ghost use Rattle.sonic_lazy.specs.Scalars.{text as a_text};
 ghost use Rattle.sonic_owned.specs.Forms.{text, scalar_of_form};
+ghost use Rattle.sonic_owned.specs.Integers.{value};
 ghost use Rattle.sonic_owned.specs.Views.{form};
 ghost use Rattle.sonic_text.specs.Strings.{strict, IsString};
 
 use super::{LazyArray, LazyObject, Node, OwnedLazyValue};
-use sonic_error::{ErrorCode, JsonType, Result};
+use crate::integer::Integer;
+use sonic_error::{Error, ErrorCode, JsonType, Result};
 use sonic_lazy::{JsonContainerTrait, JsonValueTrait, RawNumber};
 use sonic_text::quoted_text_is_a_string;
 use std::alloc::Global;
@@ -25,6 +28,7 @@ impl JsonValueTrait for OwnedLazyValue {
         match &self.node {
             Node::Null => JsonType::Null,
             Node::Bool(_) => JsonType::Boolean,
+            Node::Integer(_) => JsonType::Number,
             Node::Text(_) => JsonType::String,
             Node::Raw(raw) => raw.as_lazy().get_type(),
             Node::Array(_) => JsonType::Array,
@@ -36,12 +40,14 @@ impl JsonValueTrait for OwnedLazyValue {
         match &self.node {
             Node::Bool(truth) => Some(*truth),
             Node::Raw(raw) => raw.as_lazy().as_bool(),
+            Node::Integer(_) => None,
             _ => None,
         }
     }
 
     fn as_i64(&self) -> Option<i64> {
         match &self.node {
+            Node::Integer(integer) => integer.as_i64(),
             Node::Raw(raw) => raw.as_lazy().as_i64(),
             _ => None,
         }
@@ -49,6 +55,7 @@ impl JsonValueTrait for OwnedLazyValue {
 
     fn as_u64(&self) -> Option<u64> {
         match &self.node {
+            Node::Integer(integer) => integer.as_u64(),
             Node::Raw(raw) => raw.as_lazy().as_u64(),
             _ => None,
         }
@@ -74,6 +81,7 @@ impl OwnedLazyValue {
                 Ok(Some(CowStr::Borrowed(text.text().as_str())))
             }
             Node::Raw(raw) => raw.as_lazy().as_str(alloc),
+            Node::Integer(_) => Ok(None),
             _ => Ok(None),
         }
     }
@@ -88,9 +96,24 @@ impl OwnedLazyValue {
         ensures memory { OnErr result (IsNumberText (text (form self.now))) }
     {
         match &self.node {
+            Node::Integer(integer) => written(alloc, integer),
             Node::Raw(raw) => raw.as_lazy().as_raw_number(alloc),
             _ => Ok(None),
         }
+    }
+}
+
+// The number that an integer is, with its text.
+fn written(alloc: Global, integer: &Integer) -> Result<Option<RawNumber>>
+    ensures text { IfOk result (λ found. found ≡ Some (signed_decimal (value integer.now.kept))) }
+    ensures err { IfErr result (λ error. IsPlainError error ErrorCode.NoMemory) }
+{
+    let Ok(text) = format!(in alloc; "{integer}") else {
+        return Err(Error::plain(ErrorCode::NoMemory));
+    };
+    match RawNumber::from_str(alloc, &text) {
+        Ok(number) => Ok(Some(number)),
+        Err(error) => Err(error),
     }
 }
 

@@ -18,9 +18,10 @@ impl OwnedLazyValue {
     /// Opens the first level of the value: a container that isn't opened becomes a level whose items
     /// keep their texts. Everything else stays as it is.
     ///
-    /// What the value means is the same, and only the container's own white space and the spelling of
-    /// its keys are lost. Nothing is looked at again but brackets, commas and keys. The only error is
-    /// `ErrorCode::NoMemory`, of a container that isn't opened alone, and the value is unchanged then.
+    /// The value means what it meant, and paths lead where they led. The container's own white space
+    /// and the spelling of its keys are lost. What is in its values isn't read again. The only error
+    /// is `ErrorCode::NoMemory`, of a container that isn't opened alone, and the value is unchanged
+    /// then.
     ///
     /// Of `{"\/" : [1, 2]}` the text is `{"/":[1, 2]}` afterwards.
     pub fn load(&mut self, alloc: Global) -> Result<()>

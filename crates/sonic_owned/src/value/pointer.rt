@@ -1,14 +1,14 @@
 // What a path leads to in a value.
 ghost use Rattle.std.specs.Prelude.{◌≡◌, ◌∷◌, [], option_map, IfSome, None};
-ghost use Rattle.sonic_owned.specs.Forms.{Form};
-ghost use Rattle.sonic_owned.specs.Leading.{item_in, LeadsTo};
-ghost use Rattle.sonic_owned.specs.Views.{form};
+ghost use Rattle.sonic_owned.specs.Forms.{Form, named};
+ghost use Rattle.sonic_owned.specs.Leading.{item_in, item_of, LeadsTo};
+ghost use Rattle.sonic_owned.specs.Views.{form, members};
 ghost use Rattle.sonic_owned.specs.Seen.{view_form, IsStep};
 ghost use Rattle.sonic_pointer.specs.Nodes.{node_of, path_of};
 
-use super::{Node, OwnedLazyValue};
+use super::{LazyObject, Node, OwnedLazyValue};
 use crate::raw::RawValue;
-use crate::view::OwnedView;
+use crate::view::{OwnedView, look_into};
 use sonic_pointer::PointerNode;
 
 // What comes of a node at a value.
@@ -41,18 +41,11 @@ impl OwnedLazyValue {
         let mut passed = 0;
         'levels: while passed < path.len() {
             match value.step(path[passed]) {
-                Step::Item(item) => {
-                    value = item;
-                    passed += 1;
-                }
-                Step::Unopened(raw) => {
-                    return match raw.as_lazy().pointer(&path[passed..]) {
-                        Some(found) => Some(OwnedView::Raw(found)),
-                        None => None,
-                    };
-                }
+                Step::Item(item) => value = item,
+                Step::Unopened(raw) => return look_into(&raw.as_lazy(), &path[passed..]),
                 Step::Nowhere => return None,
             }
+            passed += 1;
         }
         Some(OwnedView::Node(value))
     }
@@ -76,16 +69,24 @@ impl OwnedLazyValue {
     {
         match (&self.node, node) {
             (Node::Array(level), PointerNode::Index(i)) => level.at(i),
-            (Node::Object(level), PointerNode::Key(key)) => {
-                let Some(i) = level.first_of_key(key) else {
-                    return None;
-                };
-                match level.at(i) {
-                    Some((_, value)) => Some(value),
-                    None => None,
-                }
-            }
+            (Node::Object(level), PointerNode::Key(key)) => level.value_of(key),
             _ => None,
+        }
+    }
+}
+
+impl LazyObject {
+    // The value of the first member with a key.
+    fn value_of(&self, key: &str) -> Option<&OwnedLazyValue>
+        ensures { option_map (λ value. form value.now) result
+            ≡ item_of key.now (named (members self.now)) }
+    {
+        let Some(i) = self.first_of_key(key) else {
+            return None;
+        };
+        match self.at(i) {
+            Some((_, value)) => Some(value),
+            None => None,
         }
     }
 }

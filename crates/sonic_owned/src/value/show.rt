@@ -41,6 +41,27 @@ impl fmt::Display for OwnedLazyValue {
     }
 }
 
+/// The text of the value.
+impl fmt::Debug for OwnedLazyValue {
+    fn fmt<W: Write>(&self, f: &mut fmt::Formatter<W>) -> fmt::Result {
+        show(self, f)
+    }
+}
+
+/// The text of the array.
+impl fmt::Debug for LazyArray {
+    fn fmt<W: Write>(&self, f: &mut fmt::Formatter<W>) -> fmt::Result {
+        show_elements(self, f)
+    }
+}
+
+/// The text of the object.
+impl fmt::Debug for LazyObject {
+    fn fmt<W: Write>(&self, f: &mut fmt::Formatter<W>) -> fmt::Result {
+        show_members(self, f)
+    }
+}
+
 // Writes the text of a value. It descends the levels that are opened, which callers opened one by one.
 #[cycle(show)]
 fn show<W: Write>(value: &OwnedLazyValue, f: &mut fmt::Formatter<W>) -> fmt::Result
@@ -50,6 +71,7 @@ fn show<W: Write>(value: &OwnedLazyValue, f: &mut fmt::Formatter<W>) -> fmt::Res
         Node::Null => f.write_str("null"),
         Node::Bool(true) => f.write_str("true"),
         Node::Bool(false) => f.write_str("false"),
+        Node::Integer(integer) => write!(f, "{integer}"),
         Node::Text(text) => write_quoted(text.text().as_str(), f),
         Node::Raw(raw) => f.write_str(raw.as_str()),
         Node::Array(level) => show_elements(level, f),

@@ -1,7 +1,10 @@
 use Rattle.std.proofs.Common.{◌≡◌, ◌∙◌, ap, ◌+◌, [], length, arith}
 use Rattle.std.proofs.lemmas.List.{append-nil}
-use Rattle.sonic_owned.proofs.Folds.{node_form, form-node, form-text}
-use Rattle.sonic_owned.specs.Forms.{text}
+use Rattle.std.specs.Fmt.{signed_decimal}
+use Rattle.sonic_owned.proofs.Folds.{node_form, form-node, form-integer, form-text}
+use Rattle.sonic_owned.proofs.IntegerLemmas.{known}
+use Rattle.sonic_owned.specs.Integers.{value}
+use Rattle.sonic_owned.specs.Forms.{raw, text}
 use Rattle.sonic_owned.specs.Views.{form}
 use Rattle.sonic_text.specs.Quoting.{quoted}
 use Rattle.sonic_text.specs.Strings.{strict, IsString}
@@ -14,3 +17,9 @@ returns-in-Text-clause-text c =
     let alone : IsString strict (quoted s) 0 (length (quoted s)) s = rw (append-nil (quoted s), end) at (c.quoted_text_is_a_string.ensures.string [] s []) in
     let shown : text (form c.args.self.now) ≡ quoted s = ap text (form-node c.args.self.now ∙ ap node_form c.in-Text.is ∙ form-text c.in-Text.text) in
     rw (shown, c.as_str.ensures, c.text.ensures) alone
+
+pub returns-in-Integer : goal.returns-in-Integer
+returns-in-Integer c =
+    let z = c.in-Integer.field-0 in
+    let shape : form c.args.self.now ≡ raw (signed_decimal (value z.kept)) = form-node c.args.self.now ∙ ap node_form c.in-Integer.is ∙ form-integer z in
+    rw (shape, known z) (record { some = (λ e. absurd cc, λ e. absurd cc); text = tt; err = tt; memory = tt })

@@ -1,6 +1,6 @@
-use Rattle.std.proofs.Common.{◌≡◌, ◌∙◌, ap, sym, refl}
+use Rattle.std.proofs.Common.{◌≡◌, ◌∙◌, ap, sym}
 use Rattle.sonic_owned.proofs.Folds.{node_form, form-node, form-array, form-object}
-use Rattle.sonic_owned.proofs.LeadingLemmas.{item_at_list, item_of_first, item_of_none}
+use Rattle.sonic_owned.proofs.LeadingLemmas.{item_at_list}
 use Rattle.sonic_owned.proofs.value.OwnedLazyValue.item.Goals as goal
 use Rattle.sonic_owned.specs.Forms.{level, unnamed, named}
 use Rattle.sonic_owned.specs.Views.{form, elements, members}
@@ -12,14 +12,8 @@ returns-in-Array-Index c =
     let shape : form c.args.self.now ≡ level Array (unnamed (elements a)) = form-node c.args.self.now ∙ ap node_form c.in-Array-Index.is-0 ∙ form-array a in
     rw (shape, c.in-Array-Index.is-1) (c.at.ensures ∙ sym (item_at_list (elements a) c.in-Array-Index.i))
 
-pub returns-in_default-first_of_key : goal.returns-in_default-first_of_key
-returns-in_default-first_of_key c =
+pub returns-in-Object-Key : goal.returns-in-Object-Key
+returns-in-Object-Key c =
     let o = c.in-Object-Key.level in
     let shape : form c.args.self.now ≡ level Object (named (members o)) = form-node c.args.self.now ∙ ap node_form c.in-Object-Key.is-0 ∙ form-object o in
-    rw (shape, c.in-Object-Key.is-1) (sym (item_of_none (members o) c.in-Object-Key.key.now (c.in_default-first_of_key.ensures.none refl)))
-
-pub returns-in-Some-at : goal.returns-in-Some-at
-returns-in-Some-at c =
-    let o = c.in-Object-Key.level in
-    let shape : form c.args.self.now ≡ level Object (named (members o)) = form-node c.args.self.now ∙ ap node_form c.in-Object-Key.is-0 ∙ form-object o in
-    rw (shape, c.in-Object-Key.is-1) (sym (item_of_first (members o) c.in-Object-Key.key.now c.in-Some.i (c.in-Some-at.field-0-0.now, form c.in-Some-at.value.now) c.in-Some.ensures.some (sym c.in-Some-at.ensures)))
+    rw (shape, c.in-Object-Key.is-1) c.value_of.ensures

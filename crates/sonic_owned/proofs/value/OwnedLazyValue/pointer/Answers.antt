@@ -1,25 +1,24 @@
 use Rattle.std.proofs.Common.{arith}
 use Rattle.std.proofs.lemmas.List.{take_rest, drop_all}
-use Rattle.sonic_owned.proofs.LeadingLemmas.{alike_below, next_node, in_text_alone}
+use Rattle.sonic_owned.proofs.LeadingLemmas.{alike_below, next_node, some_follows}
 use Rattle.sonic_owned.proofs.value.OwnedLazyValue.pointer.Goals as goal
-use Rattle.sonic_owned.specs.Leading.{leads_here, leads_in_text}
-use Rattle.sonic_pointer.specs.declared.node.PointerNode.TheVariants.{Index}
+use Rattle.sonic_owned.specs.Leading.{leads_here}
+use Rattle.sonic_owned.specs.Seen.{view_form}
 
 pub levels-preserved : goal.levels-preserved
 levels-preserved c =
     let next = next_node c.args.path.now c.levels.passed _ c.levels-test.true in
     (omega (arith, c.levels-test.true), alike_below c.levels.invariant.1 next c.in-Item.ensures)
 
-pub returns-in-Some-clause-some : goal.returns-in-Some-clause-some
-returns-in-Some-clause-some c =
-    let found = rw (c.as_lazy.ensures, take_rest c.args.path.now c.levels.passed) at c.in-Some.ensures.some in
-    c.levels.invariant.1.on _ (rw (c.in-Unopened.ensures, found.shown) (leads_in_text found.leads))
+pub returns-in-Unopened-clause-some : goal.returns-in-Unopened-clause-some
+returns-in-Unopened-clause-some c =
+    let rest = take_rest c.args.path.now c.levels.passed in
+    some_follows c.look_into.result (λ seen l. c.levels.invariant.1.on (view_form seen) (rw (← rest, c.in-Unopened.ensures, ← c.as_lazy.ensures) l)) c.look_into.ensures.some
 
-pub returns-in-None-clause-none : goal.returns-in-None-clause-none
-returns-in-None-clause-none c = λ _ g l.
-    let next = next_node c.args.path.now c.levels.passed (Index 0) c.levels-test.true in
-    let none = rw (c.as_lazy.ensures, take_rest c.args.path.now c.levels.passed, next) at c.in-None.ensures.none in
-    in_text_alone none (rw (next, c.in-Unopened.ensures) at (c.levels.invariant.1.back g l))
+pub returns-in-Unopened-clause-none : goal.returns-in-Unopened-clause-none
+returns-in-Unopened-clause-none c = λ e g l.
+    let none = rw (take_rest c.args.path.now c.levels.passed, c.as_lazy.ensures) at (c.look_into.ensures.none e g) in
+    none (rw c.in-Unopened.ensures at (c.levels.invariant.1.back g l))
 
 pub returns-in-Nowhere-clause-none : goal.returns-in-Nowhere-clause-none
 returns-in-Nowhere-clause-none c = λ _ g l.

@@ -2,6 +2,7 @@ use Rattle.std.proofs.Common.{◌≡◌, ◌∙◌, ap, refl}
 use Rattle.sonic_lazy.specs.Iterators.{Iterating}
 use Rattle.sonic_lazy.specs.Scalars.{container, scalar_of}
 use Rattle.sonic_owned.proofs.Folds.{node_form, form-node, form-raw, form-array, form-object, form-roll}
+use Rattle.sonic_owned.proofs.LeadingLemmas.{closed_raw}
 use Rattle.sonic_owned.specs.Forms.{unnamed, named}
 use Rattle.sonic_owned.specs.Opened.{AreAllMembers}
 use Rattle.sonic_owned.specs.Opened.IsOpened.{level_opened}
@@ -26,3 +27,12 @@ returns-in_ok-open_members-in-Some-into_object_iter-clause-some c =
     let object : scalar_of t ≡ container Object = rw c.as_lazy-2.ensures at (found.kind.0 refl) in
     let all : AreAllMembers t Object (named (members made.field-0)) = rw text at made.ensures in
     level_opened (form-node c.args.value.now ∙ ap node_form c.in-Raw.is ∙ form-raw c.in-Raw.raw) object all (form-roll _ ∙ form-object made.field-0)
+
+pub returns-in_default : goal.returns-in_default
+returns-in_default c = record {
+  some = tt;
+  none = λ e is.
+      let raw = closed_raw c.args.value.now.node (rw form-node at is) in
+      c.in_default.not-Raw raw.0 raw.1;
+  memory = tt;
+}
