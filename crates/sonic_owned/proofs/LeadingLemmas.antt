@@ -59,7 +59,7 @@ some_follows (Some x) step p = step x p
 key_first : (m : List ℕ × Form) (ms : List (List ℕ × Form)) (k : List ℕ) → pointwise nat_eq m.0 k ≡ true → HasKeyAt (m ∷ ms) k 0
 key_first m ms k e = (m.1, ap (λ t. Some (t, m.1)) (texts_equal m.0 k e))
 
-no_key_first : (m : List ℕ × Form) (ms : List (List ℕ × Form)) (k : List ℕ) → ¬ HasKeyAt (m ∷ ms) k 0 → pointwise nat_eq m.0 k ≡ false
+pub no_key_first : (m : List ℕ × Form) (ms : List (List ℕ × Form)) (k : List ℕ) → ¬ HasKeyAt (m ∷ ms) k 0 → pointwise nat_eq m.0 k ≡ false
 no_key_first m ms k none = elim (cases_Bool (pointwise nat_eq m.0 k)) [ inl same ↦ absurd (none (key_first m ms k same)) | inr other ↦ other ]
 
 -- a member

@@ -1,3 +1,5 @@
+mod ChangeLemmas
+mod EditLemmas
 mod Folds
 mod IntegerLemmas
 mod KeptTextLemmas
@@ -6,10 +8,14 @@ mod LevelLemmas
 mod Lists
 mod MeaningLemmas
 mod MeantPathLemmas
+mod OpenedLemmas
 mod OpeningLemmas
 mod OpenLemmas
 mod PartTextLemmas
 mod PlacedLemmas
+mod PutLawLemmas
+mod PutLemmas
+mod ReachLemmas
 mod TextLemmas
 mod Texts
 mod Utf8Lemmas

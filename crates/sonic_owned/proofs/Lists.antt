@@ -1,5 +1,5 @@
 -- The lists of a level, item by item.
-use Rattle.std.proofs.Common.{◌≡◌, ◌∙◌, ap, sym, inl, inr, refl, ℕ, true, false, nat_eq, ◌∷◌, ◌+◌, ◌<◌, ◌≤◌, List, [], length, get_or, map, Option, Some, None, option_map, arith}
+use Rattle.std.proofs.Common.{◌≡◌, ◌∙◌, ap, sym, inl, inr, refl, ℕ, zero, suc, true, false, nat_eq, ◌∷◌, ◌+◌, ◌<◌, ◌≤◌, List, [], length, get_or, map, Option, Some, None, option_map, arith}
 use Rattle.std.proofs.lemmas.Bool.{cases_eq, cases_lt, and_parts, eqb-true}
 use Rattle.std.specs.Cmp.Lexicographic.{pointwise, nat_list_eq_equiv}
 use Rattle.std.specs.Option.{option_map_or}
@@ -7,7 +7,8 @@ use Rattle.sonic_owned.specs.Owned.{HasKeyAt}
 use Rattle.sonic_owned.specs.Forms.{Form}
 use Rattle.std.proofs.lemmas.List.{length-map}
 use Rattle.std.proofs.lemmas.Option.{slice_get_past, slice_get-get_or, slice_get-map}
-use Rattle.std.specs.List.{slice_get}
+use Rattle.std.specs.List.{slice_get, slice_set}
+use Rattle.sonic_owned.specs.Puts.{with_value}
 use Rattle.sonic_owned.proofs.Folds.{formed, elements_of, members_of}
 use Rattle.sonic_owned.specs.Views.{form, pair_of}
 use Rattle.sonic_owned.specs.declared.made.MadeText.{MadeText}
@@ -67,3 +68,15 @@ no_key_past ms i k end before p h = elim (cases_lt p i) [
   | inl less ↦ before p less h
   | inr past ↦ let none = members-past ms p (omega arith) in absurd (none_not_some (sym none ∙ h.1))
 ]
+
+-- another value at a position
+pub elements-set : (vs : List OwnedLazyValue) (n : ℕ) (w : OwnedLazyValue) → elements_of (slice_set vs n w) ≡ slice_set (elements_of vs) n (form w)
+elements-set [] n w = refl
+elements-set (v ∷ vs) zero w = refl
+elements-set (v ∷ vs) (suc n) w = ap (λ l. form v ∷ l) (elements-set vs n w)
+
+pub members-set : (ms : List (MadeText × OwnedLazyValue)) (n : ℕ) (d : MadeText × OwnedLazyValue) (w : OwnedLazyValue) → n < length ms → d ≡ get_or ms n d
+    → members_of (slice_set ms n (d.0, w)) ≡ with_value n (form w) (members_of ms)
+members-set [] n d w l e = absurd (omega arith)
+members-set (m ∷ ms) zero d w l e = rw e refl
+members-set (m ∷ ms) (suc n) d w l e = ap (λ l. pair_of (formed m) ∷ l) (members-set ms n d w (omega arith) e)

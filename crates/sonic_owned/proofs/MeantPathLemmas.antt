@@ -111,7 +111,7 @@ begins (means_empty b c q) = b
 begins (means_filled b q d is) = b
 
 -- a node names items of a container of its kind alone
-child_none : (node : Node) (v : Tree) → ((xs : Items) → v ≢ container (kind_of node) xs) → child node v ≡ None
+pub child_none : (node : Node) (v : Tree) → ((xs : Items) → v ≢ container (kind_of node) xs) → child node v ≡ None
 child_none (index n) (container Array xs) other = absurd (other xs refl)
 child_none (key k) (container Object xs) other = absurd (other xs refl)
 child_none node v other = refl
@@ -147,7 +147,7 @@ text_meant (node ∷ rest) m e = elim (walked node m) [
 ]
 
 -- there is a form here and a tree that it means there, or neither
-data BothMean (f : Option Form) (v : Option Tree) : Type 0 where
+pub data BothMean (f : Option Form) (v : Option Tree) : Type 0 where
   both_mean : {g : Form} {w : Tree} → f ≡ Some g → v ≡ Some w → FormMeans g w → BothMean f v
   neither : f ≡ None → v ≡ None → BothMean f v
 
@@ -167,7 +167,7 @@ first_means k (member_means {l = Some l} m ms) = elim (cases_Bool (pointwise nat
 ]
 
 -- and so the item that a node names
-item_means : (node : Node) (kind : Kind) {ms : Members} {xs : Items} → MembersMean ms xs
+pub item_means : (node : Node) (kind : Kind) {ms : Members} {xs : Items} → MembersMean ms xs
     → BothMean (item_in node (level kind ms)) (child node (container kind xs))
 item_means (index n) Array ms = element_means n ms
 item_means (index n) Object ms = neither refl refl

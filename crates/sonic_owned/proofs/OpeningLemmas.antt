@@ -21,7 +21,7 @@ use Rattle.sonic_text.specs.Values.{opening, closing, ItemHead, first_item, next
 use Rattle.sonic_text.specs.declared.kind.Kind.{Kind}
 
 -- a closed container has one list of items
-closed_one : {t : List ℕ} {kind : Kind} {n p : ℕ} {xs ys : List Item} → AreItems t kind n xs → AreClosed t kind n → AreItems t kind p ys
+pub closed_one : {t : List ℕ} {kind : Kind} {n p : ℕ} {xs ys : List Item} → AreItems t kind n xs → AreClosed t kind n → AreItems t kind p ys
     → AreClosed t kind p → xs ≡ ys
 closed_one {t} {kind} {xs = xs} {ys} x c y d =
     let a : Listing = record { items = xs; ending = closed } in
@@ -80,6 +80,12 @@ all_of {t} {kind} start (means_empty b c q) =
 all_of {t} {kind} start (means_filled {h = h} b q d xs) =
     let reach : ItemsReach t kind 0 h = rw start (first_item b q d refl) in
     rest_of reach (no_items refl refl) xs
+
+-- so a text that means a container has all its items
+pub all_members : {b : List ℕ} {kind : Kind} {xs : Items} → Means b 0 (length b) (a_container kind xs) → (ms : Members) × AreAllMembers b kind ms
+all_members {b} x =
+    let y = all_of (value_starts (value_of x)) x in
+    (raw_members b y.rest, record { count = y.count; items = y.rest; are = y.are; closed = y.closes; shown = refl })
 
 -- what is a container by its first byte means one
 container_tree : {kind : Kind} (v : Tree) → scalar_of_tree v ≡ container kind → (xs : Items) × (v ≡ a_container kind xs)

@@ -1,7 +1,13 @@
+pub mod Changes
+pub mod Edits
 pub mod Forms
 pub mod Integers
 pub mod Leading
 pub mod Opened
 pub mod Owned
+pub mod Puts
+pub mod Reached
 pub mod Seen
+pub mod TreeEdits
+pub mod TreePuts
 pub mod Views

@@ -1,10 +1,14 @@
 // Laws of forms.
-ghost use Rattle.std.specs.Prelude.{◌≡◌, ◌↔◌, ◌∷◌, length, Some};
+ghost use Rattle.std.specs.Prelude.{◌≡◌, ◌↔◌, ◌⊎◌, ℕ, List, ◌∷◌, length, Some, None};
 ghost use Rattle.sonic_lazy.specs.Documents.{IsValidDocument};
 ghost use Rattle.sonic_lazy.specs.Scalars.{scalar_of_tree};
+ghost use Rattle.sonic_owned.specs.Edits.{IsSoundChange, IsEdit, IsRefused, AreEdits, IsFirstRefused, EditMeans, EditsMean};
 ghost use Rattle.sonic_owned.specs.Forms.{Form, IsSound, FormMeans, scalar_of_form, text};
 ghost use Rattle.sonic_owned.specs.Leading.{LeadsTo, StandsIn};
 ghost use Rattle.sonic_owned.specs.Opened.{IsOpened};
+ghost use Rattle.sonic_owned.specs.Puts.{IsPut};
+ghost use Rattle.sonic_owned.specs.TreeEdits.{Edit, edit_tree, edit_tree_all};
+ghost use Rattle.sonic_owned.specs.TreePuts.{put};
 ghost use Rattle.sonic_owned.specs.Views.{form, array_in, object_in, IsLevelOf};
 ghost use Rattle.sonic_owned.specs.declared.value.OwnedLazyValue.{OwnedLazyValue};
 ghost use Rattle.sonic_text.specs.Paths.{Path, Node};
@@ -70,4 +74,46 @@ pub fn path_leads_as_in_the_tree()
 pub fn level_is_that_of_the_form()
     ensures { (value : OwnedLazyValue)
         → IsLevelOf (form value) (array_in value) (object_in value) }
+{}
+
+/// The law of putting: where a path leads to a part of a value, and another value is put in its
+/// place, the whole means the tree that it meant with the other's tree put there. A value can be
+/// put wherever the path leads in the tree, and the part and the whole that comes out are
+/// determined.
+///
+/// So with `3` put where `["a", 0]` leads, `{"a":[1,2],"b":true}` means what `{"a":[3,2],"b":true}`
+/// does.
+pub fn putting_means_the_tree()
+    ensures means { (path : Path) (f m g h : Form) (x y : Tree) → IsPut path f m g h
+        → FormMeans f x → FormMeans g y → FormMeans h (put path y x)
+        × ((z : Tree) × (leads x path ≡ Some z) × FormMeans m z) }
+    ensures all { (path : Path) (f : Form) (x y : Tree) → FormMeans f x → leads x path ≡ Some y
+        → (m : Form) × FormMeans m y × ((g : Form) → (h : Form) × IsPut path f m g h) }
+    ensures one { (path : Path) (f m n g h k : Form) → IsPut path f m g h → IsPut path f n g k
+        → (m ≡ n) × (h ≡ k) }
+{}
+
+/// The law of edits: what an edit makes of a value means the edited tree and is determined, and the
+/// edit is refused exactly where the tree has no such part, or one of another kind. What is sound
+/// stays so. Edits in order make what they make of the tree in order, or one of them is refused.
+///
+/// So `4` appended where `["a"]` leads makes `{"a":[1,2],"a":3}` mean what `{"a":[1,2,4],"a":3}`
+/// does, and where `["b"]` leads it is refused.
+pub fn edit_means_the_edited_tree()
+    ensures means { (e : Edit Form) (d : Edit Tree) (f h : Form) (x : Tree) → EditMeans e d
+        → FormMeans f x → IsEdit e f h
+        → (y : Tree) × (edit_tree d x ≡ Some y) × FormMeans h y }
+    ensures refused { (e : Edit Form) (d : Edit Tree) (f : Form) (x : Tree) → EditMeans e d
+        → FormMeans f x → (IsRefused e f ↔ (edit_tree d x ≡ None)) }
+    ensures one { (e : Edit Form) (f g h : Form) → IsEdit e f g → IsEdit e f h → g ≡ h }
+    ensures sound { (e : Edit Form) (f h : Form) → IsEdit e f h → IsSoundChange e.change
+        → IsSound f → IsSound h }
+    ensures all { (es : List (Edit Form)) (ds : List (Edit Tree)) (f h : Form) (x : Tree)
+        → EditsMean es ds → FormMeans f x → AreEdits es f h
+        → (y : Tree) × (edit_tree_all ds x ≡ Some y) × FormMeans h y }
+    ensures none { (es : List (Edit Form)) (ds : List (Edit Tree)) (f : Form) (n : ℕ) (x : Tree)
+        → EditsMean es ds → FormMeans f x → IsFirstRefused es f n → edit_tree_all ds x ≡ None }
+    ensures some { (es : List (Edit Form)) (ds : List (Edit Tree)) (f : Form) (x : Tree)
+        → EditsMean es ds → FormMeans f x
+        → ((h : Form) × AreEdits es f h) ⊎ ((n : ℕ) × IsFirstRefused es f n) }
 {}

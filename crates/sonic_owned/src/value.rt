@@ -16,6 +16,8 @@ use sonic_input::FastStr;
 use sonic_lazy::LazyValue;
 use std::alloc::Global;
 
+// Values that are taken and changed.
+mod change;
 // Values that are made of scalars and levels.
 mod convert;
 // Copies.
@@ -28,6 +30,8 @@ mod level;
 mod load;
 // What a path leads to.
 mod pointer;
+// The value to which a path leads, changed where it is.
+mod reach;
 // The text.
 mod show;
 

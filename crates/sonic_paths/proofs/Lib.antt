@@ -1,8 +1,8 @@
 mod Deciding
 pub mod Heads
 mod LineHeads
-mod LineNodes
+pub mod LineNodes
 pub mod LineOutcomes
-mod LineTests
-mod MixedPaths
+pub mod LineTests
+pub mod MixedPaths
 pub mod OneHead

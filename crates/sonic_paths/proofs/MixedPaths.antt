@@ -14,9 +14,13 @@ text_by_test : (a b : List ℕ) (r : Bool) → Decides r (a ≡ b) → (a ≡ b)
 text_by_test a b true d = inl (d.0 refl)
 text_by_test a b false d = inr (λ e. let h = d.1 e in absurd cc)
 
+-- two texts are the same or not
+pub text_or_other : (a b : List ℕ) → (a ≡ b) ⊎ (a ≢ b)
+text_or_other a b = text_by_test a b (bytes_eq a b) (bytes_eq-Decides a b)
+
 -- two nodes are the same or not
 node_or_other : (a b : Node) → (a ≡ b) ⊎ (a ≢ b)
-node_or_other (key a) (key b) = elim (text_by_test a b (bytes_eq a b) (bytes_eq-Decides a b)) [ inl e ↦ inl (ap key e) | inr d ↦ inr (λ e. d cc) ]
+node_or_other (key a) (key b) = elim (text_or_other a b) [ inl e ↦ inl (ap key e) | inr d ↦ inr (λ e. d cc) ]
 node_or_other (index n) (index m) = elim (cases_eq n m) [ inl e ↦ inl (ap index e) | inr d ↦ inr (λ e. d cc) ]
 node_or_other (key a) (index n) = inr (λ e. cc)
 node_or_other (index n) (key a) = inr (λ e. cc)

@@ -14,6 +14,7 @@ mod path;
 #[cfg(test)]
 mod tests;
 
+pub use head::{document_start, find_line_end, is_blank};
 pub use law::head_says_one_thing;
 pub use line::path_of_line;
 pub use lines::{Head, read_paths};

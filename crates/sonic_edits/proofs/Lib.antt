@@ -1,0 +1,8 @@
+mod EditingLemmas
+mod ElementLemmas
+mod LineHeads
+pub mod LineOutcomes
+mod LineTests
+mod ReadingLemmas
+mod SayingLemmas
+pub mod SoundLemmas

@@ -1,0 +1,40 @@
+-- What a head of edit lines says.
+use Rattle.std.specs.Prelude.{◌≡◌, ◌+◌, ◌≤◌, ℕ, List, [], ◌∷◌, length, map}
+use Rattle.sonic_edits.specs.Edits.{edit_of}
+use Rattle.sonic_edits.specs.Lines.{IsEditLine, SaysNoEdit}
+use Rattle.sonic_edits.specs.declared.lines.EditHead.{EditHead}
+use Rattle.sonic_edits.specs.declared.lines.EditHead.TheVariants.{Edits, Bad}
+use Rattle.sonic_owned.specs.Forms.{Form}
+use Rattle.sonic_owned.specs.TreeEdits.{Edit}
+use Rattle.sonic_paths.specs.Heads.{IsHead}
+
+-- each line in order says its edit
+pub data AreEditLines : List (List ℕ) → List (Edit Form) → Type 0 where
+  no_more_lines : AreEditLines [] []
+  next_line : {line : List ℕ} {lines : List (List ℕ)} {e : Edit Form} {es : List (Edit Form)} → IsEditLine line e → AreEditLines lines es
+      → AreEditLines (line ∷ lines) (e ∷ es)
+
+-- line n, counted from 1, is the first that says no edit
+pub data IsFirstBadEdit : List (List ℕ) → ℕ → Type 0 where
+  bad_here : {line : List ℕ} {lines : List (List ℕ)} {n : ℕ} → SaysNoEdit line → n ≡ 1 → IsFirstBadEdit (line ∷ lines) n
+  bad_later : {line : List ℕ} {lines : List (List ℕ)} {e : Edit Form} {n m : ℕ} → IsEditLine line e → IsFirstBadEdit lines m → n ≡ m + 1
+      → IsFirstBadEdit (line ∷ lines) n
+
+-- the lines of the input's head say these edits, and the document begins at d
+pub record SaysEditsOf (t : List ℕ) (es : List (Edit Form)) (d : ℕ) : Type 0 where
+  pub lines : List (List ℕ)
+  pub within : d ≤ length t
+  pub head : IsHead t 0 lines d
+  pub are : AreEditLines lines es
+
+-- line n of the input's head, counted from 1, is the first that says no edit
+pub record SaysBadEdit (t : List ℕ) (n : ℕ) : Type 0 where
+  pub lines : List (List ℕ)
+  pub document : ℕ
+  pub head : IsHead t 0 lines document
+  pub first : IsFirstBadEdit lines n
+
+-- what the head of an input says: an edit on each line, and where the document begins, or which line is the first that says none
+abbrev pub SaysEdits : List ℕ → EditHead → Type 0
+SaysEdits t (Edits es d) = SaysEditsOf t (map edit_of es.items) d
+SaysEdits t (Bad n) = SaysBadEdit t n

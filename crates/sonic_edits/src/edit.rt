@@ -1,0 +1,15 @@
+// The edit that a line says.
+use sonic_owned::Change;
+use sonic_paths::LinePath;
+
+/// An edit: where a path leads, a change is made.
+///
+/// The line `["set", ["a", 1], null]` says the edit whose path is `["a", 1]` and whose change is
+/// `Change::Set` with the value `null`.
+#[derive(Drop)]
+pub struct Edit {
+    // Where.
+    pub(crate) path: LinePath,
+    // And what.
+    pub(crate) change: Change,
+}
