@@ -1,13 +1,11 @@
 -- The elements of an array are one list of texts, which an iterator over it gives.
-use Rattle.std.proofs.Common.{◌≡◌, ◌∙◌, inl, inr, ap, ap₂, sym, refl, ℕ, ◌+◌, ◌<◌, List, [], ◌∷◌, ◌++◌, Option, None, true, false, length, length-append, map, arith}
+use Rattle.std.proofs.Common.{◌≡◌, ◌∙◌, inl, inr, ap, sym, refl, ℕ, ◌+◌, ◌<◌, List, [], ◌∷◌, ◌++◌, Option, None, true, false, length, length-append, map, arith}
 use Rattle.std.proofs.lemmas.Bool.{cases_lt, cases_order}
 use Rattle.std.proofs.lemmas.List.{length-map, map-append}
 use Rattle.std.proofs.lemmas.List.Elements.{All-nil, All-push, All-head, All-tail}
 use Rattle.std.specs.List.{All}
-use Rattle.std.specs.Prelude.{slice_range}
 use Rattle.sonic_edits.specs.Lines.{AreElements}
 use Rattle.sonic_edits.specs.Reading.{HasElements}
-use Rattle.sonic_lazy.proofs.DocumentLemmas.{alone_one}
 use Rattle.sonic_lazy.proofs.WholeLemmas.{lazy_is_whole}
 use Rattle.sonic_lazy.specs.Documents.{IsDocumentValue}
 use Rattle.sonic_lazy.specs.Scalars.{container, scalar_of}
@@ -20,6 +18,7 @@ use Rattle.sonic_lazy.specs.Iterators.{Iterating, iterator_over, ShowsElement, I
 use Rattle.sonic_lazy.specs.LazyValues.{raw_bytes}
 use Rattle.sonic_lazy.specs.Shown.{span_text}
 use Rattle.sonic_lazy.specs.declared.lazyvalue.LazyValue.{LazyValue}
+use Rattle.sonic_owned.proofs.DocumentLemmas.{value_one}
 use Rattle.sonic_owned.specs.Forms.{raw, Members, unnamed}
 use Rattle.sonic_owned.specs.Opened.{raw_members, AreAllMembers}
 use Rattle.sonic_text.specs.Strings.{strict}
@@ -154,11 +153,7 @@ more_first {t} {n} {first} v texts f x all =
     let few : length first ≡ n = ap length f.shown ∙ length-map f.items (λ (x : Item). span_text t x.span) ∙ items_count f.are in
     omega arith
 
--- a document is one value
-value_one : {t a b : List ℕ} → IsDocumentValue t a → IsDocumentValue t b → a ≡ b
-value_one {t} x y = let e = alone_one x.alone y.alone in x.is ∙ ap₂ (slice_range t) e.0 e.1 ∙ sym y.is
-
--- so a line's elements are those of its value
+-- a line's elements are those of its value
 pub own_elements : {line text : List ℕ} {texts : List (List ℕ)} → IsDocumentValue line text → HasElements line texts → AreElements text texts
 own_elements x h = rw (value_one x h.value) h.array
 

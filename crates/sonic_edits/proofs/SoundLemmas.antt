@@ -1,16 +1,17 @@
 -- The edits that lines say are sound.
 use Rattle.std.proofs.Common.{ℕ, List, length, take, arith}
 use Rattle.std.proofs.Math.Seq.{take-length}
-use Rattle.std.proofs.lemmas.List.Elements.{All-map}
+use Rattle.std.proofs.lemmas.List.Elements.{All-map, All-nil, All-cons}
 use Rattle.std.specs.List.{All}
 use Rattle.std.specs.Str.{IsUtf8}
 use Rattle.sonic_edits.proofs.ElementLemmas.{each_item, elements_one, items_elements}
+use Rattle.sonic_edits.specs.Heads.{AreEditLines, no_more_lines, next_line}
 use Rattle.sonic_edits.specs.Lines.{AreElements, IsEditLine, SaysEdit, says_set, says_push, says_pair, says_take}
 use Rattle.sonic_lazy.proofs.DocumentLemmas.{alone_part}
 use Rattle.sonic_lazy.proofs.WholeLemmas.{utf8_of_span}
 use Rattle.sonic_lazy.specs.Items.{Item, IsItemAt}
 use Rattle.sonic_lazy.specs.Shown.{span_text}
-use Rattle.sonic_owned.specs.Edits.{IsSoundChange}
+use Rattle.sonic_owned.specs.Edits.{IsSoundChange, AreSoundEdits}
 use Rattle.sonic_owned.specs.Forms.{Form, raw, IsSound, raw_sound}
 use Rattle.sonic_owned.specs.TreeEdits.{Edit}
 use Rattle.sonic_text.proofs.StringTexts.{string_utf8}
@@ -50,3 +51,8 @@ pub edit_line_sound : {line : List ℕ} {e : Edit Form} → IsEditLine line e �
 edit_line_sound x =
     let utf8 : IsUtf8 x.text = rw x.value.is (alone_part x.utf8 x.value.alone).utf8 in
     says_sound x.says (elements_sound x.elements utf8 x.array)
+
+-- and what each of many says
+pub edit_lines_sound : {lines : List (List ℕ)} {es : List (Edit Form)} → AreEditLines lines es → AreSoundEdits es
+edit_lines_sound no_more_lines = All-nil _
+edit_lines_sound (next_line {e = e} {es} x xs) = All-cons (λ (e : Edit Form). IsSoundChange e.change) e es (edit_line_sound x) (edit_lines_sound xs)

@@ -1,2 +1,3 @@
 pub mod Elements
+pub mod Settings
 pub mod Subjects

@@ -11,6 +11,9 @@ mod lookup;
 mod records;
 // An editor that opens a file of settings.
 mod settings;
+// What no clause says: that an edit keeps every byte that it doesn't concern.
+#[cfg(test)]
+mod tests;
 // Lazy values: their types, and paths inside them.
 mod values;
 

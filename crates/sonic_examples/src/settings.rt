@@ -1,11 +1,24 @@
 // An editor that opens a file of settings.
+ghost use Rattle.std.specs.Prelude.{IfOk, IsTrue};
+ghost use Rattle.sonic_examples.specs.Settings.{theme_path};
+ghost use Rattle.sonic_owned.specs.Edits.{IsEdit};
+ghost use Rattle.sonic_owned.specs.Forms.{raw};
+ghost use Rattle.sonic_owned.specs.TreeEdits.{edit_at, set};
+ghost use Rattle.sonic_owned.specs.Views.{form};
+ghost use Rattle.sonic_text.specs.Quoting.{quoted};
+
+use sonic_error::Result;
+use sonic_input::FastStr;
 use sonic_lazy::JsonContainerTrait;
-use sonic_owned::{LazyObject, OwnedLazyValue};
+use sonic_owned::{Change, LazyObject, OwnedLazyValue};
+use sonic_pointer::pointer;
 use std::alloc::Global;
 use std::io;
 
 const SETTINGS: &str =
     r#"{"theme": "d\u00e4mmerung", "tabs": { "width" : 4 }, "plugins": ["a", "b"]}"#;
+
+const NESTED: &str = r#"{"editor": {"theme": "dunkel", "wrap": true}, "plugins": [ "a" ]}"#;
 
 // Prints the keys of an object that is opened.
 fn show_keys(rt: &impl Print, object: &LazyObject) -> io::Result<()> {
@@ -32,7 +45,29 @@ fn show_text(rt: &impl Print, alloc: Global, object: &LazyObject, key: &str) -> 
     }
 }
 
-/// One level of a file of settings: its keys, the text of one, and what is written afterwards.
+/// Sets the theme of the editor, and leaves all else as it was. `false` where there is no such setting.
+pub fn set_theme(alloc: Global, settings: &mut OwnedLazyValue, theme: FastStr) -> Result<bool>
+    ensures { IfOk result (λ is_set. IsTrue is_set
+        → IsEdit (edit_at theme_path (set (raw (quoted theme)))) (form settings.old) (form settings.new)) }
+{
+    let theme = OwnedLazyValue::from_text(theme);
+    settings.edit(alloc, &pointer!["editor", "theme"], Change::Set(theme))
+}
+
+// Prints what is written once the theme is set.
+fn show_edited(rt: &impl Print, alloc: Global, settings: &mut OwnedLazyValue) -> io::Result<()> {
+    let Ok(theme) = FastStr::new(alloc, "hell") else {
+        return println!(rt; "out of memory");
+    };
+    match set_theme(alloc, settings, theme) {
+        Ok(true) => println!(rt; "{settings}"),
+        Ok(false) => println!(rt; "there is no theme"),
+        Err(error) => println!(rt; "{error}"),
+    }
+}
+
+/// One level of a file of settings: its keys, the text of one, and what is written afterwards. Then a
+/// setting inside another one is changed.
 pub fn show(rt: &impl Print, alloc: Global) -> io::Result<()> {
     let mut settings = match OwnedLazyValue::from_str(alloc, SETTINGS) {
         Ok(settings) => settings,
@@ -47,5 +82,9 @@ pub fn show(rt: &impl Print, alloc: Global) -> io::Result<()> {
     show_keys(rt, object)?;
     show_text(rt, alloc, object, "theme")?;
     show_text(rt, alloc, object, "tabs")?;
-    println!(rt; "{settings}")
+    println!(rt; "{settings}")?;
+    match OwnedLazyValue::from_str(alloc, NESTED) {
+        Ok(mut settings) => show_edited(rt, alloc, &mut settings),
+        Err(error) => println!(rt; "{error}"),
+    }
 }

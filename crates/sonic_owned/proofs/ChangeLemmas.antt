@@ -32,7 +32,7 @@ named_more [] k g = refl
 named_more (m ∷ ms) k g = ap (λ l. member (Some m.0) m.1 l) (named_more ms k g)
 
 -- a form that is opened to a level is of its kind
-opened_kind : {f : Form} {kind : Kind} {ms : Members} → IsOpened f (level kind ms) → scalar_of_form f ≡ container kind
+pub opened_kind : {f : Form} {kind : Kind} {ms : Members} → IsOpened f (level kind ms) → scalar_of_form f ≡ container kind
 opened_kind (as_it_was shut e) = rw (← e) refl
 opened_kind {kind = kind} (level_opened {kind = other} e k all is) = rw e (let same : other ≡ kind = cc in k ∙ ap container same)
 
@@ -51,12 +51,15 @@ pub not_paired : {f g w : Form} {k : List ℕ} → scalar_of_form f ≢ containe
 not_paired other (is_paired opened is) = other (opened_kind opened)
 
 -- a level that is appended to
-pub array_pushed : {f o h w : Form} (fs : List Form) {gs : List Form} → IsOpened f o → o ≡ level Array (unnamed fs) → gs ≡ fs ++ w ∷ [] → h ≡ level Array (unnamed gs) → IsChange f h (push w)
+pub array_pushed : {f o h w : Form} (fs : List Form) {gs : List Form} → IsOpened f o → o ≡ level Array (unnamed fs) → gs ≡ fs ++ w ∷ []
+    → h ≡ level Array (unnamed gs) → IsChange f h (push w)
 array_pushed {w = w} fs opened is more all = is_pushed (rw is at opened) (all ∙ ap (λ l. level Array (unnamed l)) more ∙ ap (level Array) (unnamed_more fs w))
 
-pub object_paired : {f o h w : Form} {k : List ℕ} (ms : List (List ℕ × Form)) {ns : List (List ℕ × Form)} → IsOpened f o → o ≡ level Object (named ms) → ns ≡ ms ++ (k, w) ∷ []
+pub object_paired : {f o h w : Form} {k : List ℕ} (ms : List (List ℕ × Form)) {ns : List (List ℕ × Form)} → IsOpened f o → o ≡ level Object (named ms)
+    → ns ≡ ms ++ (k, w) ∷ []
     → h ≡ level Object (named ns) → IsChange f h (pair k w)
-object_paired {w = w} {k} ms opened is more all = is_paired (rw is at opened) (all ∙ ap (λ l. level Object (named l)) more ∙ ap (level Object) (named_more ms k w))
+object_paired {w = w} {k} ms opened is more all = is_paired (rw is at opened)
+    (all ∙ ap (λ l. level Object (named l)) more ∙ ap (level Object) (named_more ms k w))
 
 -- what comes of an edit, by what came of the change of the part
 pub edit_made : {path : Path} {c : Change Form} {f m g h : Form} (r : Result Bool Error) → IsPut path f m g h → IsChanged c m g r
@@ -91,12 +94,14 @@ edit_nowhere m none h edit =
     none g leads
 
 -- an error for want of memory is that of a change that failed
-pub change_stopped : {c : Change Form} {f g : Form} (r : Result Bool Error) → IsErr r → IfErr r (λ e. IsPlainError e NoMemory) → MeansStill f g → IsChanged c f g r
+pub change_stopped : {c : Change Form} {f g : Form} (r : Result Bool Error) → IsErr r → IfErr r (λ e. IsPlainError e NoMemory) → MeansStill f g
+    → IsChanged c f g r
 change_stopped (Ok b) is plain still = absurd cc
 change_stopped (Err e) is plain still = change_failed plain still
 
 -- so it is with an edit whose path is within the limit
-pub edit_unreached : (path : List PointerNode) (r : Result Bool Error) → ¬ (255 < length path) → IfErr r (λ e. IsPlainError e NoMemory) → IfErr r (IsUnreached (path_of path))
+pub edit_unreached : (path : List PointerNode) (r : Result Bool Error) → ¬ (255 < length path) → IfErr r (λ e. IsPlainError e NoMemory)
+    → IfErr r (IsUnreached (path_of path))
 edit_unreached path (Ok b) short plain = tt
 edit_unreached path (Err e) short plain =
     let few : length path ≤ 255 = by_order short in

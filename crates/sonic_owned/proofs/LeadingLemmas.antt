@@ -2,9 +2,9 @@
 use Rattle.std.proofs.Common.{◌<◌, ◌+◌, ◌≡◌, ◌≢◌, ◌-◌, ◌∙◌, ap, sym, inl, inr, refl, ℕ, zero, suc, List, [], ◌∷◌, length, drop, get_or, Option, Some, None, true, false, nat_eq, arith}
 use Rattle.std.proofs.lemmas.Bool.{cases_Bool}
 use Rattle.std.specs.Cmp.Lexicographic.{pointwise, nat_list_eq_equiv}
-use Rattle.std.proofs.lemmas.Option.{slice_get_past}
+use Rattle.std.proofs.lemmas.Option.{same_Some, slice_get_past}
 use Rattle.std.specs.List.{slice_get}
-use Rattle.std.specs.Option.{IfSome, option_map_or}
+use Rattle.std.specs.Option.{IfSome}
 use Rattle.sonic_owned.proofs.Lists.{texts_equal, none_not_some}
 use Rattle.sonic_owned.specs.Forms.{Form, raw, level, Members, unnamed, named}
 use Rattle.sonic_lazy.proofs.PathLemmas.Outcome.{nowhere_ends}
@@ -46,10 +46,6 @@ item_at_list [] n = refl
 item_at_list (f ∷ fs) zero = refl
 item_at_list (f ∷ fs) (suc n) = item_at_list fs n
 
--- what an option holds is one
-some_one : {X : Type 0} {x y : X} → ◌≡◌ {A = Option X} (Some x) (Some y) → x ≡ y
-some_one {x = x} e = ap (λ o. option_map_or (λ z. z) o x) e
-
 -- what follows from what holds of the one in an option holds of it
 pub some_follows : {X : Type 0} {P Q : X → Type 0} (o : Option X) → ((x : X) → P x → Q x) → IfSome o P → IfSome o Q
 some_follows None step tt = tt
@@ -66,9 +62,9 @@ no_key_first m ms k none = elim (cases_Bool (pointwise nat_eq m.0 k)) [ inl same
 pub item_of_first : (ms : List (List ℕ × Form)) (k : List ℕ) (i : ℕ) (p : List ℕ × Form) → IsFirstOfKey ms k i → slice_get ms i ≡ Some p → item_of k (named ms) ≡ Some p.1
 item_of_first [] k i p first e = absurd (none_not_some (sym (slice_get_past [] i (omega arith)) ∙ e))
 item_of_first (m ∷ ms) k zero p first e =
-    let key : m.0 ≡ k = ap (λ t. t.0) (some_one first.here.1) in
+    let key : m.0 ≡ k = ap (λ t. t.0) (same_Some _ _ first.here.1) in
     let same : pointwise nat_eq m.0 k ≡ true = rw key (nat_list_eq_equiv.refl k) in
-    rw same (ap (λ q. Some q.1) (some_one e))
+    rw same (ap (λ q. Some q.1) (same_Some _ _ e))
 item_of_first (m ∷ ms) k (suc i) p first e =
     let other = no_key_first m ms k (first.first 0 (omega arith)) in
     rw other (item_of_first ms k i p (record { here = first.here; first = λ q l h. first.first (suc q) (omega arith) h }) e)
@@ -78,10 +74,13 @@ item_of_none [] k none = refl
 item_of_none (m ∷ ms) k none = rw (no_key_first m ms k (none 0)) (item_of_none ms k (λ p h. none (suc p) h))
 
 -- a text whose first byte is no bracket has no items
+pub kind_nowhere : {b : List ℕ} (node : Node) → byte b (after_space b 0) ≢ opening (kind_of node) → Nowhere node (raw b)
+kind_nowhere node other rest g (leads_on e l) = absurd cc
+kind_nowhere node other rest g (leads_in_text (goes_on l e)) = other (items_open l.before.fit)
+kind_nowhere {b} node other rest g (leads_in_text {i = i} {j} (leads_nowhere {j = e} y none clash)) = absurd (rw (← clash) at (nowhere_ends b (after_space b 0) (e - 1) (kind_of node)))
+
 pub scalar_nowhere : {b : List ℕ} (node : Node) → ((kind : Kind) → byte b (after_space b 0) ≢ opening kind) → Nowhere node (raw b)
-scalar_nowhere node other rest g (leads_on e l) = absurd cc
-scalar_nowhere {b} node other rest g (leads_in_text (goes_on l e)) = other _ (items_open l.before.fit)
-scalar_nowhere {b} node other rest g (leads_in_text {i = i} {j} (leads_nowhere {j = e} y none clash)) = absurd (rw (← clash) at (nowhere_ends b (after_space b 0) (e - 1) (kind_of node)))
+scalar_nowhere node other = kind_nowhere node (other (kind_of node))
 
 -- a level that lacks the item leads nowhere
 pub level_nowhere : {f : Form} (node : Node) → item_in node f ≡ None → ((b : List ℕ) → f ≢ raw b) → Nowhere node f
@@ -90,7 +89,7 @@ level_nowhere node none is rest g (leads_in_text {b = b} l) = is b refl
 
 -- where the node names an item, the path goes on there
 pub goes_in : {node : Node} {rest : Path} {f h g : Form} → item_in node f ≡ Some h → LeadsTo (node ∷ rest) f g → LeadsTo rest h g
-goes_in {rest = rest} {g = g} e (leads_on i l) = rw (some_one (sym e ∙ i)) l
+goes_in {rest = rest} {g = g} e (leads_on i l) = rw (same_Some _ _ (sym e ∙ i)) l
 goes_in e (leads_in_text l) = absurd cc
 
 -- in a text that isn't opened it goes as there

@@ -1,11 +1,16 @@
+mod Answered
+mod AnswerLemmas
 mod ChangeLemmas
-mod EditLemmas
+pub mod DocumentLemmas
+pub mod EditLemmas
 mod Folds
 mod IntegerLemmas
 mod KeptTextLemmas
 mod LeadingLemmas
+mod Lent
 mod LevelLemmas
 mod Lists
+mod Loans
 mod MeaningLemmas
 mod MeantPathLemmas
 mod OpenedLemmas
@@ -19,4 +24,5 @@ mod ReachLemmas
 mod TextLemmas
 mod Texts
 mod Utf8Lemmas
-mod ValueLemmas
+pub mod ValueLemmas
+mod WalkLemmas

@@ -11,12 +11,14 @@ use Rattle.sonic_owned.proofs.Lists.{none_not_some}
 use Rattle.sonic_owned.proofs.MeaningLemmas.{form_scalar}
 use Rattle.sonic_owned.proofs.MeantPathLemmas.{leads_meant}
 use Rattle.sonic_owned.proofs.OpeningLemmas.{opened_means}
-use Rattle.sonic_owned.specs.Forms.{Form, raw, level, Members, member, unnamed, named, FormMeans, raw_means, level_means, MembersMean, no_member_means, member_means}
+use Rattle.sonic_owned.specs.Forms.{Form, raw, level, Members, member, unnamed, named, scalar_of_form, FormMeans, raw_means, level_means, MembersMean, no_member_means, member_means}
 use Rattle.sonic_owned.specs.Leading.{item_at, item_of, item_in}
-use Rattle.sonic_owned.specs.Opened.{IsClosedContainer, IsOpened, as_it_was, level_opened}
+use Rattle.sonic_lazy.specs.Paths.{kind_of}
+use Rattle.sonic_lazy.specs.Scalars.{container as container_of}
+use Rattle.sonic_owned.specs.Opened.{IsClosedContainer, IsClosedOf, IsOpened, as_it_was, level_opened}
 use Rattle.sonic_owned.specs.Owned.{HasKeyAt, IsFirstOfKey}
 use Rattle.sonic_owned.specs.Puts.{put_at, put_of, put_in, IsPut, put_here, put_on, with_value}
-use Rattle.sonic_owned.specs.Reached.{MeansStill, LeadsNowhere}
+use Rattle.sonic_owned.specs.Reached.{IsOpenedOn, opened_here, opened_further, MeansStill, LeadsNowhere}
 use Rattle.sonic_pointer.specs.Nodes.{node_of, path_of}
 use Rattle.sonic_pointer.specs.declared.node.PointerNode.{PointerNode}
 use Rattle.sonic_pointer.specs.declared.node.PointerNode.TheVariants as pointer
@@ -34,12 +36,12 @@ pub record IsStepIn (node : Node) (f o k w h : Form) : Type 0 where
   pub put : h ≡ put_in node w o
 
 -- a list with another value at a position, as the items of a level
-put_unnamed : (fs : List Form) (n : ℕ) (w : Form) → put_at n w (unnamed fs) ≡ unnamed (slice_set fs n w)
+pub put_unnamed : (fs : List Form) (n : ℕ) (w : Form) → put_at n w (unnamed fs) ≡ unnamed (slice_set fs n w)
 put_unnamed [] n w = refl
 put_unnamed (f ∷ fs) zero w = refl
 put_unnamed (f ∷ fs) (suc n) w = ap (λ ms. member None f ms) (put_unnamed fs n w)
 
-put_named : (ms : List (List ℕ × Form)) (k : List ℕ) (i : ℕ) (w : Form) → IsFirstOfKey ms k i → put_of k w (named ms) ≡ named (with_value i w ms)
+pub put_named : (ms : List (List ℕ × Form)) (k : List ℕ) (i : ℕ) (w : Form) → IsFirstOfKey ms k i → put_of k w (named ms) ≡ named (with_value i w ms)
 put_named [] k i w first = refl
 put_named (m ∷ ms) k zero w first =
     let key : m.0 ≡ k = ap (λ t. t.0) (same_Some _ _ first.here.1) in
@@ -50,7 +52,8 @@ put_named (m ∷ ms) k (suc i) w first =
     rw other (ap (λ l. member (Some m.0) m.1 l) (put_named ms k i w (record { here = first.here; first = λ q l h. first.first (suc q) (omega arith) h })))
 
 -- a step to an element
-pub array_step : {f o k w h : Form} (fs : List Form) {gs : List Form} (i : ℕ) → IsOpened f o → o ≡ level Array (unnamed fs) → Some k ≡ slice_get fs i → gs ≡ slice_set fs i w
+pub array_step : {f o k w h : Form} (fs : List Form) {gs : List Form} (i : ℕ) → IsOpened f o → o ≡ level Array (unnamed fs) → Some k ≡ slice_get fs i
+    → gs ≡ slice_set fs i w
     → h ≡ level Array (unnamed gs) → IsStepIn (index i) f o k w h
 array_step {w = w} fs i opened is at left all = record {
   opened = opened;
@@ -59,10 +62,12 @@ array_step {w = w} fs i opened is at left all = record {
 }
 
 -- and one to the first member with a key
-first_value : (ms : List (List ℕ × Form)) (k : List ℕ) (i : ℕ) (v : Form) → IsFirstOfKey ms k i → Some v ≡ option_map (λ (m : List ℕ × Form). m.1) (slice_get ms i) → item_of k (named ms) ≡ Some v
+first_value : (ms : List (List ℕ × Form)) (k : List ℕ) (i : ℕ) (v : Form) → IsFirstOfKey ms k i
+    → Some v ≡ option_map (λ (m : List ℕ × Form). m.1) (slice_get ms i) → item_of k (named ms) ≡ Some v
 first_value ms k i v first at = item_of_first ms k i _ first first.here.1 ∙ sym (rw first.here.1 at at)
 
-pub object_step : {f o v w h : Form} (ms : List (List ℕ × Form)) {ns : List (List ℕ × Form)} (k : List ℕ) (i : ℕ) → IsOpened f o → o ≡ level Object (named ms) → IsFirstOfKey ms k i
+pub object_step : {f o v w h : Form} (ms : List (List ℕ × Form)) {ns : List (List ℕ × Form)} (k : List ℕ) (i : ℕ) → IsOpened f o
+    → o ≡ level Object (named ms) → IsFirstOfKey ms k i
     → Some v ≡ option_map (λ (m : List ℕ × Form). m.1) (slice_get ms i) → ns ≡ with_value i w ms → h ≡ level Object (named ns) → IsStepIn (key k) f o v w h
 object_step {v = v} {w} ms k i opened is first at left all = record {
   opened = opened;
@@ -74,8 +79,21 @@ object_step {v = v} {w} ms k i opened is first at left all = record {
 pub step_put : {node : Node} {path rest : Path} {f o k w h m g : Form} → path ≡ node ∷ rest → IsStepIn node f o k w h → IsPut rest k m g w → IsPut path f m g h
 step_put is s p = rw is (put_on s.opened s.item p s.put)
 
+-- what is to be opened on the way from the item is on the way from the value
+pub step_opened : {node : Node} {path rest : Path} {f o k w h : Form} → path ≡ node ∷ rest → IsStepIn node f o k w h → IsOpenedOn rest k → IsOpenedOn path f
+step_opened is s on = rw is (opened_further s.opened s.item on)
+
+-- and so is a container that isn't opened, of the kind that the first node asks for
+pub closed_of : (f : Form) {kind : Kind} → IsClosedContainer f → scalar_of_form f ≡ container_of kind → IsClosedOf kind f
+closed_of (raw b) shut is = is
+closed_of (level kind ms) shut is = absurd shut
+
+pub first_opened : {node : Node} {path rest : Path} {f : Form} → path ≡ node ∷ rest → IsClosedContainer f → scalar_of_form f ≡ container_of (kind_of node) → IsOpenedOn path f
+first_opened {f = f} is shut kind = rw is (opened_here (closed_of f shut kind))
+
 -- where no path leads from the item, none leads from the value
-pub step_nowhere : {node : Node} {path rest : Path} {f o k w h : Form} → path ≡ node ∷ rest → IsStepIn node f o k w h → LeadsNowhere rest k → LeadsNowhere path f
+pub step_nowhere : {node : Node} {path rest : Path} {f o k w h : Form} → path ≡ node ∷ rest → IsStepIn node f o k w h → LeadsNowhere rest k
+    → LeadsNowhere path f
 step_nowhere is s none g l = none g (goes_in s.item ((opened_alike s.opened).on g (rw is at l)))
 
 -- items of which one means what it meant
@@ -84,7 +102,8 @@ at_still n no_member_means e same = absurd (none_not_some e)
 at_still zero (member_means {v = x} m ms) e same = member_means (same x (rw (same_Some _ _ e) at m)) ms
 at_still (suc n) (member_means m ms) e same = member_means m (at_still n ms e same)
 
-of_still : (name : List ℕ) {ms : Members} {xs : Items} {k w : Form} → MembersMean ms xs → item_of name ms ≡ Some k → MeansStill k w → MembersMean (put_of name w ms) xs
+of_still : (name : List ℕ) {ms : Members} {xs : Items} {k w : Form} → MembersMean ms xs → item_of name ms ≡ Some k → MeansStill k w
+    → MembersMean (put_of name w ms) xs
 of_still name no_member_means e same = absurd (none_not_some e)
 of_still name (member_means {l = None} m ms) e same = member_means m (of_still name ms e same)
 of_still name {w = w} (member_means {l = Some l} {v = x} m ms) e same = elim (cases_Bool (pointwise nat_eq l name)) [
@@ -92,7 +111,7 @@ of_still name {w = w} (member_means {l = Some l} {v = x} m ms) e same = elim (ca
   | inr other ↦ rw other (member_means m (of_still name ms (rw other at e) same))
 ]
 
-item_still : (node : Node) {o k w : Form} {x : Tree} → FormMeans o x → item_in node o ≡ Some k → MeansStill k w → FormMeans (put_in node w o) x
+pub item_still : (node : Node) {o k w : Form} {x : Tree} → FormMeans o x → item_in node o ≡ Some k → MeansStill k w → FormMeans (put_in node w o) x
 item_still node (raw_means m) e same = absurd (none_not_some e)
 item_still (index n) (level_means {kind = Array} ms) e same = level_means (at_still n ms e same)
 item_still (index n) (level_means {kind = Object} ms) e same = absurd (none_not_some e)
@@ -111,7 +130,8 @@ opened_still opened x m = opened_means opened m
 pub array_still : {f o h : Form} {fs gs : List Form} → IsOpened f o → o ≡ level Array (unnamed fs) → gs ≡ fs → h ≡ level Array (unnamed gs) → MeansStill f h
 array_still opened is same all x m = rw (all ∙ ap (λ l. level Array (unnamed l)) same ∙ sym is) (opened_means opened m)
 
-pub object_still : {f o h : Form} {ms ns : List (List ℕ × Form)} → IsOpened f o → o ≡ level Object (named ms) → ns ≡ ms → h ≡ level Object (named ns) → MeansStill f h
+pub object_still : {f o h : Form} {ms ns : List (List ℕ × Form)} → IsOpened f o → o ≡ level Object (named ms) → ns ≡ ms → h ≡ level Object (named ns)
+    → MeansStill f h
 object_still opened is same all x m = rw (all ∙ ap (λ l. level Object (named l)) same ∙ sym is) (opened_means opened m)
 
 -- an opened form that means a container is a level
@@ -123,7 +143,8 @@ open_level {kind = kind} (as_it_was shut e) (raw_means {b = b} m) =
 open_level (level_opened e k all is) (raw_means m) = absurd cc
 
 -- where the opened form is no array, no path leads on by an index, and where it is no object, none by a key
-pub no_array : {f o : Form} {x : Tree} {i : ℕ} {path rest : Path} → path ≡ index i ∷ rest → IsOpened f o → FormMeans f x → ((ms : Members) → o ≢ level Array ms) → LeadsNowhere path f
+pub no_array : {f o : Form} {x : Tree} {i : ℕ} {path rest : Path} → path ≡ index i ∷ rest → IsOpened f o → FormMeans f x
+    → ((ms : Members) → o ≢ level Array ms) → LeadsNowhere path f
 no_array {o = o} {x} {i} {rest = rest} is opened m none g l = let (w, there, e) = leads_meant (rw is at l) m in no_elements x (opened_means opened m) e
   where
     no_elements : {w : Tree} (y : Tree) → FormMeans o y → leads y (index i ∷ rest) ≡ Some w → ⊥
@@ -134,7 +155,8 @@ no_array {o = o} {x} {i} {rest = rest} is opened m none g l = let (w, there, e) 
     no_elements (numeral b) m e = none_not_some e
     no_elements (text b) m e = none_not_some e
 
-pub no_object : {f o : Form} {x : Tree} {k : List ℕ} {path rest : Path} → path ≡ key k ∷ rest → IsOpened f o → FormMeans f x → ((ms : Members) → o ≢ level Object ms) → LeadsNowhere path f
+pub no_object : {f o : Form} {x : Tree} {k : List ℕ} {path rest : Path} → path ≡ key k ∷ rest → IsOpened f o → FormMeans f x
+    → ((ms : Members) → o ≢ level Object ms) → LeadsNowhere path f
 no_object {o = o} {x} {k} {rest = rest} is opened m none g l = let (w, there, e) = leads_meant (rw is at l) m in no_members x (opened_means opened m) e
   where
     no_members : {w : Tree} (y : Tree) → FormMeans o y → leads y (key k ∷ rest) ≡ Some w → ⊥
@@ -146,10 +168,12 @@ no_object {o = o} {x} {k} {rest = rest} is opened m none g l = let (w, there, e)
     no_members (text b) m e = none_not_some e
 
 -- a level that lacks the item leads nowhere by it
-lacks : {f o : Form} {node : Node} {path rest : Path} → path ≡ node ∷ rest → IsOpened f o → item_in node o ≡ None → ((b : List ℕ) → o ≢ raw b) → LeadsNowhere path f
+lacks : {f o : Form} {node : Node} {path rest : Path} → path ≡ node ∷ rest → IsOpened f o → item_in node o ≡ None → ((b : List ℕ) → o ≢ raw b)
+    → LeadsNowhere path f
 lacks {node = node} {rest = rest} is opened none shut g l = level_nowhere node none shut rest g ((opened_alike opened).on g (rw is at l))
 
-pub array_lacks : {f o : Form} (fs : List Form) {i : ℕ} {path rest : Path} → path ≡ index i ∷ rest → IsOpened f o → o ≡ level Array (unnamed fs) → None ≡ slice_get fs i
+pub array_lacks : {f o : Form} (fs : List Form) {i : ℕ} {path rest : Path} → path ≡ index i ∷ rest → IsOpened f o → o ≡ level Array (unnamed fs)
+    → None ≡ slice_get fs i
     → LeadsNowhere path f
 array_lacks fs {i} path opened is none = lacks path opened (rw is (item_at_list fs i ∙ sym none)) (λ b e. absurd cc)
 
@@ -166,13 +190,15 @@ put_still (put_on {node} opened item p is) same x m = rw is (item_still node (op
 abbrev rest_of : List PointerNode → List PointerNode
 rest_of path = take (length path - 1) (drop 1 path)
 
-begins : (path : List PointerNode) (d : PointerNode) → 1 ≤ length path → path_of path ≡ node_of (get_or path 0 d) ∷ path_of (rest_of path)
+pub begins : (path : List PointerNode) (d : PointerNode) → 1 ≤ length path → path_of path ≡ node_of (get_or path 0 d) ∷ path_of (rest_of path)
 begins path d some = rw (take_rest path 1) (next_node path 0 d (omega (arith, some)))
 
-pub path_index : (path : List PointerNode) (d : PointerNode) (i : ℕ) → 1 ≤ length path → get_or path 0 d ≡ pointer.Index i → path_of path ≡ index i ∷ path_of (rest_of path)
+pub path_index : (path : List PointerNode) (d : PointerNode) (i : ℕ) → 1 ≤ length path → get_or path 0 d ≡ pointer.Index i
+    → path_of path ≡ index i ∷ path_of (rest_of path)
 path_index path d i some is = begins path d some ∙ ap (λ n. node_of n ∷ path_of (rest_of path)) is
 
-pub path_key : (path : List PointerNode) (d : PointerNode) (k : _) → 1 ≤ length path → get_or path 0 d ≡ pointer.Key k → path_of path ≡ key k.now ∷ path_of (rest_of path)
+pub path_key : (path : List PointerNode) (d : PointerNode) (k : _) → 1 ≤ length path → get_or path 0 d ≡ pointer.Key k
+    → path_of path ≡ key k.now ∷ path_of (rest_of path)
 path_key path d k some is = begins path d some ∙ ap (λ n. node_of n ∷ path_of (rest_of path)) is
 
 pub path_empty : (path : List PointerNode) → length path < 1 → path_of path ≡ []
@@ -187,6 +213,10 @@ if_ok_then (Err e) step p = tt
 pub on_err_then : {A E : Type 0} (r : Result A E) {P Q : Type 0} → (P → Q) → OnErr r P → OnErr r Q
 on_err_then (Ok a) step p = tt
 on_err_then (Err e) step p = step p
+
+pub on_err : {A E : Type 0} (r : Result A E) {P : Type 0} → P → OnErr r P
+on_err (Ok a) p = tt
+on_err (Err e) p = p
 
 pub if_some_then : {A E : Type 0} (r : Result (Option A) E) {P Q : A → Type 0} → ((a : A) → P a → Q a) → IfOk r (λ o. IfSome o P) → IfOk r (λ o. IfSome o Q)
 if_some_then (Ok (Some a)) step p = step a p

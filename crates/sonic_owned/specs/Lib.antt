@@ -3,6 +3,7 @@ pub mod Edits
 pub mod Forms
 pub mod Integers
 pub mod Leading
+pub mod Lends
 pub mod Opened
 pub mod Owned
 pub mod Puts

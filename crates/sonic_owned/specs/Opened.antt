@@ -24,6 +24,11 @@ abbrev pub IsClosedContainer : Form → Type 0
 IsClosedContainer (raw b) = (kind : Kind) × (scalar_of b ≡ container kind)
 IsClosedContainer (level kind ms) = ⊥
 
+-- and one of this kind
+abbrev pub IsClosedOf : Kind → Form → Type 0
+IsClosedOf kind (raw b) = scalar_of b ≡ container kind
+IsClosedOf kind (level k ms) = ⊥
+
 -- the second form is the first with its first level opened: a container that wasn't is the level of its items, and everything else is as it was
 pub data IsOpened (f g : Form) : Type 0 where
   as_it_was : ¬ IsClosedContainer f → g ≡ f → IsOpened f g

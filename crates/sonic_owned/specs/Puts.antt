@@ -32,6 +32,10 @@ pub data IsPut : Path → (f m g h : Form) → Type 0 where
   put_on : {node : Node} {rest : Path} {f o i m g j h : Form} → IsOpened f o → item_in node o ≡ Some i → IsPut rest i m g j → h ≡ put_in node j o
       → IsPut (node ∷ rest) f m g h
 
+-- the path leads to m in the form f, with each level on the way opened
+abbrev pub IsPart : Path → Form → Form → Type 0
+IsPart path f m = (h : Form) × IsPut path f m m h
+
 -- members with another value at a position, whose key stays
 abbrev pub with_value : ℕ → Form → List (List ℕ × Form) → List (List ℕ × Form)
 with_value n g [] = []

@@ -1,16 +1,18 @@
 -- What a call that changes a part of a value leaves of it.
-use Rattle.std.specs.Prelude.{◌≡◌, ◌<◌, ◌≤◌, Bool, true, false, Result, Ok, Err, length}
+use Rattle.std.specs.Prelude.{◌≡◌, ◌<◌, ◌≤◌, ◌∷◌, Bool, true, false, Result, Ok, Err, Some, length}
 use Rattle.sonic_error.specs.Errors.{IsPlainError}
 use Rattle.sonic_error.specs.declared.code.ErrorCode.TheVariants.{NoMemory, RecursionLimitExceeded}
 use Rattle.sonic_error.specs.declared.error.Error.{Error}
+use Rattle.sonic_lazy.specs.Paths.{kind_of}
 use Rattle.sonic_owned.specs.Edits.{IsChange}
 use Rattle.sonic_owned.specs.Forms.{Form, FormMeans}
-use Rattle.sonic_owned.specs.Leading.{LeadsTo}
+use Rattle.sonic_owned.specs.Leading.{LeadsTo, item_in}
+use Rattle.sonic_owned.specs.Opened.{IsOpened, IsClosedOf}
 use Rattle.sonic_owned.specs.Puts.{IsPut}
 use Rattle.sonic_owned.specs.TreeEdits.{Change}
 use Rattle.sonic_owned.specs.Views.{form}
 use Rattle.sonic_owned.specs.declared.value.OwnedLazyValue.{OwnedLazyValue}
-use Rattle.sonic_text.specs.Paths.{Path}
+use Rattle.sonic_text.specs.Paths.{Node, Path}
 use Rattle.sonic_text.specs.Trees.{Tree}
 
 -- g means what f means
@@ -20,6 +22,11 @@ MeansStill f g = (x : Tree) → FormMeans f x → FormMeans g x
 -- the path leads to nothing in the form
 abbrev pub LeadsNowhere : Path → Form → Type 0
 LeadsNowhere path f = (g : Form) → ¬ LeadsTo path f g
+
+-- on its way the path comes to a container that isn't opened, of the kind that the next node asks for
+pub data IsOpenedOn : Path → Form → Type 0 where
+  opened_here : {node : Node} {rest : Path} {f : Form} → IsClosedOf (kind_of node) f → IsOpenedOn (node ∷ rest) f
+  opened_further : {node : Node} {rest : Path} {f level i : Form} → IsOpened f level → item_in node level ≡ Some i → IsOpenedOn rest i → IsOpenedOn (node ∷ rest) f
 
 -- after is before but for the part to which the path leads, of which this was left
 pub record IsChangedAt (path : Path) (before after : OwnedLazyValue) (Left : OwnedLazyValue → OwnedLazyValue → Type 0) : Type 0 where

@@ -24,6 +24,8 @@ mod convert;
 mod copy;
 // What a value is.
 mod kind;
+// Parts that are lent.
+mod lend;
 // The levels that are opened.
 mod level;
 // The first level opened.

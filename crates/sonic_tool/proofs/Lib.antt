@@ -1,5 +1,6 @@
 mod BufferLemmas
 mod CommandLemmas
+mod EditLemmas
 mod GetLemmas
 mod ListLemmas
 mod OutsideLemmas

@@ -1,42 +1,48 @@
 -- The words and the input have one report.
-use Rattle.std.proofs.Common.{◌≡◌, ◌⊎◌, inl, inr, ℕ, List, length, arith, refl}
+use Rattle.std.proofs.Common.{◌≡◌, ◌⊎◌, ◌∙◌, inl, inr, ℕ, List, [], length, get_or, arith, ap, refl, sym}
+use Rattle.std.specs.Prelude.{◌==◌, if◌then◌else◌}
 use Rattle.std.proofs.lemmas.Bool.{cases_lt}
 use Rattle.sonic_tool.specs.declared.commands.Command.{Command}
-use Rattle.sonic_tool.specs.declared.commands.Command.TheVariants.{Get, List as Items}
+use Rattle.sonic_tool.specs.declared.commands.Command.TheVariants.{Get, List as Items, Edit}
 use Rattle.sonic_tool.specs.declared.outside.reading.TheConstants.{LIMIT}
 use Rattle.sonic_tool.specs.declared.status.Status.{Status}
 use Rattle.sonic_tool.specs.declared.status.Status.TheVariants.{Done, NoMemory}
-use Rattle.sonic_tool.specs.Commands.{Asks, no_word, get_word, list_word}
+use Rattle.sonic_tool.specs.Commands.{Asks, no_word, get_word, list_word, edit_word}
 use Rattle.sonic_tool.specs.Commands.Get.{IsAnswerableInput}
 use Rattle.sonic_tool.specs.Laws.{HasOneReport}
 use Rattle.sonic_tool.specs.Reports.{Writes, IsReport}
 use Rattle.sonic_tool.specs.Reports.IsReport.{usage, large, written}
 use Rattle.sonic_tool.proofs.CommandLemmas.{listed_or_not}
+use Rattle.sonic_tool.proofs.EditLemmas.{edit_report_one, edit_report_some}
 use Rattle.sonic_tool.proofs.GetLemmas.{Same, SomeText, get_report_one, get_report_some, answerable_report}
 use Rattle.sonic_tool.proofs.ListLemmas.{list_report_one, list_report_some}
 
+-- the command that words ask for, if they ask for one, by their first letter
+abbrev asked_by : List (List ℕ) → Command
+asked_by words = let letter = get_or (get_or words 0 []) 0 0 in if letter == 108 then Items else if letter == 101 then Edit else Get
+
+asks_this : {words : List (List ℕ)} {a : Command} → Asks words a → a ≡ asked_by words
+asks_this (no_word e) = sym (ap asked_by e)
+asks_this (get_word e) = sym (ap asked_by e)
+asks_this (list_word e) = sym (ap asked_by e)
+asks_this (edit_word e) = sym (ap asked_by e)
+
 -- words ask for one command
 asks_one : {words : List (List ℕ)} {a b : Command} → Asks words a → Asks words b → a ≡ b
-asks_one (no_word e) (no_word f) = refl
-asks_one (no_word e) (get_word f) = refl
-asks_one (no_word e) (list_word f) = absurd cc
-asks_one (get_word e) (no_word f) = refl
-asks_one (get_word e) (get_word f) = refl
-asks_one (get_word e) (list_word f) = absurd cc
-asks_one (list_word e) (no_word f) = absurd cc
-asks_one (list_word e) (get_word f) = absurd cc
-asks_one (list_word e) (list_word f) = refl
+asks_one x y = asks_this x ∙ sym (asks_this y)
 
 -- each command writes one report
 writes_one : (command : Command) (input text other : List ℕ) (status ending : Status) → Writes command input text status → Writes command input other ending
     → Same text status other ending
 writes_one Get input text other status ending r s = get_report_one r s
 writes_one Items input text other status ending r s = list_report_one r s
+writes_one Edit input text other status ending r s = edit_report_one r s
 
 -- of each input
 writes_some : (command : Command) (input : List ℕ) → SomeText (Writes command input)
 writes_some Get input = get_report_some input
 writes_some Items input = list_report_some input
+writes_some Edit input = edit_report_some input
 
 -- the words and the input have one report
 report_one : {words : List (List ℕ)} {input text other : List ℕ} {status ending : Status} → IsReport words input text status → IsReport words input other ending

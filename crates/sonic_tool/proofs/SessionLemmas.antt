@@ -5,13 +5,16 @@ use Rattle.std.specs.declared.option.Option.{Option}
 use Rattle.std.specs.Io.KnownBytes.{IsAtEnd}
 use Rattle.sonic_lazy.specs.Answers.{Answer}
 use Rattle.sonic_tool.specs.declared.commands.Command.{Command}
-use Rattle.sonic_tool.specs.declared.commands.Command.TheVariants.{Get, List as Items}
+use Rattle.sonic_tool.specs.declared.commands.Command.TheVariants.{Get, List as Items, Edit}
 use Rattle.sonic_tool.specs.declared.outside.reading.TheConstants.{LIMIT}
 use Rattle.sonic_tool.specs.declared.run.Request.{Request}
 use Rattle.sonic_tool.specs.declared.run.Request.TheVariants.{Usage, Large, Input}
 use Rattle.sonic_tool.specs.declared.status.Status.{Status}
 use Rattle.sonic_tool.specs.declared.status.Status.TheVariants.{Done, BadUsage, TooLarge, WriteFault}
 use Rattle.sonic_tool.specs.Commands.{IsListed}
+use Rattle.sonic_owned.specs.Forms.{Form}
+use Rattle.sonic_owned.specs.TreeEdits as edits
+use Rattle.sonic_tool.specs.Commands.Edits.{ReportsMade, refused, made, ReportsEdits, invalid, valid, IsEditReport, bad_edit, edited}
 use Rattle.sonic_tool.specs.Commands.Get.{IsAnswerReport, IsGetReport}
 use Rattle.sonic_tool.specs.Commands.Get.IsAnswerReport.{entry_lines, error_line}
 use Rattle.sonic_tool.specs.Commands.Get.IsGetReport.{bad_line, answered}
@@ -70,6 +73,21 @@ ended_status (stopped s) e = inr (inl e)
 list_status : {input text : List ℕ} {ending : Status} → IsListReport input text ending → IsOfInput ending
 list_status r = ended_status r.listing.ending r.ending
 
+-- what comes of the edits of a value
+made_status : {f : Form} {es : List (edits.Edit Form)} {text : List ℕ} {ending : Status} → ReportsMade f es text ending → IsOfInput ending
+made_status (refused r t e) = inr (inl e)
+made_status (made a t e) = inl e
+
+-- and of a document
+edits_status : {document : List ℕ} {es : List (edits.Edit Form)} {text : List ℕ} {ending : Status} → ReportsEdits document es text ending → IsOfInput ending
+edits_status (invalid s i t e) = inr (inl e)
+edits_status (valid v d r) = made_status r
+
+-- a report by `edit`
+edit_status : {input text : List ℕ} {ending : Status} → IsEditReport input text ending → IsOfInput ending
+edit_status (bad_edit b t e) = inr (inr e)
+edit_status (edited x r) = edits_status r
+
 -- a report of what the source had left, and what its status says of the words and of the source
 pub record IsPrepared (run : Session) (text : List ℕ) (ending : Status) : Type 0 where
   pub reply : IsReply run text ending
@@ -83,6 +101,7 @@ pub record IsPrepared (run : Session) (text : List ℕ) (ending : Status) : Type
 written_status : (command : Command) (input text : List ℕ) (ending : Status) → Writes command input text ending → IsOfInput ending
 written_status Get input text ending r = get_status r
 written_status Items input text ending r = list_status r
+written_status Edit input text ending r = edit_status r
 
 -- what answers the request is such a report
 pub prepared : (run : Session) {text : List ℕ} {ending : Status} (request : Request) → IsAsked run.words run.before.left run.after.left request

@@ -1,4 +1,5 @@
 -- The commands, and the words of a command line that ask for them.
+pub mod Edits
 pub mod Get
 pub mod Items
 use Rattle.std.specs.Prelude.{◌≡◌, List, [], ◌∷◌, ℕ, codes}
@@ -10,6 +11,7 @@ pub data Asks (words : List (List ℕ)) : Command → Type 0 where
   no_word : words ≡ [] → Asks words command.Get
   get_word : words ≡ codes "get" ∷ [] → Asks words command.Get
   list_word : words ≡ codes "list" ∷ [] → Asks words command.List
+  edit_word : words ≡ codes "edit" ∷ [] → Asks words command.Edit
 
 -- the words ask for some command
 abbrev pub IsListed : List (List ℕ) → Type 0

@@ -2,6 +2,8 @@
 ghost use Rattle.std.specs.Prelude.{◌≡◌, ◌∷◌, [], map, string_bytes, IfSome, IfNone};
 ghost use Rattle.sonic_tool.specs.Commands.{Asks, IsListed};
 
+// What `edit` writes: what the edits of an input's head make of its document.
+pub(crate) mod edit;
 // What `get` writes: where the paths of an input's head lead in its document.
 pub(crate) mod get;
 // What `list` writes: the items of the container that an input is.
@@ -14,6 +16,8 @@ pub enum Command {
     Get,
     /// The elements of an array or the members of an object. The word `list` asks for it.
     List,
+    /// The document as the edits of the head make it. The word `edit` asks for it.
+    Edit,
 }
 
 // The command that the words ask for.
@@ -36,6 +40,7 @@ fn named_command(word: &str) -> Option<Command>
     match word {
         "get" => Some(Command::Get),
         "list" => Some(Command::List),
+        "edit" => Some(Command::Edit),
         _ => None,
     }
 }

@@ -1,5 +1,6 @@
 // What no clause says: rows from outside, that calls succeed where nothing is wrong, and standard input and output.
 mod documents;
+mod edits;
 mod faults;
 mod format;
 mod lists;

@@ -74,16 +74,16 @@ const CASES: [Case; 24] = [
         true,
         "[[\n1\n]]",
     ),
-    // The path doesn't lead.
+    // The path doesn't lead. Where the kind is another, nothing is opened.
     ("[ 0 ]", &[Index(1)], ("set", "", "1"), false, "[0]"),
-    ("[ 0 ]", &[Key("a")], ("set", "", "1"), false, "[0]"),
+    ("[ 0 ]", &[Key("a")], ("set", "", "1"), false, "[ 0 ]"),
     ("{ }", &[Key("a")], ("set", "", "1"), false, "{}"),
     (
         r#"{"a": 1}"#,
         &[Index(0)],
         ("take", "", ""),
         false,
-        r#"{"a":1}"#,
+        r#"{"a": 1}"#,
     ),
     ("1.0", &[Index(0)], ("set", "", "1"), false, "1.0"),
     (

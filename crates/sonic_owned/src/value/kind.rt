@@ -1,19 +1,22 @@
 // What a value is, and the level that it is opened to.
-ghost use Rattle.std.specs.Prelude.{◌≡◌, ◌↔◌, length, IsSome, IfSome, IfOk, IfErr, OnErr, Some};
+ghost use Rattle.std.specs.Prelude.{◌≡◌, ◌↔◌, length, IsSome, IsTrue, IfSome, IfOk, IfErr, OnErr, Some};
 ghost use Rattle.std.specs.Fmt.{signed_decimal};
 ghost use Rattle.std.specs.Cow.{cow_str_bytes};
 ghost use Rattle.sonic_error.specs.Errors.{IsPlainError};
 ghost use Rattle.sonic_lazy.specs.RawNumbers.{IsNumberText};
-ghost use Rattle.sonic_lazy.specs.Scalars.{text as a_text};
+ghost use Rattle.sonic_lazy.specs.Paths.{kind_of};
+ghost use Rattle.sonic_lazy.specs.Scalars.{container, text as a_text};
 ghost use Rattle.sonic_owned.specs.Forms.{text, scalar_of_form};
 ghost use Rattle.sonic_owned.specs.Integers.{value};
 ghost use Rattle.sonic_owned.specs.Views.{form};
+ghost use Rattle.sonic_pointer.specs.Nodes.{node_of};
 ghost use Rattle.sonic_text.specs.Strings.{strict, IsString};
 
 use super::{LazyArray, LazyObject, Node, OwnedLazyValue};
 use crate::integer::Integer;
 use sonic_error::{Error, ErrorCode, JsonType, Result};
 use sonic_lazy::{JsonContainerTrait, JsonValueTrait, RawNumber};
+use sonic_pointer::PointerNode;
 use sonic_text::quoted_text_is_a_string;
 use std::alloc::Global;
 use std::borrow::CowStr;
@@ -63,6 +66,17 @@ impl JsonValueTrait for OwnedLazyValue {
 }
 
 impl OwnedLazyValue {
+    // Whether the value is of the kind that a node asks for.
+    pub(super) fn is_for(&self, node: PointerNode<'_>) -> bool
+        ensures { IsTrue result
+            ↔ (scalar_of_form (form self.now) ≡ container (kind_of (node_of node.entry))) }
+    {
+        match node {
+            PointerNode::Index(_) => self.is_array(),
+            PointerNode::Key(_) => self.is_object(),
+        }
+    }
+
     /// What the value denotes where it is a string (RFC 8259, section 7), and else `None`.
     ///
     /// The text is borrowed where the string was made of it, or has no backslash, and else made anew

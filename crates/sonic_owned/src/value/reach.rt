@@ -1,8 +1,8 @@
 // The value to which a path leads, changed where it is.
-ghost use Rattle.std.specs.Prelude.{◌≡◌, ◌<◌, IsErr, IfOk, IfErr, IfSome, OnErr, None, length};
+ghost use Rattle.std.specs.Prelude.{◌≡◌, ◌<◌, ◌≤◌, IsErr, IfOk, IfErr, IfSome, OnErr, None, length};
 ghost use Rattle.std.specs.Fn.{FnOnceReturnsAtMut};
 ghost use Rattle.sonic_error.specs.Errors.{IsPlainError};
-ghost use Rattle.sonic_owned.specs.Reached.{IsChangedAt, IsUnreached, LeadsNowhere, MeansStill};
+ghost use Rattle.sonic_owned.specs.Reached.{IsChangedAt, IsOpenedOn, IsUnreached, LeadsNowhere, MeansStill};
 ghost use Rattle.sonic_owned.specs.Views.{form};
 ghost use Rattle.sonic_pointer.specs.Nodes.{path_of};
 
@@ -42,6 +42,8 @@ impl OwnedLazyValue {
         ensures err { IfErr result (IsUnreached (path_of path.now)) }
         ensures kept { OnErr result (MeansStill (form self.old) (form self.new)) }
         ensures limit { 255 < length path.now → IsErr result × (self.new ≡ self.old) }
+        ensures memory { OnErr result (length path.now ≤ 255
+            → IsOpenedOn (path_of path.now) (form self.old)) }
     {
         if path.len() > MAX_NODES {
             return Err(Error::plain(ErrorCode::RecursionLimitExceeded));
@@ -64,10 +66,14 @@ impl OwnedLazyValue {
         ensures same { IfOk result (λ found. found ≡ None → MeansStill (form self.old) (form self.new)) }
         ensures err { IfErr result (λ error. IsPlainError error ErrorCode.NoMemory) }
         ensures kept { OnErr result (MeansStill (form self.old) (form self.new)) }
+        ensures memory { OnErr result (IsOpenedOn (path_of path.now) (form self.old)) }
     {
         let [node, rest @ ..] = path else {
             return Ok(Some(f(self)));
         };
+        if !self.is_for(*node) {
+            return Ok(None);
+        }
         self.load(alloc)?;
         match *node {
             PointerNode::Index(i) => match self.array_level() {

@@ -6,7 +6,7 @@ use std::test::Fail;
 // Words, an input, its report, and the status.
 type Example = (&'static [&'static str], &'static [u8], &'static str, Status);
 
-const EXAMPLES: [Example; 24] = [
+const EXAMPLES: [Example; 30] = [
     (
         &[],
         b"[\"a\"]\n[\"b\",1]\n[\"c\"]\n\n{\"a\": \"x\", \"b\": [2, 30]}",
@@ -135,6 +135,37 @@ const EXAMPLES: [Example; 24] = [
         b"[1, \"\xff\"]",
         "! syntax InvalidUTF8 1 6 5\n",
         Status::DocumentError,
+    ),
+    (
+        &["edit"],
+        b"[\"set\",[\"a\",1],true]\n\n{\"a\" : [1, 2] , \"b\":{ \"c\" : 0 }}",
+        "{\"a\":[1,true],\"b\":{ \"c\" : 0 }}\n",
+        Status::Done,
+    ),
+    (
+        &["edit"],
+        b"[\"pair\",[],\"z\",[ 1 ]]\n[\"take\",[\"a\"]]\n\n{\"a\":5}",
+        "{\"a\":null,\"z\":[ 1 ]}\n",
+        Status::Done,
+    ),
+    (&["edit"], b"\n {\"a\" : 1} ", "{\"a\" : 1}\n", Status::Done),
+    (
+        &["edit"],
+        b"[\"set\",[],{\"a\":{}}]\n[\"push\",[\"a\"],1]\n\n0",
+        "! edit 2\n",
+        Status::DocumentError,
+    ),
+    (
+        &["edit"],
+        b"[\"take\",[\"b\"]]\n\n{\"a\":1} x",
+        "! syntax TrailingCharacters 1 9 8\n",
+        Status::DocumentError,
+    ),
+    (
+        &["edit"],
+        b"[\"drop\",[]]\n\n0",
+        "! edits 1\n",
+        Status::BadLines,
     ),
 ];
 

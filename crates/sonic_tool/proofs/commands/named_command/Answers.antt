@@ -1,5 +1,5 @@
 use Rattle.std.proofs.Common.{ap, ◌∷◌, []}
-use Rattle.sonic_tool.specs.Commands.Asks.{get_word, list_word}
+use Rattle.sonic_tool.specs.Commands.Asks.{get_word, list_word, edit_word}
 use Rattle.sonic_tool.proofs.commands.named_command.Goals as goal
 
 pub returns-in-get-clause-asked : goal.returns-in-get-clause-asked
@@ -7,3 +7,6 @@ returns-in-get-clause-asked c = get_word (ap (λ w. w ∷ []) c.in-get.is)
 
 pub returns-in-list-clause-asked : goal.returns-in-list-clause-asked
 returns-in-list-clause-asked c = list_word (ap (λ w. w ∷ []) c.in-list.is)
+
+pub returns-in-edit-clause-asked : goal.returns-in-edit-clause-asked
+returns-in-edit-clause-asked c = edit_word (ap (λ w. w ∷ []) c.in-edit.is)

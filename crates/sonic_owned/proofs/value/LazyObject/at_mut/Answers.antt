@@ -24,4 +24,11 @@ returns-in-Some c =
     )
 
 pub returns-in-None : goal.returns-in-None
-returns-in-None c = ((refl, (λ w. tt), members-roll _ ∙ sym (members-out c.args.self.now)), record { back = tt; value = rw (members-out c.args.self.now) (search (rules, members-past)) })
+returns-in-None c = (
+  (refl, (λ w. tt), members-roll _ ∙ sym (members-out c.args.self.now)),
+  record {
+    back = tt;
+    value = rw (members-out c.args.self.now)
+        (search (rules, members-past));
+  },
+)

@@ -1,5 +1,6 @@
 use Rattle.std.proofs.Common.{refl, sym, subst}
-use Rattle.sonic_owned.proofs.ReachLemmas.{array_step, object_step, step_put, step_nowhere, step_still, opened_still, array_still, object_still, no_array, no_object, array_lacks, object_lacks, path_index, path_key, path_empty, if_ok_then, on_err_then, if_some_then, on_some}
+use Rattle.sonic_owned.proofs.WalkLemmas.{kind_lost}
+use Rattle.sonic_owned.proofs.ReachLemmas.{begins, first_opened, on_err, array_step, object_step, step_put, step_nowhere, step_opened, step_still, opened_still, array_still, object_still, no_array, no_object, array_lacks, object_lacks, path_index, path_key, path_empty, if_ok_then, on_err_then, if_some_then, on_some}
 use Rattle.sonic_owned.proofs.ValueLemmas.{value_sound, sound_means}
 use Rattle.sonic_owned.specs.Puts.{IsPut, put_here}
 use Rattle.sonic_owned.specs.Views.{form, elements, members}
@@ -16,17 +17,32 @@ returns-in_default-clause-some g t c =
       put = subst (λ p. IsPut p v v w w) (sym (path_empty c.args.path.now c.in_default.len_below)) put_here;
     }
 
+pub returns-then-not-is_for-clause-none : goal.returns-then-not-is_for-clause-none
+returns-then-not-is_for-clause-none g t c = λ e. kind_lost (begins c.args.path.now _ c.in-len1-up.len_at_least) (value_sound c.args.self.now)
+    (λ k. let b = c.if-not-is_for.ensures.1 k in absurd cc)
+
+pub returns-in_err-load-clause-memory : goal.returns-in_err-load-clause-memory
+returns-in_err-load-clause-memory g t c = on_err c.from_residual.result (first_opened (begins c.args.path.now _ c.in-len1-up.len_at_least)
+    c.in_err-load.ensures.memory (c.if-not-is_for.ensures.0 refl))
+
 pub returns-in-Some-at_mut : goal.returns-in-Some-at_mut
 returns-in-Some-at_mut g t c =
     let path = path_index c.args.path.now _ c.in-Index.i c.in-len1-up.len_at_least c.in-Index.is in
     let step = array_step (elements c.in-Some.array.now) c.in-Index.i c.in_ok-load.ensures.ok c.in-Some.ensures.some c.in-Some-at_mut.ensures.value
     (on_some c.in-Some-at_mut.is (c.at_mut.follows.holds c.reach.new.self)) (on_some c.in-Some.is (c.array_level.follows.holds _)) in
     record {
-      some = if_some_then c.reach.result (λ given d. record { part = d.part; left = d.left; change = d.change; put = step_put path step d.put }) c.reach.ensures.some;
+      some = if_some_then c.reach.result (λ given d. record {
+        part = d.part;
+        left = d.left;
+        change = d.change;
+        put
+            = step_put path step d.put;
+      }) c.reach.ensures.some;
       none = if_ok_then c.reach.result (λ found none e. step_nowhere path step (none e)) c.reach.ensures.none;
       same = if_ok_then c.reach.result (λ found same e. step_still step (same e)) c.reach.ensures.same;
       err = c.reach.ensures.err;
       kept = on_err_then c.reach.result (step_still step) c.reach.ensures.kept;
+      memory = on_err_then c.reach.result (step_opened path step) c.reach.ensures.memory;
     }
 
 pub returns-in-None-at_mut-clause-none : goal.returns-in-None-at_mut-clause-none
@@ -54,17 +70,25 @@ returns-in-Some-at_mut-2 g t c =
     (on_some c.in-Some-at_mut-2.is (c.at_mut-in-Some-first_of_key.follows.holds c.reach-in-Some-at_mut-2.new.self))
     (on_some c.in-Some-object_level.is (c.object_level.follows.holds _)) in
     record {
-      some = if_some_then c.reach-in-Some-at_mut-2.result (λ given d. record { part = d.part; left = d.left; change = d.change; put = step_put path step d.put }) c.reach-in-Some-at_mut-2.ensures.some;
+      some = if_some_then c.reach-in-Some-at_mut-2.result (λ given d. record {
+        part = d.part;
+        left = d.left;
+        change = d.change;
+        put
+            = step_put path step d.put;
+      }) c.reach-in-Some-at_mut-2.ensures.some;
       none = if_ok_then c.reach-in-Some-at_mut-2.result (λ found none e. step_nowhere path step (none e)) c.reach-in-Some-at_mut-2.ensures.none;
       same = if_ok_then c.reach-in-Some-at_mut-2.result (λ found same e. step_still step (same e)) c.reach-in-Some-at_mut-2.ensures.same;
       err = c.reach-in-Some-at_mut-2.ensures.err;
       kept = on_err_then c.reach-in-Some-at_mut-2.result (step_still step) c.reach-in-Some-at_mut-2.ensures.kept;
+      memory = on_err_then c.reach-in-Some-at_mut-2.result (step_opened path step) c.reach-in-Some-at_mut-2.ensures.memory;
     }
 
 pub returns-in-None-first_of_key-clause-none : goal.returns-in-None-first_of_key-clause-none
 returns-in-None-first_of_key-clause-none g t c = λ e.
     let path = path_key c.args.path.now _ c.in-Key.key c.in-len1-up.len_at_least c.in-Key.is in
-    object_lacks (members c.in-Some-object_level.object.now) path c.in_ok-load.ensures.ok c.in-Some-object_level.ensures.some (c.in-None-first_of_key.ensures.none refl)
+    object_lacks (members c.in-Some-object_level.object.now) path c.in_ok-load.ensures.ok c.in-Some-object_level.ensures.some
+    (c.in-None-first_of_key.ensures.none refl)
 
 pub returns-in-None-first_of_key-clause-same : goal.returns-in-None-first_of_key-clause-same
 returns-in-None-first_of_key-clause-same g t c = λ e.

@@ -17,5 +17,6 @@ returns-after-append_pair c =
     let all = on_some c.in-Some.is (c.object_level.follows.holds c.append_pair.new.self) in
     elim c.match-append_pair.branch [
       | in-Ok w ↦ rw w.result-is (change_made (object_paired (members c.in-Some.object.now) c.in_ok-load.ensures.ok c.in-Some.ensures.some w.in-Ok.ensures.ok all))
-      | in-Err w ↦ rw w.result-is (change_failed {e = w.plain.result} (search rules) (object_still c.in_ok-load.ensures.ok c.in-Some.ensures.some w.in-Err.ensures.same all))
+      | in-Err w ↦ rw w.result-is (change_failed {e = w.plain.result} (search rules)
+          (object_still c.in_ok-load.ensures.ok c.in-Some.ensures.some w.in-Err.ensures.same all))
     ]

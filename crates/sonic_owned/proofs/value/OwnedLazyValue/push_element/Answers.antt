@@ -17,5 +17,6 @@ returns-after-push c =
     let all = on_some c.in-Some.is (c.array_level.follows.holds c.push.new.self) in
     elim c.match-push.branch [
       | in-Ok w ↦ rw w.result-is (change_made (array_pushed (elements c.in-Some.array.now) c.in_ok-load.ensures.ok c.in-Some.ensures.some w.in-Ok.ensures.ok all))
-      | in-Err w ↦ rw w.result-is (change_failed {e = w.plain.result} (search rules) (array_still c.in_ok-load.ensures.ok c.in-Some.ensures.some w.in-Err.ensures.same all))
+      | in-Err w ↦ rw w.result-is (change_failed {e = w.plain.result} (search rules)
+          (array_still c.in_ok-load.ensures.ok c.in-Some.ensures.some w.in-Err.ensures.same all))
     ]

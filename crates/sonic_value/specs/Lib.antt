@@ -1,0 +1,12 @@
+pub mod CompactTexts
+pub mod Depths
+pub mod Equality
+pub mod EqualityLaws
+pub mod Indexing
+pub mod Keys
+pub mod Loans
+pub mod ReaderViews
+pub mod Readers
+pub mod Reading
+pub mod Rows
+pub mod Views

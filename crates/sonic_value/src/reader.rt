@@ -1,0 +1,226 @@
+// A cursor that makes plain values of what it passes.
+ghost use Rattle.std.specs.Prelude.{◌≡◌, ◌≢◌, ◌+◌, ◌-◌, ◌≤◌, ◌<◌, ◌↔◌, ℕ, List, None, true, false, length, slice_range, string_bytes, IfOk, IfErr, IfSome, IsTrue};
+ghost use Rattle.std.specs.Str.{IsUtf8};
+ghost use Rattle.sonic_parser.specs.Containers.{IsEnd, IsSeparated, IsSeparatorFault};
+ghost use Rattle.sonic_parser.specs.Faults.{IsStopFor};
+ghost use Rattle.sonic_text.specs.Faults.{IsKeyFault};
+ghost use Rattle.sonic_text.specs.Numbers.{IsNumber};
+ghost use Rattle.sonic_text.specs.Places.{byte, after_space};
+ghost use Rattle.sonic_text.specs.Strings.{strict, IsString, IsEscapedString};
+ghost use Rattle.sonic_text.specs.Trees.{Means};
+ghost use Rattle.sonic_text.specs.Values.{opening, closing, IsKey};
+ghost use Rattle.sonic_text.specs.declared.kind.Kind.{Kind};
+ghost use Rattle.sonic_value.specs.Readers.{IsValueRead, IsUnreadValue, IsScalarToken, IsStringToken, IsHeadRead};
+ghost use Rattle.sonic_value.specs.Views.{tree};
+
+use crate::Value;
+use sonic_input::{JsonSlice, Read};
+use sonic_parser::{Fault, Parser};
+use sonic_text::{Kind, Stop, StringEnd, byte_at, unescape_into};
+use std::alloc::{AllocError, Global};
+use std::marker::Model;
+
+// A parser, and where the memory for the values comes from.
+#[derive(Drop)]
+pub(crate) struct Reader<'de> {
+    parser: Parser<'de>,
+    alloc: Global,
+    // The text is known to be UTF-8.
+    utf8: bool,
+}
+
+impl<'de> Model for Reader<'de> {
+    ghost use Rattle.sonic_value.specs.Readers.{Cursor};
+
+    ghost Value = { Cursor };
+
+    ghost use Rattle.sonic_value.specs.ReaderViews.{cursor_of, IsReader};
+
+    ghost view = { cursor_of };
+
+    ghost invariant = { IsReader };
+}
+
+impl<'de> Reader<'de> {
+    // At the first byte of a text, which is UTF-8 where this says so.
+    pub(crate) fn new(alloc: Global, text: &'de [u8], utf8: bool) -> Reader<'de>
+        requires { utf8 ≡ true → IsUtf8 text.now }
+        ensures { result ≡ record { text = text.now; place = 0 } }
+    {
+        Reader {
+            parser: Parser::new(Read::unscanned(JsonSlice::Raw(text))),
+            alloc,
+            utf8,
+        }
+    }
+
+    // Where the memory comes from.
+    pub(crate) fn alloc(&self) -> Global {
+        self.alloc
+    }
+
+    // The cursor.
+    pub(crate) fn place(&self) -> usize
+        ensures place { result ≡ self.now.place }
+        ensures inside { result ≤ length self.now.text }
+    {
+        self.parser.offset()
+    }
+
+    // Passes white space.
+    pub(crate) fn skip_space(&mut self)
+        ensures { self.new ≡ record self.old { place = after_space self.old.text self.old.place } }
+    {
+        self.parser.skip_space_peek();
+    }
+
+    // The kind of the container that begins at the cursor, if one does.
+    pub(crate) fn container(&self) -> Option<Kind>
+        ensures some { IfSome result (λ kind. byte self.now.text self.now.place ≡ opening kind) }
+        ensures none { result ≡ None → (kind : Kind)
+            → byte self.now.text self.now.place ≢ opening kind }
+    {
+        match byte_at(self.parser.text(), self.parser.offset()) {
+            b'[' => Some(Kind::Array),
+            b'{' => Some(Kind::Object),
+            _ => None,
+        }
+    }
+
+    // Goes past the bracket of the container of this kind at the cursor: whether an item is expected,
+    // at which the cursor then is, or after the closing bracket.
+    pub(crate) fn enter(&mut self, kind: Kind) -> bool
+        requires { byte self.old.text self.old.place ≡ opening kind }
+        ensures item { result ≡ true
+            → (self.new.place ≡ after_space self.old.text (self.old.place + 1))
+            × (byte self.old.text self.new.place ≢ closing kind) }
+        ensures empty { result ≡ false
+            → IsEnd self.old.text kind (self.old.place + 1) self.new.place }
+        ensures moved { self.new ≡ record self.old { place = self.new.place } }
+    {
+        self.parser.enter(kind)
+    }
+
+    // Goes on after an item of a container of this kind: whether another one comes.
+    pub(crate) fn next_item(&mut self, kind: Kind) -> Result<bool, Stop>
+        ensures item { IfOk result (λ more. more ≡ true
+            → IsSeparated self.old.text self.old.place self.new.place) }
+        ensures end { IfOk result (λ more. more ≡ false
+            → IsEnd self.old.text kind self.old.place self.new.place) }
+        ensures moved { self.new ≡ record self.old { place = self.new.place } }
+        ensures err { IfErr result (IsSeparatorFault self.old.text kind self.old.place) }
+    {
+        self.parser.next_item(kind)
+    }
+
+    // Reads the key at the cursor, up to the member's value.
+    pub(crate) fn key(&mut self) -> Result<String, Fault>
+        ensures ok { IfOk result (λ key.
+            IsHeadRead self.old.text Kind.Object self.old.place self.new.place (Some (string_bytes key))) }
+        ensures moved { self.new ≡ record self.old { place = self.new.place } }
+        ensures err { IfErr result (IsStopFor (IsKeyFault strict self.old.text self.old.place)) }
+    {
+        let start = self.parser.offset();
+        let StringEnd { end, escaped } = self.parser.key()?;
+        let key = Token {
+            start,
+            end,
+            escaped,
+        };
+        Ok(self.string(key)?)
+    }
+
+    // Reads the value at the cursor, which is no container.
+    pub(crate) fn scalar(&mut self) -> Result<Value, Fault>
+        requires { (kind : Kind) → byte self.old.text self.old.place ≢ opening kind }
+        ensures ok { IfOk result (λ value. (room : ℕ)
+            → IsValueRead self.old.text room self.old.place self.new.place (tree value)) }
+        ensures moved { self.new ≡ record self.old { place = self.new.place } }
+        ensures err { IfErr result (IsStopFor (λ s. (room : ℕ)
+            → IsUnreadValue self.old.text room self.old.place s)) }
+    {
+        let start = self.parser.offset();
+        let escaped = self.parser.skip_value(self.alloc)?.has_escaped();
+        let end = self.parser.offset();
+        let value = Token {
+            start,
+            end,
+            escaped,
+        };
+        Ok(self.value(value)?)
+    }
+
+    // A value of the text that is no container.
+    fn value(&self, value: Token) -> Result<Value, AllocError>
+        requires { IsScalarToken self.now.text value }
+        ensures { IfOk result (λ made. IsUtf8 (slice_range self.now.text value.start value.end)
+            → Means self.now.text value.start value.end (tree made)) }
+    {
+        let text = self.parser.text();
+        match byte_at(text, value.start) {
+            b'n' => Ok(Value::Null),
+            b't' => Ok(Value::Bool(true)),
+            b'f' => Ok(Value::Bool(false)),
+            b'"' => Ok(Value::String(self.string(value)?)),
+            _ => Ok(Value::Number(number_text(self.alloc, text, value)?)),
+        }
+    }
+
+    // What a string of the text denotes. Where its bytes aren't UTF-8, some text.
+    fn string(&self, string: Token) -> Result<String, AllocError>
+        requires { IsStringToken self.now.text string }
+        ensures { IfOk result (λ made. IsUtf8 (slice_range self.now.text string.start string.end)
+            → IsString strict self.now.text string.start string.end (string_bytes made)) }
+    {
+        let bytes = denoted(self.alloc, self.parser.text(), string)?;
+        if self.utf8 {
+            // SAFETY: what a string of a text in UTF-8 denotes is UTF-8.
+            return Ok(unsafe { String::from_utf8_unchecked(bytes) });
+        }
+        Ok(text_of(self.alloc, bytes))
+    }
+}
+
+// A string, a number or a literal of a text: the place of its first byte, the place after its last,
+// and whether it is a string with a backslash.
+#[derive(Clone, Copy)]
+struct Token {
+    start: usize,
+    end: usize,
+    escaped: bool,
+}
+
+// The bytes that a string of a text denotes.
+fn denoted(alloc: Global, text: &[u8], string: Token) -> Result<Vec<u8>, AllocError>
+    requires { IsStringToken text.now string }
+    ensures { IfOk result (λ made. IsString strict text.now string.start string.end made.items) }
+{
+    if !string.escaped {
+        return Vec::from_slice(alloc, &text[string.start + 1..string.end - 1]);
+    }
+    let mut bytes = Vec::new(alloc);
+    match unescape_into(&mut bytes, text, string.start, string.end, false) {
+        Ok(()) => Ok(bytes),
+        Err(_) => Err(AllocError),
+    }
+}
+
+// The text with these bytes, where they are UTF-8, and else the empty text.
+fn text_of(alloc: Global, bytes: Vec<u8>) -> String
+    ensures { IsUtf8 bytes.items → string_bytes result ≡ bytes.items }
+{
+    match String::from_utf8(bytes) {
+        Ok(text) => text,
+        Err(_) => String::new(alloc),
+    }
+}
+
+// The text of a number.
+fn number_text(alloc: Global, text: &[u8], number: Token) -> Result<String, AllocError>
+    requires { IsNumber text.now number.start number.end }
+    ensures { IfOk result (λ made. string_bytes made ≡ slice_range text.now number.start number.end) }
+{
+    let bytes = &text[number.start..number.end];
+    // SAFETY: a number is ASCII.
+    String::from_str(alloc, unsafe { std::str::from_utf8_unchecked(bytes) })
+}
