@@ -134,6 +134,29 @@ LISTS = {
 }
 
 
+def log_record(size):
+    """A schema of three keys, and then one record of so many bytes, which has them at its start, in
+    its middle and at its end among others."""
+    rng = random.Random(7)
+    others = []
+    while size > 0:
+        others.append(f'"field {len(others)}": {compact_record(rng)}')
+        size -= len(others[-1]) + 2
+    half = len(others) // 2
+    schema = json.dumps({"time": "", "level": "info", "place": {"city": "", "zone": None}})
+    first = ['"time": "2026-11-28T15:00:00Z"']
+    last = ['"place": {"city": "elm", "street": "rowan"}']
+    members = first + others[:half] + ['"level": "warn"'] + others[half:] + last
+    return schema + "\n{" + ", ".join(members) + "}\n"
+
+
+# What `fill` reads.
+FILLS = {
+    "record": lambda: log_record(10**6),
+    "long": lambda: log_record(6 * 10**7),
+}
+
+
 def path_of(folder, name):
     return os.path.join(folder, name + ".in")
 
@@ -148,7 +171,7 @@ def main():
         with open(path, "w") as out:
             out.writelines(json.dumps(steps) + "\n" for steps in paths)
             out.write("\n" + text)
-    for name, document in LISTS.items():
+    for name, document in (LISTS | FILLS).items():
         if not os.path.exists(path_of(folder, name)):
             with open(path_of(folder, name), "w") as out:
                 out.write(document())

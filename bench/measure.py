@@ -154,10 +154,10 @@ def count_writes(command, path):
     return run.stderr.count(b"write(1, ")
 
 
-def measure_list(name, folder, program, runs):
-    """`list` of a million items, beside `cat`."""
+def measure_word(word, name, folder, program, runs):
+    """Another command than `get`, beside `cat`: `list` of a million items, or `fill` of a record."""
     path = documents.path_of(folder, name)
-    cat, ours = Command("cat", ["cat"]), Command("list", [program, "list"])
+    cat, ours = Command("cat", ["cat"]), Command(word, [program, word])
     for _ in range(runs):
         cat.count(path)
         ours.count(path)
@@ -188,9 +188,11 @@ def main():
     print(f"{'document':9} {'MB':>4} {'command':11} {'cpu s':>7} {'to cat':>7} {'peak MB':>8} {'status':>7} {'report':>8} {'ours to it':>10}")
     for name in documents.DOCUMENTS:
         measure(name, folder, program, others, runs)
-    print(f"{'list':9} {'MB':>4} {'command':11} {'cpu s':>7} {'to cat':>7} {'peak MB':>8} {'status':>7} {'writes':>8}")
+    print(f"{'input':9} {'MB':>4} {'command':11} {'cpu s':>7} {'to cat':>7} {'peak MB':>8} {'status':>7} {'writes':>8}")
     for name in documents.LISTS:
-        measure_list(name, folder, program, runs)
+        measure_word("list", name, folder, program, runs)
+    for name in documents.FILLS:
+        measure_word("fill", name, folder, program, runs)
     if examples:
         print(f"{'document':9} {'MB':>4} {'call':13} {'cpu s':>7}")
         for name in CALLED:

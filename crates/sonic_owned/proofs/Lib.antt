@@ -17,7 +17,7 @@ mod OpenedLemmas
 mod OpeningLemmas
 mod OpenLemmas
 mod PartTextLemmas
-mod PlacedLemmas
+pub mod PlacedLemmas
 mod PutLawLemmas
 mod PutLemmas
 mod ReachLemmas

@@ -1,6 +1,7 @@
 mod BufferLemmas
 mod CommandLemmas
 mod EditLemmas
+mod FillLemmas
 mod GetLemmas
 mod ListLemmas
 mod OutsideLemmas

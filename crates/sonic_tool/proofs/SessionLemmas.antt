@@ -5,7 +5,7 @@ use Rattle.std.specs.declared.option.Option.{Option}
 use Rattle.std.specs.Io.KnownBytes.{IsAtEnd}
 use Rattle.sonic_lazy.specs.Answers.{Answer}
 use Rattle.sonic_tool.specs.declared.commands.Command.{Command}
-use Rattle.sonic_tool.specs.declared.commands.Command.TheVariants.{Get, List as Items, Edit}
+use Rattle.sonic_tool.specs.declared.commands.Command.TheVariants.{Get, List as Items, Edit, Fill}
 use Rattle.sonic_tool.specs.declared.outside.reading.TheConstants.{LIMIT}
 use Rattle.sonic_tool.specs.declared.run.Request.{Request}
 use Rattle.sonic_tool.specs.declared.run.Request.TheVariants.{Usage, Large, Input}
@@ -14,7 +14,9 @@ use Rattle.sonic_tool.specs.declared.status.Status.TheVariants.{Done, BadUsage, 
 use Rattle.sonic_tool.specs.Commands.{IsListed}
 use Rattle.sonic_owned.specs.Forms.{Form}
 use Rattle.sonic_owned.specs.TreeEdits as edits
+use Rattle.sonic_text.specs.Trees.{Tree}
 use Rattle.sonic_tool.specs.Commands.Edits.{ReportsMade, refused, made, ReportsEdits, invalid, valid, IsEditReport, bad_edit, edited}
+use Rattle.sonic_tool.specs.Commands.Fills.{ReportsFilled, unfilled, filled, IsFillReport, bad_schema, reports_filled}
 use Rattle.sonic_tool.specs.Commands.Get.{IsAnswerReport, IsGetReport}
 use Rattle.sonic_tool.specs.Commands.Get.IsAnswerReport.{entry_lines, error_line}
 use Rattle.sonic_tool.specs.Commands.Get.IsGetReport.{bad_line, answered}
@@ -88,6 +90,16 @@ edit_status : {input text : List ℕ} {ending : Status} → IsEditReport input t
 edit_status (bad_edit b t e) = inr (inr e)
 edit_status (edited x r) = edits_status r
 
+-- what comes of a schema
+filled_status : {document : List ℕ} {schema : Tree} {text : List ℕ} {ending : Status} → ReportsFilled document schema text ending → IsOfInput ending
+filled_status (unfilled s u t e) = inr (inl e)
+filled_status (filled f t e) = inl e
+
+-- a report by `fill`
+fill_status : {input text : List ℕ} {ending : Status} → IsFillReport input text ending → IsOfInput ending
+fill_status (bad_schema s u t e) = inr (inr e)
+fill_status (reports_filled x r) = filled_status r
+
 -- a report of what the source had left, and what its status says of the words and of the source
 pub record IsPrepared (run : Session) (text : List ℕ) (ending : Status) : Type 0 where
   pub reply : IsReply run text ending
@@ -102,6 +114,7 @@ written_status : (command : Command) (input text : List ℕ) (ending : Status) �
 written_status Get input text ending r = get_status r
 written_status Items input text ending r = list_status r
 written_status Edit input text ending r = edit_status r
+written_status Fill input text ending r = fill_status r
 
 -- what answers the request is such a report
 pub prepared : (run : Session) {text : List ℕ} {ending : Status} (request : Request) → IsAsked run.words run.before.left run.after.left request

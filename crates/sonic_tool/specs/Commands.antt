@@ -1,5 +1,6 @@
 -- The commands, and the words of a command line that ask for them.
 pub mod Edits
+pub mod Fills
 pub mod Get
 pub mod Items
 use Rattle.std.specs.Prelude.{◌≡◌, List, [], ◌∷◌, ℕ, codes}
@@ -12,6 +13,7 @@ pub data Asks (words : List (List ℕ)) : Command → Type 0 where
   get_word : words ≡ codes "get" ∷ [] → Asks words command.Get
   list_word : words ≡ codes "list" ∷ [] → Asks words command.List
   edit_word : words ≡ codes "edit" ∷ [] → Asks words command.Edit
+  fill_word : words ≡ codes "fill" ∷ [] → Asks words command.Fill
 
 -- the words ask for some command
 abbrev pub IsListed : List (List ℕ) → Type 0

@@ -4,6 +4,8 @@ ghost use Rattle.sonic_tool.specs.Commands.{Asks, IsListed};
 
 // What `edit` writes: what the edits of an input's head make of its document.
 pub(crate) mod edit;
+// What `fill` writes: the schema in an input's first line, filled from the rest.
+pub(crate) mod fill;
 // What `get` writes: where the paths of an input's head lead in its document.
 pub(crate) mod get;
 // What `list` writes: the items of the container that an input is.
@@ -18,6 +20,8 @@ pub enum Command {
     List,
     /// The document as the edits of the head make it. The word `edit` asks for it.
     Edit,
+    /// The schema in the first line, filled from the rest. The word `fill` asks for it.
+    Fill,
 }
 
 // The command that the words ask for.
@@ -41,6 +45,7 @@ fn named_command(word: &str) -> Option<Command>
         "get" => Some(Command::Get),
         "list" => Some(Command::List),
         "edit" => Some(Command::Edit),
+        "fill" => Some(Command::Fill),
         _ => None,
     }
 }

@@ -2,6 +2,7 @@
 mod documents;
 mod edits;
 mod faults;
+mod fills;
 mod format;
 mod lists;
 mod outside;

@@ -1,19 +1,29 @@
+pub mod AnyModeLemmas
+mod AskedNode
 mod CompactLemmas
 pub mod DepthLemmas
 pub mod DocumentLemmas
+pub mod FillerLemmas
+pub mod FillingLemmas
 pub mod Folds
 mod HeldLemmas
 mod IndexLemmas
 mod ItemLemmas
+pub mod KeepingLemmas
+pub mod LawLemmas
 mod LentValues
 mod LevelLemmas
 mod Lists
 mod Loans
 mod NumberLemmas
+pub mod OutcomeLemmas
+pub mod PassedLemmas
 mod PathLemmas
 pub mod ReaderLemmas
 pub mod ScalarLemmas
+pub mod SchemaLemmas
 mod ShownLemmas
+mod SpelledLemmas
 pub mod StringLemmas
 pub mod TreeLemmas
-pub mod Utf8Lemmas
+pub mod UnfilledLemmas

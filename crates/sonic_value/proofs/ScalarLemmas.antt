@@ -1,7 +1,6 @@
 -- What a value means that is no container, by its first byte.
 use Rattle.std.proofs.Common.{◌≡◌, ◌≢◌, ◌⊎◌, inl, inr, ℕ, ◌≤◌, List, codes, arith, sym, ◌∙◌}
-use Rattle.std.specs.Prelude.{true, false, slice_range}
-use Rattle.std.specs.Str.{IsUtf8}
+use Rattle.std.specs.Prelude.{true, false}
 use Rattle.sonic_text.proofs.Items.{opening_no_quote}
 use Rattle.sonic_text.proofs.Numbers.{number_begins}
 use Rattle.sonic_text.proofs.Values.{first_letter, items_open}
@@ -15,7 +14,7 @@ use Rattle.sonic_text.specs.Values.{IsValue}
 use Rattle.sonic_text.specs.Values.IsValue.{null_literal, true_literal, false_literal, number, string, empty, filled}
 use Rattle.sonic_text.specs.declared.stop.Stop.{Stop}
 use Rattle.sonic_value.proofs.DepthLemmas.{scalar_shallow}
-use Rattle.sonic_value.specs.Readers.{BeginsNoContainer, IsValueRead, IsUnreadValue, at_fault}
+use Rattle.sonic_value.specs.Readers.{Source, BeginsNoContainer, IsKept, IsValueRead, IsUnreadValue, at_fault}
 
 -- the value from i to j is one of these, which begin with other bytes each
 data IsScalar (t : List ℕ) (i j : ℕ) : Type 0 where
@@ -86,9 +85,9 @@ module _ {t : List ℕ} {i j : ℕ} (none : BeginsNoContainer t i) (value : IsVa
     | a_string c s ↦ absurd (q c)
   ]
 
-  -- it is read as what it means, in whatever room
-  pub scalar_read : {x : Tree} → (IsUtf8 (slice_range t i j) → Means t i j x) → (room : ℕ) → IsValueRead t room i j x
-  scalar_read means room = record { value = value; means = means; shallow = scalar_shallow none }
+-- it is read as what it means, in whatever room
+pub scalar_read : {s : Source} {i j : ℕ} {x : Tree} → BeginsNoContainer s.text i → IsKept s i j x → (room : ℕ) → IsValueRead s room i j x
+scalar_read none kept room = record { kept = kept; shallow = scalar_shallow none }
 
 -- or has its fault
 pub scalar_unread : {t : List ℕ} {i : ℕ} → BeginsNoContainer t i → (s : Stop) → IsFault strict t i s → (room : ℕ) → IsUnreadValue t room i s

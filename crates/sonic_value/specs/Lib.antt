@@ -2,11 +2,17 @@ pub mod CompactTexts
 pub mod Depths
 pub mod Equality
 pub mod EqualityLaws
+pub mod Fillers
+pub mod Filling
 pub mod Indexing
+pub mod Keeping
 pub mod Keys
+pub mod Laws
 pub mod Loans
 pub mod ReaderViews
 pub mod Readers
 pub mod Reading
 pub mod Rows
+pub mod Schemas
+pub mod SpelledViews
 pub mod Views

@@ -7,7 +7,7 @@ use Rattle.sonic_value.specs.declared.reader.Reader.TheInside.{Inside}
 
 -- the text and the place of the parser
 abbrev pub cursor_of : Inside → Cursor
-cursor_of reader = record { text = reader.parser.text; place = reader.parser.place }
+cursor_of reader = record { source = record { text = reader.parser.text; is_utf8 = reader.utf8 }; place = reader.parser.place }
 
 -- which reads strictly, and says that the text is UTF-8 only where it is
 abbrev pub IsReader : Inside → Type 0

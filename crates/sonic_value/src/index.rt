@@ -1,6 +1,8 @@
 // What names an item of a value.
-ghost use Rattle.std.specs.Prelude.{◌≡◌, ◌++◌, ◌∷◌, [], string_bytes, option_map, false, true, IfSome, IfNone, IfOk, IfErr, OnOk, OnErr, Ok, Some};
+ghost use Rattle.std.specs.Borrow.{sem, LendsSo, LendsSoOk};
+ghost use Rattle.std.specs.Prelude.{◌≡◌, OnSome, ◌++◌, ◌∷◌, [], string_bytes, option_map, false, true, IfSome, IfNone, IfOk, IfErr, OnOk, OnErr, Ok, Some};
 ghost use Rattle.sonic_error.specs.Errors.{IsPlainError};
+ghost use Rattle.sonic_owned.specs.TreePuts.{put};
 ghost use Rattle.sonic_pointer.specs.Nodes.{node_of, is_key};
 ghost use Rattle.sonic_text.specs.Paths.{Node, key, index};
 ghost use Rattle.sonic_text.specs.TreePaths.{child};
@@ -9,8 +11,10 @@ ghost use Rattle.sonic_text.specs.Trees.Tree.{null};
 ghost use Rattle.sonic_value.specs.Indexing.{with_node, IsInserted, IsUnindexed};
 ghost use Rattle.sonic_value.specs.Keys.{seen};
 ghost use Rattle.sonic_value.specs.Views.{tree};
+ghost use Rattle.sonic_value.specs.contracts.value.Value.{the_row as value_row};
 
 use crate::Value;
+use crate::value::{Holds, lend_item};
 use sonic_error::{Error, ErrorCode, Result};
 use sonic_input::FastStr;
 use sonic_pointer::PointerNode;
@@ -34,40 +38,35 @@ pub trait Index: sealed::Sealed {
 
     /// The item, and `None` where there is none, or the value is of another kind.
     fn value_index_into<'v>(&self, v: &'v Value) -> Option<&'v Value>
-        ensures { option_map (λ found. tree found.now) result ≡ child (node self.now) (tree v.now) }
-    {
-        v.get(self.as_node())
-    }
+        ensures { option_map (λ found. tree found.now) result ≡ child (node self.now) (tree v.now) };
 
     /// The item, to be changed.
+    ///
+    /// Once the loan ends the value has what was left in the item's place.
     fn index_into_mut<'v>(&self, v: &'v mut Value) -> Option<&'v mut Value>
-        ensures { option_map (λ found. tree found.now) result ≡ child (node self.now) (tree v.old) }
-    {
-        v.get_mut(self.as_node())
-    }
+        ensures* back { sem 𝓛 (LendsSo value_row value_row v.entry result
+            (λ m w. OnSome result (tree m ≡ put (node self.now ∷ []) (tree w) (tree v.old)))
+            (λ m. m ≡ v.old)) }
+        ensures value { option_map (λ found. tree found.now) result
+            ≡ child (node self.now) (tree v.old) };
 
     /// The key, and `None` of an index.
     ///
     /// `"a".as_key()` is `Some("a")`.
     fn as_key(&self) -> Option<&str>
         ensures some { IfSome result (λ text. node self.now ≡ key text.now) }
-        ensures none { IfNone result (is_key (node self.now) ≡ false) }
-    {
-        self.as_node().as_key()
-    }
+        ensures none { IfNone result (is_key (node self.now) ≡ false) };
 
     /// The index, and `None` of a key.
     ///
     /// `1.as_index()` is `Some(1)`.
     fn as_index(&self) -> Option<usize>
         ensures some { IfSome result (λ number. node self.now ≡ index number) }
-        ensures none { IfNone result (is_key (node self.now) ≡ true) }
-    {
-        self.as_node().as_index()
-    }
+        ensures none { IfNone result (is_key (node self.now) ≡ true) };
 
     /// The item, to be changed. For a key that the object lacks, a member with `null` is appended
-    /// first, and `null` is made an empty object before that.
+    /// first, and `null` is made an empty object before that. Once the loan ends the value has what
+    /// was left in the item's place.
     ///
     /// The errors are `ErrorCode::GetIndexOutOfArray` of an index past the last element,
     /// `ErrorCode::UnexpectedVisitType` of a value of another kind, and `ErrorCode::NoMemory` where a
@@ -79,122 +78,161 @@ pub trait Index: sealed::Sealed {
     /// // it is {"a":true}
     /// ```
     fn index_or_insert<'v>(&self, alloc: Global, v: &'v mut Value) -> Result<&'v mut Value>
+        ensures* back { sem 𝓛 (LendsSoOk value_row value_row v.entry result
+            (λ m w. (base : Tree) × (with_node (node self.now) (tree v.old) ≡ Ok base)
+            × (tree m ≡ put (node self.now ∷ []) (tree w) base))
+            (λ m. tree m ≡ tree v.old)) }
         ensures value { IfOk result (λ lent. (base : Tree) × (with_node (node self.now) (tree v.old) ≡ Ok base)
             × (child (node self.now) base ≡ Some (tree lent.now))) }
-        ensures err { IfErr result (IsUnindexed (node self.now) (tree v.old)) }
-    {
-        lend_or_insert(v, alloc, self.as_node())
+        ensures err { IfErr result (IsUnindexed (node self.now) (tree v.old)) };
+}
+
+// What is an index or a key.
+trait Names {
+    // The node that it is.
+    ghost named: { Self → Node };
+
+    // The same as a step of a path.
+    fn to_node(&self) -> PointerNode<'_>
+        ensures { node_of result ≡ named self.now };
+}
+
+impl<T: Names> sealed::Sealed for T {}
+
+impl<T: Names> Index for T {
+    ghost node = { T.Names.named };
+
+    fn as_node(&self) -> PointerNode<'_> {
+        self.to_node()
+    }
+
+    fn value_index_into<'v>(&self, v: &'v Value) -> Option<&'v Value> {
+        v.get(self.to_node())
+    }
+
+    fn index_into_mut<'v>(&self, v: &'v mut Value) -> Option<&'v mut Value> {
+        v.get_mut(self.to_node())
+    }
+
+    fn as_key(&self) -> Option<&str> {
+        self.to_node().as_key()
+    }
+
+    fn as_index(&self) -> Option<usize> {
+        self.to_node().as_index()
+    }
+
+    fn index_or_insert<'v>(&self, alloc: Global, v: &'v mut Value) -> Result<&'v mut Value> {
+        lend_or_insert(v, alloc, self.to_node())
     }
 }
 
-impl sealed::Sealed for usize {}
+impl Names for usize {
+    ghost named = { index };
 
-impl sealed::Sealed for &str {}
-
-impl sealed::Sealed for &String {}
-
-impl sealed::Sealed for &FastStr {}
-
-impl sealed::Sealed for PointerNode<'_> {}
-
-impl<T: sealed::Sealed> sealed::Sealed for &T {}
-
-impl Index for usize {
-    ghost node = { index };
-
-    fn as_node(&self) -> PointerNode<'_> {
+    fn to_node(&self) -> PointerNode<'_> {
         PointerNode::Index(*self)
     }
 }
 
-impl Index for &str {
-    ghost node = { λ text. key text.now };
+impl Names for &str {
+    ghost named = { λ text. key text.now };
 
-    fn as_node(&self) -> PointerNode<'_> {
+    fn to_node(&self) -> PointerNode<'_> {
         PointerNode::Key(*self)
     }
 }
 
-impl Index for &String {
-    ghost node = { λ text. key (string_bytes text.now) };
+impl Names for &String {
+    ghost named = { λ text. key (string_bytes text.now) };
 
-    fn as_node(&self) -> PointerNode<'_> {
+    fn to_node(&self) -> PointerNode<'_> {
         PointerNode::Key(self.as_str())
     }
 }
 
-impl Index for &FastStr {
-    ghost node = { λ text. key text.now };
+impl Names for &FastStr {
+    ghost named = { λ text. key text.now };
 
-    fn as_node(&self) -> PointerNode<'_> {
+    fn to_node(&self) -> PointerNode<'_> {
         PointerNode::Key(self.as_str())
     }
 }
 
-impl Index for PointerNode<'_> {
-    ghost node = { node_of };
+impl Names for PointerNode<'_> {
+    ghost named = { node_of };
 
-    fn as_node(&self) -> PointerNode<'_> {
+    fn to_node(&self) -> PointerNode<'_> {
         *self
     }
 }
 
-impl<T: Index> Index for &T {
-    ghost node = { λ named. T.Index.node named.now };
+impl<T: Names> Names for &T {
+    ghost named = { λ named. T.Names.named named.now };
 
-    fn as_node(&self) -> PointerNode<'_> {
-        let named: &T = self;
-        named.as_node()
+    fn to_node(&self) -> PointerNode<'_> {
+        let inner: &T = self;
+        inner.to_node()
+    }
+}
+
+// A value to which members are appended.
+trait Inserts: Holds {
+    // Appends a member with `null` for a key that an object lacks.
+    fn insert(&mut self, alloc: Global, node: PointerNode<'_>) -> Result<()>
+        ensures ok { OnOk result (IsInserted (node_of node.entry) (Self.shown self.old) (Self.shown self.new)) }
+        ensures err { IfErr result (IsUnindexed (node_of node.entry) (Self.shown self.old)) }
+        ensures same { OnErr result (Self.shown self.new ≡ Self.shown self.old) };
+}
+
+impl Inserts for Value {
+    fn insert(&mut self, alloc: Global, node: PointerNode<'_>) -> Result<()> {
+        if self.get(node).is_some() {
+            return Ok(());
+        }
+        match node {
+            PointerNode::Index(_) => match self {
+                Value::Array(_) => Err(Error::plain(ErrorCode::GetIndexOutOfArray)),
+                _ => Err(Error::plain(ErrorCode::UnexpectedVisitType)),
+            },
+            PointerNode::Key(name) => match self.as_object_mut() {
+                Some(members) => append_null(members, alloc, name),
+                None => match self {
+                    Value::Null => {
+                        let mut members = Vec::new(alloc);
+                        if let Err(error) = append_null(&mut members, alloc, name) {
+                            return Err(error);
+                        }
+                        *self = Value::Object(members);
+                        Ok(())
+                    }
+                    _ => Err(Error::plain(ErrorCode::UnexpectedVisitType)),
+                },
+            },
+        }
     }
 }
 
 // The item that a node names, where a member is appended for a key that is lacking.
-fn lend_or_insert<'v>(
-    v: &'v mut Value,
+fn lend_or_insert<'a, A: Inserts>(
+    value: &'a mut A,
     alloc: Global,
     node: PointerNode<'_>,
-) -> Result<&'v mut Value>
+) -> Result<&'a mut Value>
+    ensures* back { sem 𝓛 (LendsSoOk A.row value_row value.entry result
+        (λ m w. (base : Tree) × (with_node (node_of node.entry) (A.Holds.shown value.old) ≡ Ok base)
+        × (A.Holds.shown m ≡ put (node_of node.entry ∷ []) (tree w) base))
+        (λ m. A.Holds.shown m ≡ A.Holds.shown value.old)) }
     ensures value { IfOk result (λ lent. (base : Tree)
-        × (with_node (node_of node.entry) (tree v.old) ≡ Ok base)
+        × (with_node (node_of node.entry) (A.Holds.shown value.old) ≡ Ok base)
         × (child (node_of node.entry) base ≡ Some (tree lent.now))) }
-    ensures err { IfErr result (IsUnindexed (node_of node.entry) (tree v.old)) }
+    ensures err { IfErr result (IsUnindexed (node_of node.entry) (A.Holds.shown value.old)) }
 {
-    insert(v, alloc, node)?;
-    match v.get_mut(node) {
+    value.insert(alloc, node)?;
+    match lend_item(value, node) {
         Some(item) => Ok(item),
         // What a node names is there now, so this never comes.
         None => Err(Error::plain(ErrorCode::NoMemory)),
-    }
-}
-
-// Appends a member with `null` for a key that an object lacks.
-fn insert(v: &mut Value, alloc: Global, node: PointerNode<'_>) -> Result<()>
-    ensures ok { OnOk result (IsInserted (node_of node.entry) (tree v.old) (tree v.new)) }
-    ensures err { IfErr result (IsUnindexed (node_of node.entry) (tree v.old)) }
-    ensures same { OnErr result (tree v.new ≡ tree v.old) }
-{
-    if v.get(node).is_some() {
-        return Ok(());
-    }
-    match node {
-        PointerNode::Index(_) => match v {
-            Value::Array(_) => Err(Error::plain(ErrorCode::GetIndexOutOfArray)),
-            _ => Err(Error::plain(ErrorCode::UnexpectedVisitType)),
-        },
-        PointerNode::Key(name) => match v.as_object_mut() {
-            Some(members) => append_null(members, alloc, name),
-            None => match v {
-                Value::Null => {
-                    let mut members = Vec::new(alloc);
-                    if let Err(error) = append_null(&mut members, alloc, name) {
-                        return Err(error);
-                    }
-                    *v = Value::Object(members);
-                    Ok(())
-                }
-                _ => Err(Error::plain(ErrorCode::UnexpectedVisitType)),
-            },
-        },
     }
 }
 

@@ -1,8 +1,12 @@
 // Laws of values.
-ghost use Rattle.std.specs.Prelude.{ℕ, List, length};
+ghost use Rattle.std.specs.Prelude.{◌≡◌, ℕ, Bool, false, List, length};
+ghost use Rattle.std.specs.Str.{IsUtf8};
 ghost use Rattle.sonic_lazy.specs.Documents.{IsValidDocument};
 ghost use Rattle.sonic_text.specs.Trees.{Tree, Means};
 ghost use Rattle.sonic_value.specs.CompactTexts.{HasNumbers, compact};
+ghost use Rattle.sonic_value.specs.Laws.{HasOneTreeOrReason};
+ghost use Rattle.sonic_value.specs.Reading.{IsRead, IsUnread};
+ghost use Rattle.sonic_value.specs.Schemas.{IsFilledAt, IsUnfilled};
 ghost use Rattle.sonic_value.specs.Views.{tree, array_in, object_in, IsLevelOf};
 ghost use Rattle.sonic_value.specs.declared.value.Value.{Value};
 
@@ -34,4 +38,18 @@ pub fn what_is_read_has_numbers()
 /// the value's tree, and there is none exactly where the tree is no container.
 pub fn level_is_that_of_the_tree()
     ensures { (value : Value) → IsLevelOf (tree value) (array_in value) (object_in value) }
+{}
+
+/// The law of readings: a text is read as one tree, or it isn't for exactly one reason, and never
+/// both.
+pub fn text_is_read_or_has_one_reason()
+    ensures { (t : List ℕ) (is_bytes : Bool) → (is_bytes ≡ false → IsUtf8 t)
+        → HasOneTreeOrReason (IsRead t) (IsUnread t is_bytes) }
+{}
+
+/// The law of schemas: a schema is filled from the value that is expected at a place to one tree, or
+/// it isn't for exactly one reason, and never both.
+pub fn schema_is_filled_or_has_one_reason()
+    ensures { (t : List ℕ) (is_bytes : Bool) (schema : Tree) (i : ℕ) → (is_bytes ≡ false → IsUtf8 t)
+        → HasOneTreeOrReason (λ made. IsFilledAt t schema made i) (IsUnfilled t is_bytes schema i) }
 {}

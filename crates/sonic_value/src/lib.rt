@@ -1,8 +1,10 @@
 //! Plain JSON values: read whole, looked up, changed and written.
 #![tactic(auto)]
 
-// The law of depths.
+// The laws of depths.
 mod depth_law;
+// Schemas, filled from the values of a text.
+mod fill;
 // What names an item of a value.
 mod index;
 // Laws.
@@ -11,13 +13,19 @@ mod law;
 mod read;
 // The cursor that makes values of what it passes.
 mod reader;
+// Schemas that are filled, and the calls that do it.
+mod schema;
 // Worked examples.
 #[cfg(test)]
 mod tests;
 // Values.
 mod value;
 
-pub use depth_law::too_deep_comes_before_the_fault;
+pub use depth_law::{filling_too_deep_comes_before_the_fault, too_deep_comes_before_the_fault};
 pub use index::Index;
-pub use law::{compact_text_is_a_document, level_is_that_of_the_tree, what_is_read_has_numbers};
+pub use law::{
+    compact_text_is_a_document, level_is_that_of_the_tree, schema_is_filled_or_has_one_reason,
+    text_is_read_or_has_one_reason, what_is_read_has_numbers,
+};
+pub use schema::{get_by_schema, parse_by_schema};
 pub use value::Value;

@@ -19,7 +19,7 @@ use sonic_text::{Kind, Stop};
 use std::alloc::Global;
 
 // How many containers may be open at once.
-const MAX_DEPTH: usize = 255;
+pub(crate) const MAX_DEPTH: usize = 255;
 
 impl Value {
     /// The value that a text is, with nothing but white space round it (RFC 8259, section 2), read
@@ -88,7 +88,8 @@ fn read_bytes(alloc: Global, text: &[u8]) -> std::result::Result<Value, Fault>
 // The value that a text is, which is UTF-8 where this says so.
 fn read_document(alloc: Global, text: &[u8], utf8: bool) -> std::result::Result<Value, Fault>
     requires { utf8 ≡ true → IsUtf8 text.now }
-    ensures ok { IfOk result (λ made. IsDocumentRead text.now (tree made)) }
+    ensures ok { IfOk result (λ made. IsDocumentRead
+        (record { text = text.now; is_utf8 = utf8 }) (tree made)) }
     ensures err { IfErr result (IsStopFor (λ s. (is_bytes : Bool) → IsUnread text.now is_bytes s)) }
     ensures within { IfErr result (IsStopFor (λ s. s.place ≤ length text.now)) }
 {
@@ -106,11 +107,11 @@ fn read_document(alloc: Global, text: &[u8], utf8: bool) -> std::result::Result<
 
 // Reads the value at the cursor, inside which so many containers may be open at once.
 #[cycle(read)]
-fn read_value(reader: &mut Reader<'_>, room: usize) -> std::result::Result<Value, Fault>
+pub(crate) fn read_value(reader: &mut Reader<'_>, room: usize) -> std::result::Result<Value, Fault>
     ensures ok { IfOk result (λ made.
-        IsValueRead reader.old.text room reader.old.place reader.new.place (tree made)) }
+        IsValueRead reader.old.source room reader.old.place reader.new.place (tree made)) }
     ensures moved { reader.new ≡ record reader.old { place = reader.new.place } }
-    ensures err { IfErr result (IsStopFor (IsUnreadValue reader.old.text room reader.old.place)) }
+    ensures err { IfErr result (IsStopFor (IsUnreadValue reader.old.source.text room reader.old.place)) }
 {
     let Some(kind) = reader.container() else {
         return reader.scalar();
@@ -129,11 +130,11 @@ fn read_value(reader: &mut Reader<'_>, room: usize) -> std::result::Result<Value
 // Reads the array at the cursor, inside whose elements so many containers may be open at once.
 #[cycle(read)]
 fn read_array(reader: &mut Reader<'_>, room: usize) -> std::result::Result<Value, Fault>
-    requires { byte reader.old.text reader.old.place ≡ opening Kind.Array }
+    requires { byte reader.old.source.text reader.old.place ≡ opening Kind.Array }
     ensures ok { IfOk result (λ made.
-        IsValueRead reader.old.text (room + 1) reader.old.place reader.new.place (tree made)) }
+        IsValueRead reader.old.source (room + 1) reader.old.place reader.new.place (tree made)) }
     ensures moved { reader.new ≡ record reader.old { place = reader.new.place } }
-    ensures err { IfErr result (IsStopFor (IsUnreadValue reader.old.text (room + 1) reader.old.place)) }
+    ensures err { IfErr result (IsStopFor (IsUnreadValue reader.old.source.text (room + 1) reader.old.place)) }
 {
     let mut elements = Vec::new(reader.alloc());
     let mut more = reader.enter(Kind::Array);
@@ -147,11 +148,11 @@ fn read_array(reader: &mut Reader<'_>, room: usize) -> std::result::Result<Value
 // Reads the object at the cursor, in the same way.
 #[cycle(read)]
 fn read_object(reader: &mut Reader<'_>, room: usize) -> std::result::Result<Value, Fault>
-    requires { byte reader.old.text reader.old.place ≡ opening Kind.Object }
+    requires { byte reader.old.source.text reader.old.place ≡ opening Kind.Object }
     ensures ok { IfOk result (λ made.
-        IsValueRead reader.old.text (room + 1) reader.old.place reader.new.place (tree made)) }
+        IsValueRead reader.old.source (room + 1) reader.old.place reader.new.place (tree made)) }
     ensures moved { reader.new ≡ record reader.old { place = reader.new.place } }
-    ensures err { IfErr result (IsStopFor (IsUnreadValue reader.old.text (room + 1) reader.old.place)) }
+    ensures err { IfErr result (IsStopFor (IsUnreadValue reader.old.source.text (room + 1) reader.old.place)) }
 {
     let mut members = Vec::new(reader.alloc());
     let mut more = reader.enter(Kind::Object);

@@ -1,16 +1,17 @@
 // A cursor that makes plain values of what it passes.
-ghost use Rattle.std.specs.Prelude.{◌≡◌, ◌≢◌, ◌+◌, ◌-◌, ◌≤◌, ◌<◌, ◌↔◌, ℕ, List, None, true, false, length, slice_range, string_bytes, IfOk, IfErr, IfSome, IsTrue};
+ghost use Rattle.std.specs.Prelude.{◌≡◌, ◌≢◌, ◌+◌, ◌-◌, ◌≤◌, ◌<◌, ◌↔◌, ℕ, List, None, true, false, length, slice_range, string_bytes, IfOk, IfErr, IfSome, IsTrue, OnOk};
+ghost use Rattle.std.specs.Cow.{cow_str_bytes};
 ghost use Rattle.std.specs.Str.{IsUtf8};
 ghost use Rattle.sonic_parser.specs.Containers.{IsEnd, IsSeparated, IsSeparatorFault};
 ghost use Rattle.sonic_parser.specs.Faults.{IsStopFor};
-ghost use Rattle.sonic_text.specs.Faults.{IsKeyFault};
+ghost use Rattle.sonic_text.specs.Faults.{IsFault, IsKeyFault};
 ghost use Rattle.sonic_text.specs.Numbers.{IsNumber};
 ghost use Rattle.sonic_text.specs.Places.{byte, after_space};
 ghost use Rattle.sonic_text.specs.Strings.{strict, IsString, IsEscapedString};
-ghost use Rattle.sonic_text.specs.Trees.{Means};
-ghost use Rattle.sonic_text.specs.Values.{opening, closing, IsKey};
+ghost use Rattle.sonic_text.specs.Values.{opening, closing, IsValue};
 ghost use Rattle.sonic_text.specs.declared.kind.Kind.{Kind};
-ghost use Rattle.sonic_value.specs.Readers.{IsValueRead, IsUnreadValue, IsScalarToken, IsStringToken, IsHeadRead};
+ghost use Rattle.sonic_value.specs.Keeping.{spelling};
+ghost use Rattle.sonic_value.specs.Readers.{IsValueRead, IsUnreadValue, IsScalarToken, IsStringToken, IsKeyToken, IsKeptText, IsKept, IsHeadRead};
 ghost use Rattle.sonic_value.specs.Views.{tree};
 
 use crate::Value;
@@ -18,6 +19,7 @@ use sonic_input::{JsonSlice, Read};
 use sonic_parser::{Fault, Parser};
 use sonic_text::{Kind, Stop, StringEnd, byte_at, unescape_into};
 use std::alloc::{AllocError, Global};
+use std::borrow::CowStr;
 use std::marker::Model;
 
 // A parser, and where the memory for the values comes from.
@@ -25,7 +27,7 @@ use std::marker::Model;
 pub(crate) struct Reader<'de> {
     parser: Parser<'de>,
     alloc: Global,
-    // The text is known to be UTF-8.
+    // The text is known to be UTF-8. Else strings are spelled out, as what they denote may be no text.
     utf8: bool,
 }
 
@@ -45,10 +47,21 @@ impl<'de> Reader<'de> {
     // At the first byte of a text, which is UTF-8 where this says so.
     pub(crate) fn new(alloc: Global, text: &'de [u8], utf8: bool) -> Reader<'de>
         requires { utf8 ≡ true → IsUtf8 text.now }
-        ensures { result ≡ record { text = text.now; place = 0 } }
+        ensures { result ≡ record { source = record { text = text.now; is_utf8 = utf8 }; place = 0 } }
     {
+        Reader::at(alloc, text, 0, utf8)
+    }
+
+    // At a place of a text, which is UTF-8 where this says so.
+    pub(crate) fn at(alloc: Global, text: &'de [u8], place: usize, utf8: bool) -> Reader<'de>
+        requires utf8 { utf8 ≡ true → IsUtf8 text.now }
+        requires inside { place ≤ length text.now }
+        ensures { result ≡ record { source = record { text = text.now; is_utf8 = utf8 }; place = place } }
+    {
+        let mut read = Read::unscanned(JsonSlice::Raw(text));
+        read.set_index(place);
         Reader {
-            parser: Parser::new(Read::unscanned(JsonSlice::Raw(text))),
+            parser: Parser::new(read),
             alloc,
             utf8,
         }
@@ -62,23 +75,23 @@ impl<'de> Reader<'de> {
     // The cursor.
     pub(crate) fn place(&self) -> usize
         ensures place { result ≡ self.now.place }
-        ensures inside { result ≤ length self.now.text }
+        ensures inside { result ≤ length self.now.source.text }
     {
         self.parser.offset()
     }
 
     // Passes white space.
     pub(crate) fn skip_space(&mut self)
-        ensures { self.new ≡ record self.old { place = after_space self.old.text self.old.place } }
+        ensures { self.new ≡ record self.old { place = after_space self.old.source.text self.old.place } }
     {
         self.parser.skip_space_peek();
     }
 
     // The kind of the container that begins at the cursor, if one does.
     pub(crate) fn container(&self) -> Option<Kind>
-        ensures some { IfSome result (λ kind. byte self.now.text self.now.place ≡ opening kind) }
+        ensures some { IfSome result (λ kind. byte self.now.source.text self.now.place ≡ opening kind) }
         ensures none { result ≡ None → (kind : Kind)
-            → byte self.now.text self.now.place ≢ opening kind }
+            → byte self.now.source.text self.now.place ≢ opening kind }
     {
         match byte_at(self.parser.text(), self.parser.offset()) {
             b'[' => Some(Kind::Array),
@@ -87,15 +100,22 @@ impl<'de> Reader<'de> {
         }
     }
 
+    // Whether an object begins at the cursor.
+    pub(crate) fn at_object(&self) -> bool
+        ensures { IsTrue result ↔ (byte self.now.source.text self.now.place ≡ opening Kind.Object) }
+    {
+        byte_at(self.parser.text(), self.parser.offset()) == b'{'
+    }
+
     // Goes past the bracket of the container of this kind at the cursor: whether an item is expected,
     // at which the cursor then is, or after the closing bracket.
     pub(crate) fn enter(&mut self, kind: Kind) -> bool
-        requires { byte self.old.text self.old.place ≡ opening kind }
+        requires { byte self.old.source.text self.old.place ≡ opening kind }
         ensures item { result ≡ true
-            → (self.new.place ≡ after_space self.old.text (self.old.place + 1))
-            × (byte self.old.text self.new.place ≢ closing kind) }
+            → (self.new.place ≡ after_space self.old.source.text (self.old.place + 1))
+            × (byte self.old.source.text self.new.place ≢ closing kind) }
         ensures empty { result ≡ false
-            → IsEnd self.old.text kind (self.old.place + 1) self.new.place }
+            → IsEnd self.old.source.text kind (self.old.place + 1) self.new.place }
         ensures moved { self.new ≡ record self.old { place = self.new.place } }
     {
         self.parser.enter(kind)
@@ -104,11 +124,11 @@ impl<'de> Reader<'de> {
     // Goes on after an item of a container of this kind: whether another one comes.
     pub(crate) fn next_item(&mut self, kind: Kind) -> Result<bool, Stop>
         ensures item { IfOk result (λ more. more ≡ true
-            → IsSeparated self.old.text self.old.place self.new.place) }
+            → IsSeparated self.old.source.text self.old.place self.new.place) }
         ensures end { IfOk result (λ more. more ≡ false
-            → IsEnd self.old.text kind self.old.place self.new.place) }
+            → IsEnd self.old.source.text kind self.old.place self.new.place) }
         ensures moved { self.new ≡ record self.old { place = self.new.place } }
-        ensures err { IfErr result (IsSeparatorFault self.old.text kind self.old.place) }
+        ensures err { IfErr result (IsSeparatorFault self.old.source.text kind self.old.place) }
     {
         self.parser.next_item(kind)
     }
@@ -116,28 +136,61 @@ impl<'de> Reader<'de> {
     // Reads the key at the cursor, up to the member's value.
     pub(crate) fn key(&mut self) -> Result<String, Fault>
         ensures ok { IfOk result (λ key.
-            IsHeadRead self.old.text Kind.Object self.old.place self.new.place (Some (string_bytes key))) }
+            IsHeadRead self.old.source Kind.Object self.old.place self.new.place (Some (string_bytes key))) }
         ensures moved { self.new ≡ record self.old { place = self.new.place } }
-        ensures err { IfErr result (IsStopFor (IsKeyFault strict self.old.text self.old.place)) }
+        ensures err { IfErr result (IsStopFor (IsKeyFault strict self.old.source.text self.old.place)) }
+    {
+        let key = self.pass_key()?;
+        Ok(self.string(key)?)
+    }
+
+    // The same, borrowed where it can be.
+    pub(crate) fn borrowed_key(&mut self) -> Result<CowStr<'de>, Fault>
+        ensures ok { IfOk result (λ key.
+            IsHeadRead self.old.source Kind.Object self.old.place self.new.place (Some (cow_str_bytes key))) }
+        ensures moved { self.new ≡ record self.old { place = self.new.place } }
+        ensures err { IfErr result (IsStopFor (IsKeyFault strict self.old.source.text self.old.place)) }
+    {
+        let key = self.pass_key()?;
+        if self.utf8 && !key.escaped {
+            return Ok(CowStr::Borrowed(unquoted(self.parser.text(), key)));
+        }
+        Ok(CowStr::Owned(self.string(key)?))
+    }
+
+    // Passes the key at the cursor, up to the member's value.
+    fn pass_key(&mut self) -> Result<Token, Stop>
+        ensures ok { IfOk result (IsKeyToken self.old.source.text self.old.place self.new.place) }
+        ensures moved { self.new ≡ record self.old { place = self.new.place } }
+        ensures err { IfErr result (IsKeyFault strict self.old.source.text self.old.place) }
     {
         let start = self.parser.offset();
         let StringEnd { end, escaped } = self.parser.key()?;
-        let key = Token {
+        Ok(Token {
             start,
             end,
             escaped,
-        };
-        Ok(self.string(key)?)
+        })
+    }
+
+    // Passes the value at the cursor, however deep it is.
+    pub(crate) fn skip_value(&mut self) -> Result<(), Fault>
+        ensures ok { OnOk result (IsValue strict self.old.source.text self.old.place self.new.place) }
+        ensures moved { self.new ≡ record self.old { place = self.new.place } }
+        ensures err { IfErr result (IsStopFor (IsFault strict self.old.source.text self.old.place)) }
+    {
+        self.parser.skip_value(self.alloc)?;
+        Ok(())
     }
 
     // Reads the value at the cursor, which is no container.
     pub(crate) fn scalar(&mut self) -> Result<Value, Fault>
-        requires { (kind : Kind) → byte self.old.text self.old.place ≢ opening kind }
+        requires { (kind : Kind) → byte self.old.source.text self.old.place ≢ opening kind }
         ensures ok { IfOk result (λ value. (room : ℕ)
-            → IsValueRead self.old.text room self.old.place self.new.place (tree value)) }
+            → IsValueRead self.old.source room self.old.place self.new.place (tree value)) }
         ensures moved { self.new ≡ record self.old { place = self.new.place } }
         ensures err { IfErr result (IsStopFor (λ s. (room : ℕ)
-            → IsUnreadValue self.old.text room self.old.place s)) }
+            → IsUnreadValue self.old.source.text room self.old.place s)) }
     {
         let start = self.parser.offset();
         let escaped = self.parser.skip_value(self.alloc)?.has_escaped();
@@ -152,9 +205,8 @@ impl<'de> Reader<'de> {
 
     // A value of the text that is no container.
     fn value(&self, value: Token) -> Result<Value, AllocError>
-        requires { IsScalarToken self.now.text value }
-        ensures { IfOk result (λ made. IsUtf8 (slice_range self.now.text value.start value.end)
-            → Means self.now.text value.start value.end (tree made)) }
+        requires { IsScalarToken self.now.source.text value }
+        ensures { IfOk result (λ made. IsKept self.now.source value.start value.end (tree made)) }
     {
         let text = self.parser.text();
         match byte_at(text, value.start) {
@@ -166,18 +218,18 @@ impl<'de> Reader<'de> {
         }
     }
 
-    // What a string of the text denotes. Where its bytes aren't UTF-8, some text.
+    // What a string of the text denotes, or how that is spelled.
     fn string(&self, string: Token) -> Result<String, AllocError>
-        requires { IsStringToken self.now.text string }
-        ensures { IfOk result (λ made. IsUtf8 (slice_range self.now.text string.start string.end)
-            → IsString strict self.now.text string.start string.end (string_bytes made)) }
+        requires { IsStringToken self.now.source.text string }
+        ensures { IfOk result (λ made.
+            IsKeptText self.now.source string.start string.end (string_bytes made)) }
     {
         let bytes = denoted(self.alloc, self.parser.text(), string)?;
         if self.utf8 {
             // SAFETY: what a string of a text in UTF-8 denotes is UTF-8.
             return Ok(unsafe { String::from_utf8_unchecked(bytes) });
         }
-        Ok(text_of(self.alloc, bytes))
+        spelled(self.alloc, &bytes)
     }
 }
 
@@ -205,14 +257,29 @@ fn denoted(alloc: Global, text: &[u8], string: Token) -> Result<Vec<u8>, AllocEr
     }
 }
 
-// The text with these bytes, where they are UTF-8, and else the empty text.
-fn text_of(alloc: Global, bytes: Vec<u8>) -> String
-    ensures { IsUtf8 bytes.items → string_bytes result ≡ bytes.items }
+// What a string without a backslash denotes, of a text in UTF-8: all between its quotes.
+fn unquoted(text: &[u8], string: Token) -> &str
+    requires utf8 { IsUtf8 text.now }
+    requires string { IsStringToken text.now string }
+    requires plain { ¬ IsEscapedString text.now string.start string.end }
+    ensures { IsString strict text.now string.start string.end result.now }
 {
-    match String::from_utf8(bytes) {
-        Ok(text) => text,
-        Err(_) => String::new(alloc),
+    let contents = &text[string.start + 1..string.end - 1];
+    // SAFETY: what a string of a text in UTF-8 denotes is UTF-8, and without a backslash that is its
+    // contents.
+    unsafe { std::str::from_utf8_unchecked(contents) }
+}
+
+// Bytes spelled out, two letters for each.
+pub(crate) fn spelled(alloc: Global, bytes: &[u8]) -> Result<String, AllocError>
+    ensures { IfOk result (λ made. string_bytes made ≡ spelling bytes.now) }
+{
+    let mut letters = String::new(alloc);
+    for byte in bytes {
+        letters.push((b'a' + byte / 16) as char)?;
+        letters.push((b'a' + byte % 16) as char)?;
     }
+    Ok(letters)
 }
 
 // The text of a number.

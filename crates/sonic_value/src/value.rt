@@ -13,6 +13,11 @@ mod lend;
 mod look_up;
 // The text.
 mod show;
+// Copies whose strings are spelled out.
+mod spell;
+
+pub(crate) use lend::{Holds, lend_item};
+pub(crate) use spell::spelled_value;
 
 /// A JSON value that is read whole.
 ///

@@ -6,7 +6,7 @@ use std::test::Fail;
 // Words, an input, its report, and the status.
 type Example = (&'static [&'static str], &'static [u8], &'static str, Status);
 
-const EXAMPLES: [Example; 30] = [
+const EXAMPLES: [Example; 34] = [
     (
         &[],
         b"[\"a\"]\n[\"b\",1]\n[\"c\"]\n\n{\"a\": \"x\", \"b\": [2, 30]}",
@@ -167,6 +167,25 @@ const EXAMPLES: [Example; 30] = [
         "! edits 1\n",
         Status::BadLines,
     ),
+    (
+        &["fill"],
+        b"{\"obj\":{\"a\":2}}\n{\"obj\":{\"a\":1, \"b\":1}}",
+        "{\"obj\":{\"a\":1}}\n",
+        Status::Done,
+    ),
+    (
+        &["fill"],
+        b"{\"a\": 1}\n{123}",
+        "! syntax ExpectObjectKeyOrEnd 1 2 1\n",
+        Status::DocumentError,
+    ),
+    (
+        &["fill"],
+        b"[]\n{}",
+        "! type Message 1 1 0\n",
+        Status::DocumentError,
+    ),
+    (&["fill"], b"{\"a\":\n{}", "! schema 1\n", Status::BadLines),
 ];
 
 #[test]

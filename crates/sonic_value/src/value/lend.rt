@@ -144,7 +144,7 @@ fn member_mut<'a>(members: &'a mut Vec<(String, Value)>, key: &str) -> Option<&'
 //
 // The borrow checker proves what is lent of a type by way of this trait, and not what is lent of a
 // value as a value.
-trait Holds {
+pub(crate) trait Holds {
     // The tree of the value.
     ghost shown: { Self → Tree };
 
@@ -182,7 +182,10 @@ impl Holds for Value {
 }
 
 // The item that a node names.
-fn lend_item<'a, A: Holds>(value: &'a mut A, node: PointerNode<'_>) -> Option<&'a mut Value>
+pub(crate) fn lend_item<'a, A: Holds>(
+    value: &'a mut A,
+    node: PointerNode<'_>,
+) -> Option<&'a mut Value>
     ensures* back { sem 𝓛 (LendsSo A.row value_row value.entry result
         (λ m w. IfSome result (λ lent. (A.Holds.shown m
         ≡ put (node_of node.entry ∷ []) (tree w) (A.Holds.shown value.old))

@@ -5,39 +5,39 @@ use Rattle.sonic_parser.proofs.FaultLemmas.{stop_weaker}
 use Rattle.sonic_text.specs.declared.kind.Kind.TheVariants.{Array, Object}
 use Rattle.sonic_value.proofs.DepthLemmas.{too_deep_here}
 use Rattle.sonic_value.proofs.Folds.{element, member, array_items, object_items}
-use Rattle.sonic_value.proofs.ReaderLemmas.{same_text, container_begins, container_goes_on, less_left, key_unread, value_unread, separator_unread}
-use Rattle.sonic_value.specs.Readers.{too_deep, no_key}
+use Rattle.sonic_value.proofs.ReaderLemmas.{same_source, no_label, container_begins, container_goes_on, less_left, key_unread, value_unread, separator_unread}
+use Rattle.sonic_value.specs.Readers.{too_deep}
 use Rattle.sonic_value.proofs.read.+read.Goals as goal
 
 pub read_array-loop-more-init : goal.read_array-loop-more-init
 read_array-loop-more-init t c = record {
   kept = c.enter-more.ensures.moved;
-  read = rw c.new-elements.ensures.items (container_begins c.args.reader.now.text Array c.args.room c.args.reader.now.place c.enter-more.result c.requires c.enter-more.ensures.item c.enter-more.ensures.empty);
+  read = rw c.new-elements.ensures.items (container_begins c.args.reader.now.source Array c.args.room c.args.reader.now.place c.enter-more.result c.requires c.enter-more.ensures.item c.enter-more.ensures.empty);
 }
 
 pub read_array-loop-more-preserved : goal.read_array-loop-more-preserved
 read_array-loop-more-preserved t c =
-    let text : c.loop-more.reader.text ≡ c.args.reader.now.text = same_text c.loop-more.invariant.kept in
-    let passed : c.read_value.new.reader.text ≡ c.args.reader.now.text = same_text c.in_ok-read_value.ensures.moved ∙ text in
+    let source : c.loop-more.reader.source ≡ c.args.reader.now.source = same_source c.loop-more.invariant.kept in
+    let passed : c.read_value.new.reader.source ≡ c.args.reader.now.source = same_source c.in_ok-read_value.ensures.moved ∙ source in
     let read = rw c.loop-more-test.true at c.loop-more.invariant.read in
-    let value = rw text at c.in_ok-read_value.ensures.ok in
+    let value = rw source at c.in_ok-read_value.ensures.ok in
     let comma = rw passed at c.in_ok-more.ensures.item in
     let close = rw passed at c.in_ok-more.ensures.end in
     record {
       kept = rw passed at c.in_ok-more.ensures.moved;
-      read = rw (c.in_ok-push.ensures.items, map-append element c.loop-more.elements.items (c.in_ok-read_value.field-0 ∷ [])) (container_goes_on c.in_ok-more.more read (no_key refl) value comma close);
+      read = rw (c.in_ok-push.ensures.items, map-append element c.loop-more.elements.items (c.in_ok-read_value.field-0 ∷ [])) (container_goes_on c.in_ok-more.more read (no_label refl) value comma close);
     }
 
 pub read_array-loop-more-smaller : goal.read_array-loop-more-smaller
 read_array-loop-more-smaller t c =
-    let text : c.loop-more.reader.text ≡ c.args.reader.now.text = same_text c.loop-more.invariant.kept in
-    let passed : c.read_value.new.reader.text ≡ c.args.reader.now.text = same_text c.in_ok-read_value.ensures.moved ∙ text in
-    let after : c.next_item.new.self.text ≡ c.args.reader.now.text = same_text c.in_ok-more.ensures.moved ∙ passed in
+    let source : c.loop-more.reader.source ≡ c.args.reader.now.source = same_source c.loop-more.invariant.kept in
+    let passed : c.read_value.new.reader.source ≡ c.args.reader.now.source = same_source c.in_ok-read_value.ensures.moved ∙ source in
+    let after : c.next_item.new.self.source ≡ c.args.reader.now.source = same_source c.in_ok-more.ensures.moved ∙ passed in
     let read = rw c.loop-more-test.true at c.loop-more.invariant.read in
-    let value = rw text at c.in_ok-read_value.ensures.ok in
+    let value = rw source at c.in_ok-read_value.ensures.ok in
     let comma = rw passed at c.in_ok-more.ensures.item in
     let close = rw passed at c.in_ok-more.ensures.end in
-    rw (after, text) (less_left c.in_ok-more.more read (no_key refl) value comma close)
+    rw (after, source) (less_left c.in_ok-more.more read (no_label refl) value comma close)
 
 pub read_array-returns-clause-ok : goal.read_array-returns-clause-ok
 read_array-returns-clause-ok t c = rw (array_items c.loop-more.elements) (rw c.loop-more-test.false at c.loop-more.invariant.read)
@@ -45,34 +45,34 @@ read_array-returns-clause-ok t c = rw (array_items c.loop-more.elements) (rw c.l
 pub read_array-returns-in_err-read_value-clause-err : goal.read_array-returns-in_err-read_value-clause-err
 read_array-returns-in_err-read_value-clause-err t c =
     let p = err_from_is_err_and c.from_residual.result c.from_residual.ensures.1 in
-    let text : c.loop-more.reader.text ≡ c.args.reader.now.text = same_text c.loop-more.invariant.kept in
+    let source : c.loop-more.reader.source ≡ c.args.reader.now.source = same_source c.loop-more.invariant.kept in
     let read = rw c.loop-more-test.true at c.loop-more.invariant.read in
-    let stop = rw text at c.in_err-read_value.ensures.err in
-    rw (p.1, p.2) (stop_weaker c.in_err-read_value.field-0.0 (λ s f. value_unread read (no_key refl) f) stop)
+    let stop = rw source at c.in_err-read_value.ensures.err in
+    rw (p.1, p.2) (stop_weaker c.in_err-read_value.field-0.0 (λ s f. value_unread read (no_label refl) f) stop)
 
 pub read_array-returns-in_err-more-clause-err : goal.read_array-returns-in_err-more-clause-err
 read_array-returns-in_err-more-clause-err t c =
     let p = err_from_is_err_and c.from_residual-in_err-more.result c.from_residual-in_err-more.ensures.1 in
-    let text : c.loop-more.reader.text ≡ c.args.reader.now.text = same_text c.loop-more.invariant.kept in
-    let passed : c.read_value.new.reader.text ≡ c.args.reader.now.text = same_text c.in_ok-read_value.ensures.moved ∙ text in
+    let source : c.loop-more.reader.source ≡ c.args.reader.now.source = same_source c.loop-more.invariant.kept in
+    let passed : c.read_value.new.reader.source ≡ c.args.reader.now.source = same_source c.in_ok-read_value.ensures.moved ∙ source in
     let read = rw c.loop-more-test.true at c.loop-more.invariant.read in
-    let value = rw text at c.in_ok-read_value.ensures.ok in
+    let value = rw source at c.in_ok-read_value.ensures.ok in
     let fault = rw passed at c.in_err-more.ensures.err in
-    rw (p.1, p.2) (separator_unread read (no_key refl) value fault)
+    rw (p.1, p.2) (separator_unread read (no_label refl) value fault)
 
 pub read_object-loop-more-init : goal.read_object-loop-more-init
 read_object-loop-more-init t c = record {
   kept = c.enter-more.ensures.moved;
-  read = rw c.new-members.ensures.items (container_begins c.args.reader.now.text Object c.args.room c.args.reader.now.place c.enter-more.result c.requires c.enter-more.ensures.item c.enter-more.ensures.empty);
+  read = rw c.new-members.ensures.items (container_begins c.args.reader.now.source Object c.args.room c.args.reader.now.place c.enter-more.result c.requires c.enter-more.ensures.item c.enter-more.ensures.empty);
 }
 
 pub read_object-loop-more-preserved : goal.read_object-loop-more-preserved
 read_object-loop-more-preserved t c =
-    let text : c.loop-more.reader.text ≡ c.args.reader.now.text = same_text c.loop-more.invariant.kept in
-    let headed : c.key.new.self.text ≡ c.args.reader.now.text = same_text c.in_ok-key.ensures.moved ∙ text in
-    let passed : c.read_value.new.reader.text ≡ c.args.reader.now.text = same_text c.in_ok-read_value.ensures.moved ∙ headed in
+    let source : c.loop-more.reader.source ≡ c.args.reader.now.source = same_source c.loop-more.invariant.kept in
+    let headed : c.key.new.self.source ≡ c.args.reader.now.source = same_source c.in_ok-key.ensures.moved ∙ source in
+    let passed : c.read_value.new.reader.source ≡ c.args.reader.now.source = same_source c.in_ok-read_value.ensures.moved ∙ headed in
     let read = rw c.loop-more-test.true at c.loop-more.invariant.read in
-    let head = rw text at c.in_ok-key.ensures.ok in
+    let head = rw source at c.in_ok-key.ensures.ok in
     let value = rw headed at c.in_ok-read_value.ensures.ok in
     let comma = rw passed at c.in_ok-more.ensures.item in
     let close = rw passed at c.in_ok-more.ensures.end in
@@ -83,16 +83,16 @@ read_object-loop-more-preserved t c =
 
 pub read_object-loop-more-smaller : goal.read_object-loop-more-smaller
 read_object-loop-more-smaller t c =
-    let text : c.loop-more.reader.text ≡ c.args.reader.now.text = same_text c.loop-more.invariant.kept in
-    let headed : c.key.new.self.text ≡ c.args.reader.now.text = same_text c.in_ok-key.ensures.moved ∙ text in
-    let passed : c.read_value.new.reader.text ≡ c.args.reader.now.text = same_text c.in_ok-read_value.ensures.moved ∙ headed in
-    let after : c.next_item.new.self.text ≡ c.args.reader.now.text = same_text c.in_ok-more.ensures.moved ∙ passed in
+    let source : c.loop-more.reader.source ≡ c.args.reader.now.source = same_source c.loop-more.invariant.kept in
+    let headed : c.key.new.self.source ≡ c.args.reader.now.source = same_source c.in_ok-key.ensures.moved ∙ source in
+    let passed : c.read_value.new.reader.source ≡ c.args.reader.now.source = same_source c.in_ok-read_value.ensures.moved ∙ headed in
+    let after : c.next_item.new.self.source ≡ c.args.reader.now.source = same_source c.in_ok-more.ensures.moved ∙ passed in
     let read = rw c.loop-more-test.true at c.loop-more.invariant.read in
-    let head = rw text at c.in_ok-key.ensures.ok in
+    let head = rw source at c.in_ok-key.ensures.ok in
     let value = rw headed at c.in_ok-read_value.ensures.ok in
     let comma = rw passed at c.in_ok-more.ensures.item in
     let close = rw passed at c.in_ok-more.ensures.end in
-    rw (after, text) (less_left c.in_ok-more.more read head value comma close)
+    rw (after, source) (less_left c.in_ok-more.more read head value comma close)
 
 pub read_object-returns-clause-ok : goal.read_object-returns-clause-ok
 read_object-returns-clause-ok t c = rw (object_items c.loop-more.members) (rw c.loop-more-test.false at c.loop-more.invariant.read)
@@ -100,29 +100,29 @@ read_object-returns-clause-ok t c = rw (object_items c.loop-more.members) (rw c.
 pub read_object-returns-in_err-key-clause-err : goal.read_object-returns-in_err-key-clause-err
 read_object-returns-in_err-key-clause-err t c =
     let p = err_from_is_err_and c.from_residual.result c.from_residual.ensures.1 in
-    let text : c.loop-more.reader.text ≡ c.args.reader.now.text = same_text c.loop-more.invariant.kept in
+    let source : c.loop-more.reader.source ≡ c.args.reader.now.source = same_source c.loop-more.invariant.kept in
     let read = rw c.loop-more-test.true at c.loop-more.invariant.read in
-    let fault = rw text at c.in_err-key.ensures.err in
+    let fault = rw source at c.in_err-key.ensures.err in
     rw (p.1, p.2) (stop_weaker c.in_err-key.field-0.0 (λ s f. key_unread read refl f) fault)
 
 pub read_object-returns-in_err-read_value-clause-err : goal.read_object-returns-in_err-read_value-clause-err
 read_object-returns-in_err-read_value-clause-err t c =
     let p = err_from_is_err_and c.from_residual-in_err-read_value.result c.from_residual-in_err-read_value.ensures.1 in
-    let text : c.loop-more.reader.text ≡ c.args.reader.now.text = same_text c.loop-more.invariant.kept in
-    let headed : c.key.new.self.text ≡ c.args.reader.now.text = same_text c.in_ok-key.ensures.moved ∙ text in
+    let source : c.loop-more.reader.source ≡ c.args.reader.now.source = same_source c.loop-more.invariant.kept in
+    let headed : c.key.new.self.source ≡ c.args.reader.now.source = same_source c.in_ok-key.ensures.moved ∙ source in
     let read = rw c.loop-more-test.true at c.loop-more.invariant.read in
-    let head = rw text at c.in_ok-key.ensures.ok in
+    let head = rw source at c.in_ok-key.ensures.ok in
     let stop = rw headed at c.in_err-read_value.ensures.err in
     rw (p.1, p.2) (stop_weaker c.in_err-read_value.field-0.0 (λ s f. value_unread read head f) stop)
 
 pub read_object-returns-in_err-more-clause-err : goal.read_object-returns-in_err-more-clause-err
 read_object-returns-in_err-more-clause-err t c =
     let p = err_from_is_err_and c.from_residual-in_err-more.result c.from_residual-in_err-more.ensures.1 in
-    let text : c.loop-more.reader.text ≡ c.args.reader.now.text = same_text c.loop-more.invariant.kept in
-    let headed : c.key.new.self.text ≡ c.args.reader.now.text = same_text c.in_ok-key.ensures.moved ∙ text in
-    let passed : c.read_value.new.reader.text ≡ c.args.reader.now.text = same_text c.in_ok-read_value.ensures.moved ∙ headed in
+    let source : c.loop-more.reader.source ≡ c.args.reader.now.source = same_source c.loop-more.invariant.kept in
+    let headed : c.key.new.self.source ≡ c.args.reader.now.source = same_source c.in_ok-key.ensures.moved ∙ source in
+    let passed : c.read_value.new.reader.source ≡ c.args.reader.now.source = same_source c.in_ok-read_value.ensures.moved ∙ headed in
     let read = rw c.loop-more-test.true at c.loop-more.invariant.read in
-    let head = rw text at c.in_ok-key.ensures.ok in
+    let head = rw source at c.in_ok-key.ensures.ok in
     let value = rw headed at c.in_ok-read_value.ensures.ok in
     let fault = rw passed at c.in_err-more.ensures.err in
     rw (p.1, p.2) (separator_unread read head value fault)

@@ -16,18 +16,18 @@ decreases-read_object l = 2 * l.room + 1
 
 abbrev pub invariant-read_array-loop-more : goal.invariant-read_array-loop-more
 invariant-read_array-loop-more l = record {
-  kept : l.reader ≡ record { text = l.fn.reader.text; place = l.reader.place };
-  read : IsContainerRead l.fn.reader.text Array l.room l.fn.reader.place l.reader.place (map element l.elements.items) l.more;
+  kept : l.reader ≡ record { source = l.fn.reader.source; place = l.reader.place };
+  read : IsContainerRead l.fn.reader.source Array l.room l.fn.reader.place l.reader.place (map element l.elements.items) l.more;
 }
 
 abbrev pub decreases-read_array-loop-more : goal.decreases-read_array-loop-more
-decreases-read_array-loop-more l = length l.reader.text - l.reader.place
+decreases-read_array-loop-more l = length l.reader.source.text - l.reader.place
 
 abbrev pub invariant-read_object-loop-more : goal.invariant-read_object-loop-more
 invariant-read_object-loop-more l = record {
-  kept : l.reader ≡ record { text = l.fn.reader.text; place = l.reader.place };
-  read : IsContainerRead l.fn.reader.text Object l.room l.fn.reader.place l.reader.place (map member l.members.items) l.more;
+  kept : l.reader ≡ record { source = l.fn.reader.source; place = l.reader.place };
+  read : IsContainerRead l.fn.reader.source Object l.room l.fn.reader.place l.reader.place (map member l.members.items) l.more;
 }
 
 abbrev pub decreases-read_object-loop-more : goal.decreases-read_object-loop-more
-decreases-read_object-loop-more l = length l.reader.text - l.reader.place
+decreases-read_object-loop-more l = length l.reader.source.text - l.reader.place

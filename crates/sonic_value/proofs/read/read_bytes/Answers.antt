@@ -1,11 +1,11 @@
-use Rattle.std.proofs.Common.{true}
+use Rattle.std.proofs.Common.{true, refl}
 use Rattle.std.proofs.lemmas.Result.{err_from_is_err_and, IfOk-weaker, IfErr-weaker}
 use Rattle.sonic_parser.proofs.FaultLemmas.{stop_weaker}
 use Rattle.sonic_value.proofs.DocumentLemmas.{document_read, broken_unread}
 use Rattle.sonic_value.proofs.read.read_bytes.Goals as goal
 
 pub returns-in-Ok-clause-ok : goal.returns-in-Ok-clause-ok
-returns-in-Ok-clause-ok c = IfOk-weaker c.read_document.result _ _ (λ made read. document_read read c.in-Ok.ensures.cases.1) c.read_document.ensures.ok
+returns-in-Ok-clause-ok c = IfOk-weaker c.read_document.result _ _ (λ made read. document_read read refl c.in-Ok.ensures.cases.1) c.read_document.ensures.ok
 
 pub returns-in-Ok-clause-err : goal.returns-in-Ok-clause-err
 returns-in-Ok-clause-err c = IfErr-weaker c.read_document.result _ _ (λ fault h. stop_weaker fault (λ s f. f true) h) c.read_document.ensures.err

@@ -26,9 +26,7 @@ value-requires c =
 
 pub returns-clause-ok : goal.returns-clause-ok
 returns-clause-ok c =
-    let passed = c.in_ok-skip_value.ensures.ok in
     let text : c.skip_value.new.self.text ≡ c.self.inside.parser.text = ap (λ (p : Parsing). p.text) c.in_ok-skip_value.ensures.cursor in
     let begins : BeginsNoContainer c.self.inside.parser.text c.self.inside.parser.place = rw (← c.self.view_is) at c.requires in
-    let value : IsValue strict c.self.inside.parser.text c.self.inside.parser.place c.skip_value.new.self.place = rw c.self.invariant.0 at passed.value in
-    let means = rw (text, c.offset-start.ensures.place, c.offset-end.ensures.place) at c.in_ok-value.ensures in
-    rw (← c.self.view_is) (scalar_read begins value means)
+    let kept = rw (text, c.offset-start.ensures.place, c.offset-end.ensures.place) at c.in_ok-value.ensures in
+    rw (← c.self.view_is) (scalar_read begins kept)
