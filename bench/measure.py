@@ -21,10 +21,11 @@ import documents
 import peers
 
 OURS = "ours"
-# The calls of the library that look one path up, and the documents in which they do, near the end of
-# the first and near the start of the second.
+FAST = "fast"
+# The calls of the library that look one path up, and the documents in which they do, near the start
+# of `start` and near the end of the others.
 CALLS = ["get", "get_unchecked"]
-CALLED = ["records", "start", "strings", "200-deep"]
+CALLED = ["records", "start", "strings", "200-deep", "brackets"]
 # Bytes of memory that a command may take: jq would take all for many arrays, and ends with an error.
 MOST_MEMORY = 4 * 10**9
 
@@ -96,6 +97,7 @@ def commands_for(path, program, others):
     paths, start = head_of(path)
     yield Command("cat", ["cat"], reports=False)
     yield Command(OURS, [program])
+    yield Command(FAST, [program, "fast"])
     for name, command in others.items():
         if name == "jq":
             yield Command(name, [command, "-c", filter_of(paths)], start, reports=False, slow=True)
@@ -141,7 +143,7 @@ def measure(name, folder, program, others, runs):
     for it in commands:
         row = f"{name:9} {size:4.0f} {it.name:11} {it.seconds:7.3f} {it.seconds / cat.seconds:7.1f}"
         row += f" {peak_of(it):>8} {it.status:7} {it.same:>8}"
-        print(row + (f" {ratio(ours, it):>10}" if it.name in others else ""), flush=True)
+        print(row + ("" if it in (cat, ours) else f" {ratio(ours, it):>10}"), flush=True)
 
 
 def count_writes(command, path):
@@ -166,24 +168,35 @@ def measure_word(word, name, folder, program, runs):
     print(row + f" {peak_of(ours):>8} {ours.status:7} {count_writes(ours, path):>8}", flush=True)
 
 
-def measure_calls(name, folder, examples, runs):
-    """One look-up by a call of the library: what ten more of them take, in a document that was read."""
-    path = documents.path_of(folder, name)
+def lookups(path, examples, peers):
+    """The look-ups of a document's first path: a name, where it begins to read, and the command for so
+    many of them. Copying is no look-up, and shows what passing the bytes takes at least."""
     paths, start = head_of(path)
     words = [str(step) for step in paths[0]]
     for call in CALLS:
-        once, more = (Command(call, [examples, call, times, *words], start, reports=False) for times in ("1", "11"))
-        for _ in range(runs):
-            once.count(path)
-            more.count(path)
-        size = os.path.getsize(path) / 10**6
-        print(f"{name:9} {size:4.0f} {call:13} {(more.seconds - once.seconds) / 10:7.4f}", flush=True)
+        yield call, start, lambda times, call=call: [examples, call, times, *words]
+    for name, command in peers.items():
+        yield name, 0 if name == "simdjson" else start, lambda times, command=command: [command, times]
+
+
+def measure_calls(name, folder, examples, peers, runs):
+    """One look-up, in a document that was read: what ten more of them take."""
+    path = documents.path_of(folder, name)
+    size = os.path.getsize(path) / 10**6
+    pairs = [(call, [Command(call, words(times), start) for times in ("1", "11")]) for call, start, words in lookups(path, examples, peers)]
+    for _ in range(runs):
+        for _, pair in pairs:
+            for command in pair:
+                command.count(path)
+    for call, (once, more) in pairs:
+        seconds = (more.seconds - once.seconds) / 10
+        print(f"{name:9} {size:4.0f} {call:13} {seconds:7.4f} {1000 * seconds / size:7.3f}", flush=True)
 
 
 def main():
     program, folder, runs = sys.argv[1], sys.argv[2], int(sys.argv[3])
     examples = sys.argv[4] if len(sys.argv) > 4 else None
-    others = peers.build(folder)
+    others = peers.build(folder, peers.simdjson, peers.serde_json, peers.yyjson, peers.jq)
     resource.setrlimit(resource.RLIMIT_AS, (MOST_MEMORY, MOST_MEMORY))
     print(f"{'document':9} {'MB':>4} {'command':11} {'cpu s':>7} {'to cat':>7} {'peak MB':>8} {'status':>7} {'report':>8} {'ours to it':>10}")
     for name in documents.DOCUMENTS:
@@ -194,9 +207,10 @@ def main():
     for name in documents.FILLS:
         measure_word("fill", name, folder, program, runs)
     if examples:
-        print(f"{'document':9} {'MB':>4} {'call':13} {'cpu s':>7}")
+        beside = peers.build(folder, peers.simdjson, peers.memcpy)
+        print(f"{'document':9} {'MB':>4} {'call':13} {'cpu s':>7} {'ns/byte':>7}")
         for name in CALLED:
-            measure_calls(name, folder, examples, runs)
+            measure_calls(name, folder, examples, beside, runs)
 
 
 main()

@@ -59,14 +59,21 @@ def yyjson(folder):
     return out
 
 
+def memcpy(folder):
+    """No reader: it copies a document so many times. It is measured beside single calls alone."""
+    out = os.path.join(folder, "memcpy")
+    compiled([tool("cc", "gcc", "clang"), *OPTIMIZED, os.path.join(HERE, "peers", "copy.c"), "-o", out])
+    return out
+
+
 def jq(folder):
     return tool("jq")
 
 
-def build(folder):
+def build(folder, *peers):
     """The peers that are here, by name, and the command of each. Says which are left out, and why."""
     commands = {}
-    for peer in (simdjson, serde_json, yyjson, jq):
+    for peer in peers:
         try:
             commands[peer.__name__] = peer(folder)
         except LeftOut as why:

@@ -1,5 +1,6 @@
 -- Odd counts and odd runs, from one place to the next.
-use Rattle.std.proofs.Common.{◌≡◌, ℕ, zero, suc, ◌+◌, ◌%◌, ◌<◌, Bool, true, false, not, ◌&&◌, ◌==◌, cond, refl, ap, ap₂, ◌∙◌, arith, mod-lt}
+use Rattle.std.proofs.Common.{◌≡◌, ℕ, zero, suc, ◌+◌, ◌%◌, ◌<◌, ◌≤◌, Bool, true, false, not, ◌&&◌, ◌==◌, cond, refl, ap, ap₂, ◌∙◌, arith, mod-lt, inl, inr}
+use Rattle.std.proofs.lemmas.Bool.{cases_lt}
 use Rattle.sonic_blocks.specs.Bits.{is_odd, count_below, run_before, is_escaped}
 use Rattle.sonic_blocks.proofs.BitLemmas.{zero_or_one}
 use Rattle.sonic_blocks.proofs.BoolLemmas.{xor}
@@ -40,3 +41,45 @@ pub count_same : (p q : ℕ → Bool) (c n : ℕ) → ((k : ℕ) → k < n → p
 unfolding count_below
 count_same p q c zero h = refl
 count_same p q c (suc n) h = ap₂ (λ b m. cond b (suc m) m) (h n (omega arith)) (count_same p q c n (λ k l. h k (omega arith)))
+
+-- no more than n of the places below n are counted
+pub count_few : (test : ℕ → Bool) (c n : ℕ) → count_below test c n ≤ c + n
+unfolding count_below
+count_few test c zero = omega arith
+count_few test c (suc n) = more (test n) (count_few test c n)
+  where
+    more : (b : Bool) → count_below test c n ≤ c + n → cond b (suc (count_below test c n)) (count_below test c n) ≤ c + suc n
+    more true e = omega arith
+    more false e = omega arith
+
+-- what is counted before comes on top
+pub count_from : (test : ℕ → Bool) (c n : ℕ) → count_below test c n ≡ c + count_below test 0 n
+unfolding count_below
+count_from test c zero = omega arith
+count_from test c (suc n) = more (test n) (count_from test c n)
+  where
+    more : (b : Bool) → count_below test c n ≡ c + count_below test 0 n → cond b (suc (count_below test c n)) (count_below test c n) ≡ c + cond b (suc (count_below test 0 n)) (count_below test 0 n)
+    more true e = omega arith
+    more false e = e
+
+-- over places that all fail the test the count stays
+pub count_none : (test : ℕ → Bool) (c m n : ℕ) → m ≤ n → ((k : ℕ) → m ≤ k → k < n → test k ≡ false) → count_below test c n ≡ count_below test c m
+unfolding count_below
+count_none test c m zero h none = let same : 0 ≡ m = omega arith in ap (count_below test c) same
+count_none test c m (suc n) h none = elim (cases_lt n m) [
+  | inl l ↦ (let same : suc n ≡ m = omega arith in ap (count_below test c) same)
+  | inr l ↦ ap (λ b. cond b (suc (count_below test c n)) (count_below test c n)) (none n l (omega arith)) ∙ count_none test c m n l (λ k from to. none k from (omega arith))
+]
+
+-- and it never falls
+pub count_grows : (test : ℕ → Bool) (c m n : ℕ) → m ≤ n → count_below test c m ≤ count_below test c n
+unfolding count_below
+count_grows test c m zero h = let same : m ≡ 0 = omega arith in omega (arith, ap (count_below test c) same)
+count_grows test c m (suc n) h = elim (cases_lt n m) [
+  | inl l ↦ (let same : m ≡ suc n = omega arith in omega (arith, ap (count_below test c) same))
+  | inr l ↦ more (test n) (count_grows test c m n l)
+]
+  where
+    more : (b : Bool) → count_below test c m ≤ count_below test c n → count_below test c m ≤ cond b (suc (count_below test c n)) (count_below test c n)
+    more true e = omega arith
+    more false e = omega arith

@@ -161,3 +161,21 @@ module _ (c b : ℕ) (bit : c < 2) (small : b < 2 ^ 64) where
       overflows r (into 64) (starts + live) h (sum_carries starts live starts_small live_small)
       ∙ carry_next 63 low ∙ ap (λ v. most (begins (is_set follows 63) (is_live 63) v) (is_live 63) (into 63)) even_ends
       ∙ same_is _ _ (implied _ _ (last_known (is_set follows 63) (is_live 63) (into 63) (is_escaped_at 63)) (ap at (sym even_ends) ∙ known 63 low)) ∙ sym (escaped_next 63 low)
+
+-- 0 has no bit
+none_set : (k : ℕ) → is_set 0 k ≡ false
+none_set zero = set_carry_zero 0 (omega arith)
+none_set (suc k) = set_carry_suc 0 k (omega arith)
+
+-- without a backslash no byte after another one is escaped
+pub no_backslash_before : (c k : ℕ) → is_escaped (is_set 0) c (suc k) ≡ false
+no_backslash_before c k = escaped_suc (is_set 0) c k ∙ ap (λ x. x && not (is_escaped (is_set 0) c k)) (none_set k)
+
+-- and the first one is as the block before says
+pub no_backslash_bits : (c : ℕ) → c < 2 → (k : ℕ) → k < 64 → is_set c k ≡ is_escaped (is_set 0) c k
+no_backslash_bits c bit zero h = set_carry_zero c bit ∙ sym (escaped_first c 0 bit (omega arith))
+no_backslash_bits c bit (suc k) h = set_carry_suc c k bit ∙ sym (no_backslash_before c k)
+
+-- words without a common bit are apart
+pub apart : (a b : ℕ) → bit_and a b ≡ 0 → (k : ℕ) → k < 64 → is_set a k ≡ true → is_set b k ≡ false
+apart a b e k h t = ap (λ x. x && is_set b k) (sym t) ∙ sym (set_and a b k) ∙ ap (λ n. is_set n k) e ∙ none_set k

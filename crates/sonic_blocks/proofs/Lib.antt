@@ -1,6 +1,7 @@
+pub mod BlockLemmas
 pub mod BoolLemmas
-mod BitLemmas
-mod CountLemmas
+pub mod BitLemmas
+pub mod CountLemmas
 mod SumLemmas
 pub mod OutsideLemmas
 mod ParityLemmas
@@ -8,6 +9,9 @@ mod EscapeLemmas
 mod InsideLemmas
 mod LaneLemmas
 mod LowestLemmas
+pub mod OnesLemmas
+mod ClosingLemmas
 mod NextBitLemmas
 mod StringBlockLemmas
+mod ViewLemmas
 pub mod RunLemmas

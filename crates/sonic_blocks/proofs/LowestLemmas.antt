@@ -1,9 +1,12 @@
 -- The lowest bit of a word, and the word without it.
-use Rattle.std.proofs.Common.{◌≡◌, ℕ, suc, ◌+◌, ◌-◌, ◌*◌, ◌/◌, ◌%◌, ◌^◌, ◌<◌, ◌≤◌, ◌⊎◌, inl, inr, true, false, ◌==◌, sym, ap, ◌∙◌, arith, w32, pow_pos, pow-suc}
+use Rattle.std.proofs.Common.{◌≡◌, ℕ, suc, ◌+◌, ◌-◌, ◌*◌, ◌/◌, ◌%◌, ◌^◌, ◌<◌, ◌≤◌, ◌⊎◌, inl, inr, Bool, true, false, ◌==◌, ◌&&◌, nat_lt, refl, sym, ap, ◌∙◌, arith, w32, pow_pos, pow-suc}
 use Rattle.std.specs.Int.{bit_at, trailing_zeros, Width}
 use mir.Val.{bits}
 use Rattle.std.proofs.lemmas.Bool.{cases_lt, cases_order, false≢true}
-use Rattle.std.proofs.lemmas.Nat.Bits.{bit_at-trailing_zeros, bit_at-pow_same, bit_at-pow_other, bit_at_ones, bit_at_cat_low, bit_at_cat_high, same_from_bits}
+use Rattle.std.proofs.lemmas.Nat.Bits.{bit_at-trailing_zeros, bit_at-pow_same, bit_at-pow_other, bit_at_ones, bit_at_ones_above, bit_at_cat_low, bit_at_cat_high, same_from_bits}
+use lib.Bits.{bit_and}
+use Rattle.std.proofs.lemmas.Bool.Decides.{nat_tests}
+use Rattle.sonic_blocks.proofs.BitLemmas.{set_and}
 use lib.Count.{trailing_of_zero, trailing_le}
 use lib.Pow.{shr-shr}
 use Rattle.sonic_blocks.specs.Bits.{is_set}
@@ -65,6 +68,29 @@ module _ (w : Width) (n : ℕ) (some : 0 < n) (small : n < 2 ^ bits w) where
   one_less_above k h =
       let less : 2 ^ lowest - 1 < 2 ^ suc lowest = omega (arith, pow-suc 2 lowest, pow_pos lowest) in
       ap (λ b. b == 1) (ap (λ x. bit_at x k) one_less ∙ bit_at_cat_high above (suc lowest) (2 ^ lowest - 1) k less (omega arith) ∙ bit_above k h)
+
+  pub lowest_cleared : is_set (n - 1) lowest ≡ false
+  unfolding is_set
+  lowest_cleared = ap (λ b. b == 1) (ap (λ x. bit_at x lowest) one_less ∙ bit_at_cat_low above (suc lowest) (2 ^ lowest - 1) lowest (omega arith) ∙ bit_at_ones_above lowest lowest (omega arith))
+
+  -- the word and one less share the bits above the lowest
+  pub cleared : (k : ℕ) → is_set (bit_and n (n - 1)) k ≡ (is_set n k && nat_lt lowest k)
+  cleared k = set_and n (n - 1) k ∙ at (cases_order k lowest)
+    where
+      alone : (a : Bool) → (a && a) ≡ (a && true)
+      alone true = refl
+      alone false = refl
+
+      lt_true : lowest < k → nat_lt lowest k ≡ true
+      lt_true h = grind (arith, nat_tests)
+
+      lt_false : k ≤ lowest → nat_lt lowest k ≡ false
+      lt_false h = grind (arith, nat_tests)
+
+      at : (k ≡ lowest) ⊎ ((k < lowest) ⊎ (lowest < k)) → (is_set n k && is_set (n - 1) k) ≡ (is_set n k && nat_lt lowest k)
+      at (inl same) = ap (λ b. is_set n k && b) (ap (is_set (n - 1)) same ∙ lowest_cleared ∙ sym (lt_false (omega arith)))
+      at (inr (inl lower)) = ap (λ b. b && is_set (n - 1) k) (none_lower k lower) ∙ sym (ap (λ b. b && nat_lt lowest k) (none_lower k lower))
+      at (inr (inr higher)) = ap (λ b. is_set n k && b) (one_less_above k higher) ∙ alone (is_set n k) ∙ ap (λ b. is_set n k && b) (sym (lt_true higher))
 
 -- the same of a word of 32 bits that wraps, and so of 0, whose lowest bit is said to be 32
 module _ (a : ℕ) (small : a < 2 ^ 32) where

@@ -10,6 +10,7 @@ const EVEN_BITS: u64 = 0x5555_5555_5555_5555;
 ///
 /// Where the bits are the quotes of a text, the answer is the bytes that are inside a string, the
 /// opening quote with it: `prefix_xor(18)`, of the bits 1 and 4, is 14.
+#[inline(always)]
 pub fn prefix_xor(bitmask: u64) -> u64
     ensures { (k : ℕ) → k < 64 → is_set result k ≡ is_odd (count_below (is_set bitmask) 0 (k + 1)) }
 {
@@ -29,6 +30,7 @@ pub fn prefix_xor(bitmask: u64) -> u64
 /// `prev_escaped` is 1 where the first of the bytes is escaped by the block before, and becomes 1
 /// exactly where the first byte of the next block is. Of the backslashes 7, the first three bytes,
 /// the bytes 1 and 3 are escaped: the answer is 10.
+#[inline(always)]
 pub fn get_escaped(prev_escaped: &mut u64, backslash: u64) -> u64
     requires { prev_escaped.old < 2 }
     ensures bits { (k : ℕ) → k < 64
@@ -36,6 +38,9 @@ pub fn get_escaped(prev_escaped: &mut u64, backslash: u64) -> u64
     ensures carry { prev_escaped.new
         ≡ (if is_escaped (is_set backslash) prev_escaped.old 64 then 1 else 0) }
 {
+    if backslash == 0 {
+        return std::mem::replace(prev_escaped, 0);
+    }
     // A backslash that is itself escaped by the block before escapes nothing.
     let live = backslash & !*prev_escaped;
     let follows = (live << 1) | *prev_escaped;
@@ -53,6 +58,7 @@ pub fn get_escaped(prev_escaped: &mut u64, backslash: u64) -> u64
 /// `prev_instring` is `u64::MAX` where the bytes before end inside a string, and 0 otherwise;
 /// `prev_escaped` is as in [`get_escaped`]. Both become what the next block is to be given. Of the
 /// quotes 34, the bytes 1 and 5, the answer is 30.
+#[inline(always)]
 pub fn get_string_bits(
     backslash: u64,
     quote: u64,

@@ -1,11 +1,19 @@
 // White space in a block of 64 bytes, as bits.
-ghost use Rattle.std.specs.Prelude.{◌≡◌, ℕ, ◌<◌, not, get_or, slice_index};
+ghost use Rattle.std.specs.Prelude.{◌≡◌, ◌==◌, ℕ, ◌<◌, not, get_or, slice_index};
 ghost use Rattle.sonic_blocks.specs.Bits.{is_set, is_space};
 
 use std::simd::prelude::*;
 
+// The lanes that hold the byte.
+#[inline(always)]
+pub(crate) fn equal_to(lanes: u8x64, byte: u8) -> u64
+    ensures { (k : ℕ) → k < 64 → is_set result k ≡ (get_or lanes k 0 == byte) }
+{
+    lanes.simd_eq(u8x64::splat(byte)).to_bitmask()
+}
+
 // The lanes that hold white space.
-fn spaces(lanes: u8x64) -> u64
+pub(crate) fn spaces(lanes: u8x64) -> u64
     ensures { (k : ℕ) → k < 64 → is_set result k ≡ is_space (get_or lanes k 0) }
 {
     (lanes.simd_eq(u8x64::splat(b' '))

@@ -4,20 +4,29 @@
 
 // Escapes and strings in a block of 64 bytes, and what carries over to the next block.
 mod bits;
+// Where a container ends among the brackets of a block.
+mod closing;
 // How often a byte occurs.
 mod count;
 // White space in a block of 64 bytes, as bits.
 mod lanes;
 // Where a run of bytes of one kind ends, and where the first byte of another kind is.
 mod runs;
+// A counter of the views of a text.
+mod steps;
 // The backslashes, the quotes and the control bytes among 32 bytes.
 mod string_block;
+// A text that is seen by blocks of 64 bytes alone.
+mod tape;
 // Worked examples.
 #[cfg(test)]
 mod tests;
 
 pub use bits::{get_escaped, get_string_bits, next_bit, prefix_xor};
+pub use closing::closing_bit;
 pub use count::count_of;
 pub use lanes::get_nonspace_bits;
 pub use runs::{digits_end, first_backslash, first_of, plain_end, space_end};
+pub use steps::Steps;
 pub use string_block::StringBlock;
+pub use tape::{Masks, Tape};

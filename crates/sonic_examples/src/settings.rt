@@ -1,17 +1,19 @@
 // An editor that opens a file of settings.
-ghost use Rattle.std.specs.Prelude.{IfOk, IsTrue};
+ghost use Rattle.std.specs.Prelude.{◌≡◌, false, IfOk, IsTrue, OnErr};
 ghost use Rattle.sonic_examples.specs.Settings.{theme_path};
-ghost use Rattle.sonic_owned.specs.Edits.{IsEdit};
+ghost use Rattle.sonic_owned.specs.Edits.{IsEdit, IsRefused};
 ghost use Rattle.sonic_owned.specs.Forms.{raw};
+ghost use Rattle.sonic_owned.specs.Reached.{MeansStill};
 ghost use Rattle.sonic_owned.specs.TreeEdits.{edit_at, set};
 ghost use Rattle.sonic_owned.specs.Views.{form};
+ghost use Rattle.sonic_pointer.specs.Nodes.{path_of};
 ghost use Rattle.sonic_text.specs.Quoting.{quoted};
 
 use sonic_error::Result;
 use sonic_input::FastStr;
 use sonic_lazy::JsonContainerTrait;
 use sonic_owned::{Change, LazyObject, OwnedLazyValue};
-use sonic_pointer::pointer;
+use sonic_pointer::{PointerNode, pointer};
 use std::alloc::Global;
 use std::io;
 
@@ -45,13 +47,27 @@ fn show_text(rt: &impl Print, alloc: Global, object: &LazyObject, key: &str) -> 
     }
 }
 
-/// Sets the theme of the editor, and leaves all else as it was. `false` where there is no such setting.
+// Where the theme of the editor is.
+fn theme_path() -> [PointerNode<'static>; 2]
+    ensures { path_of result ≡ theme_path }
+{
+    pointer!["editor", "theme"]
+}
+
+/// Sets the theme of the editor, and leaves all else as it was. `false` where there is no such
+/// setting: then, and after an error, the settings mean what they meant.
 pub fn set_theme(alloc: Global, settings: &mut OwnedLazyValue, theme: FastStr) -> Result<bool>
-    ensures { IfOk result (λ is_set. IsTrue is_set
+    ensures made { IfOk result (λ is_set. IsTrue is_set
         → IsEdit (edit_at theme_path (set (raw (quoted theme)))) (form settings.old) (form settings.new)) }
+    ensures refused { IfOk result (λ is_set. is_set ≡ false
+        → IsRefused (edit_at theme_path (set (raw (quoted theme)))) (form settings.old)) }
+    ensures same { IfOk result (λ is_set. is_set ≡ false
+        → MeansStill (form settings.old) (form settings.new)) }
+    ensures kept { OnErr result (MeansStill (form settings.old) (form settings.new)) }
 {
     let theme = OwnedLazyValue::from_text(theme);
-    settings.edit(alloc, &pointer!["editor", "theme"], Change::Set(theme))
+    let path = theme_path();
+    settings.edit(alloc, &path, Change::Set(theme))
 }
 
 // Prints what is written once the theme is set.

@@ -1,4 +1,5 @@
 mod BeginningLemmas
+mod BlockLemmas
 mod DescentLemmas
 pub mod FaultLemmas
 mod RefusalLemmas

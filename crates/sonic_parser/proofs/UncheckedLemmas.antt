@@ -1,14 +1,14 @@
 -- From one place to the next, through a container that is known to be whole.
-use Rattle.std.proofs.Common.{◌≡◌, ◌≢◌, ℕ, zero, suc, ◌+◌, ◌-◌, ◌<◌, ◌≤◌, Bool, true, false, inl, inr, List, length, refl, sym, ◌∙◌, arith}
+use Rattle.std.proofs.Common.{◌≡◌, ◌≢◌, ℕ, zero, suc, ◌+◌, ◌<◌, ◌≤◌, Bool, true, false, ◌⊎◌, inl, inr, List, length, refl, sym, ◌∙◌, arith}
 use Rattle.std.proofs.lemmas.Bool.{cases_lt, cases_eq, cases_order, false≢true}
 use Rattle.std.proofs.lemmas.Bool.Decides.{nat_tests}
 use Rattle.sonic_blocks.specs.Firsts.{is_one_of}
-use Rattle.sonic_blocks.specs.Outside.{is_inside_at, IsClear}
-use Rattle.sonic_blocks.proofs.OutsideLemmas.{outside_start}
+use Rattle.sonic_blocks.specs.Outside.{is_inside_at}
 use Rattle.sonic_text.specs.declared.kind.Kind.{Kind}
-use Rattle.sonic_text.specs.Brackets.{opened, closed, LeavesString}
+use Rattle.sonic_text.specs.declared.kind.Kind.TheVariants.{Array, Object}
+use Rattle.sonic_text.specs.Brackets.{LeavesString}
 use Rattle.sonic_text.specs.Places.{byte}
-use Rattle.sonic_text.specs.Values.{opening, closing, IsValue}
+use Rattle.sonic_text.specs.Values.{opening, IsValue}
 use Rattle.sonic_text.specs.Values.IsValue.{number, string}
 use Rattle.sonic_text.specs.Literals.{IsLiteral, IsLiteralFault}
 use Rattle.sonic_text.specs.Numbers.{IsNumber}
@@ -16,17 +16,16 @@ use Rattle.sonic_text.specs.Strings.{IsString}
 use Rattle.sonic_text.specs.Faults.{IsFault}
 use Rattle.sonic_text.specs.Faults.IsFault.{no_value, number_fault, string_fault}
 use Rattle.sonic_text.specs.declared.stop.Stop.{Stop}
-use Rattle.sonic_text.proofs.BracketLemmas.{value_closes, value_backslashes, clear_start, string_inside}
+use Rattle.sonic_text.proofs.BracketLemmas.{clear_start, string_inside}
 use Rattle.sonic_text.proofs.LiteralLemmas.{literal_some}
 use Rattle.sonic_text.proofs.Numbers.{digit_or_not, number_some}
 use Rattle.sonic_text.proofs.Strings.{string_some}
 use Rattle.sonic_text.proofs.Values.{value-longer, value_end_one, value_never_both}
-use Rattle.sonic_text.proofs.LevelLemmas.{Rises, quiet, opens_own, one_closed}
-use Rattle.sonic_text.proofs.QuotedLemmas.{StaysInside, byte_inside, string_level}
+use Rattle.sonic_text.proofs.QuotedLemmas.{StaysInside, last_inside, byte_inside}
 use Rattle.sonic_text.proofs.Within.{value_within}
 use Rattle.sonic_parser.specs.declared.status.ParseStatus.TheVariants.{None as NoNeed}
 use Rattle.sonic_parser.specs.Skipping.{IsComplete}
-use Rattle.sonic_parser.specs.Unchecked.{IsWholeString, IsWholeContainer, IsCounted}
+use Rattle.sonic_parser.specs.Unchecked.{IsWholeString, IsInside}
 use Rattle.sonic_parser.proofs.BeginningLemmas.{plain_value}
 
 -- a byte that is none of three
@@ -37,9 +36,10 @@ none_of a b c x none = (λ e. grind (arith, nat_tests), λ e. grind (arith, nat_
 pub one_of : (a b x : ℕ) → is_one_of a b b x ≡ true → x ≢ a → x ≡ b
 one_of a b x one other = grind (arith, nat_tests)
 
--- a value that begins with a bracket
-pub whole : {m : Bool} {kind : Kind} {t : List ℕ} {i j : ℕ} → IsValue m t i j → byte t i ≡ opening kind → IsWholeContainer kind t i j
-whole {m} {kind} {t} {i} {j} x o = record { opens = o; closes = value_closes m kind t i j x o; backslashes = value_backslashes m t i j x; within = value_within x }
+-- a bracket that opens is that of a kind
+pub kind_of_bracket : (b : ℕ) → (b ≡ 91) ⊎ (b ≡ 123) → (kind : Kind) × (b ≡ opening kind)
+kind_of_bracket b (inl e) = (Array, e)
+kind_of_bracket b (inr e) = (Object, e)
 
 module _ {t : List ℕ} {s p : ℕ} where
   -- over n bytes of a string that are no quotes and no backslashes
@@ -54,6 +54,21 @@ module _ {t : List ℕ} {s p : ℕ} where
   pub inside_before : {q j : ℕ} → StaysInside t s p q → p ≤ j → is_inside_at t s j ≡ false → q < j
   inside_before {q} {j} h later outside = elim (cases_lt q j) [ inl l ↦ l | inr l ↦ absurd (false≢true (sym outside ∙ h.inside j later l)) ]
 
+-- the last place of a stretch is inside
+pub is_inside : {t : List ℕ} {s p q : ℕ} → StaysInside t s p q → IsInside t s q
+is_inside {t} {s} h = record { from = h.from; no_escape = h.no_escape; in_string = last_inside t s h }
+
+-- and what leaves the string there leaves it
+pub leaves_from : {t : List ℕ} {s i q j : ℕ} → StaysInside t s (i + 1) q → LeavesString t s q j → LeavesString t s i j
+leaves_from {q = q} h x = record {
+  later = omega (arith, h.later, x.later);
+  inside = λ k a b. elim (cases_lt q k) [
+    | inl after ↦ x.inside k after b
+    | inr before ↦ h.inside k (omega arith) before
+  ];
+  clear = x.clear;
+}
+
 -- two places at which one string ends are one
 pub leaves_once : {t : List ℕ} {s i j k : ℕ} → LeavesString t s i j → LeavesString t s i k → j ≡ k
 leaves_once {j = j} {k} x y = elim (cases_order j k) [
@@ -61,70 +76,6 @@ leaves_once {j = j} {k} x y = elim (cases_order j k) [
   | inr (inl l) ↦ absurd (false≢true (sym x.clear.no_string ∙ y.inside j x.later l))
   | inr (inr l) ↦ absurd (false≢true (sym y.clear.no_string ∙ x.inside k y.later l))
 ]
-
-module _ {kind : Kind} {t : List ℕ} {i j : ℕ} (w : IsWholeContainer kind t i j) where
-  -- a count of some open brackets is before the end
-  counted_at : {p depth : ℕ} → IsClear t i p → p ≤ j → 0 < depth → depth + closed kind t i p ≡ opened kind t i p → IsCounted kind t i j p depth
-  counted_at {p} {depth} clear within some level = record {
-    clear = clear;
-    before = elim (cases_lt p j) [ inl l ↦ l | inr l ↦ (let end : p ≡ j = omega (arith, within) in absurd (omega (arith, some, rw end at level, w.closes.level))) ];
-    some = some;
-    level = level;
-  }
-
-  -- after the first bracket
-  pub counted_first : IsCounted kind t i j (i + 1) 1
-  counted_first =
-      let r = opens_own t i kind (clear_start t i) w.opens in
-      counted_at r.clear (omega (arith, w.closes.later)) (omega arith) (omega (arith, r.level, outside_start t i (opening kind), outside_start t i (closing kind)))
-
-  module _ {p depth : ℕ} (c : IsCounted kind t i j p depth) where
-    -- over a stretch that leaves the level as it was
-    level_on : {q : ℕ} → q ≤ j → Rises kind t i 0 p q → IsCounted kind t i j q depth
-    level_on within r = counted_at r.clear within c.some (omega (arith, c.level, r.level))
-
-    -- over one more bracket that opens
-    pub opening_on : byte t p ≡ opening kind → IsCounted kind t i j (p + 1) (depth + 1)
-    opening_on o =
-        let r = opens_own t i kind c.clear o in
-        counted_at r.clear (omega (arith, c.before)) (omega arith) (omega (arith, c.level, r.level))
-
-    -- over a bracket that closes
-    pub closing_on : byte t p ≡ closing kind → 1 < depth → IsCounted kind t i j (p + 1) (depth - 1)
-    closing_on o more =
-        let n = one_closed t i kind c.clear o in
-        counted_at n.0 (omega (arith, c.before)) (omega arith) (omega (arith, c.level, n.1, n.2))
-
-    -- or up to the end, where it is the last
-    pub closing_end : byte t p ≡ closing kind → depth ≡ 1 → p + 1 ≡ j
-    closing_end o last =
-        let n = one_closed t i kind c.clear o in
-        elim (cases_lt (p + 1) j) [
-          | inl l ↦ absurd (omega (arith, c.level, n.1, n.2, w.closes.unclosed (p + 1) (omega (arith, c.clear.from)) l))
-          | inr l ↦ omega (arith, c.before)
-        ]
-
-    -- over a string
-    pub string_on : {q : ℕ} → byte t p ≡ 34 → LeavesString t i p q → IsCounted kind t i j q depth
-    string_on {q} quote x = level_on within (string_level t i kind c.clear quote x)
-      where
-        within : q ≤ j
-        within = elim (cases_lt j q) [ inl l ↦ absurd (false≢true (sym w.closes.clear.no_string ∙ x.inside j c.before l)) | inr l ↦ l ]
-
-    -- over a byte that is no quote and no bracket of the kind
-    pub other_on : byte t p ≢ 34 → byte t p ≢ opening kind → byte t p ≢ closing kind → IsCounted kind t i j (p + 1) depth
-    other_on quote o e =
-        let slash : byte t p ≢ 92 = λ f. false≢true (sym c.clear.no_string ∙ w.backslashes p c.clear.from c.before f) in
-        level_on (omega (arith, c.before)) (quiet t i c.clear quote slash o e)
-
-  -- over n of them
-  pub others_on : (n : ℕ) {p q depth : ℕ} → q ≡ p + n → IsCounted kind t i j p depth
-      → ((k : ℕ) → p ≤ k → k < q → is_one_of 34 (opening kind) (closing kind) (byte t k) ≡ false) → IsCounted kind t i j q depth
-  others_on zero {p} {q} e c others = let same : q ≡ p = omega arith in rw same c
-  others_on (suc n) {p} {q} e c others =
-      let same : q ≡ p + n + 1 = omega arith in
-      let none = none_of 34 (opening kind) (closing kind) _ (others (p + n) (omega arith) (omega arith)) in
-      rw same (other_on (others_on n refl c (λ k l m. others k l (omega arith))) none.0 none.1 none.2)
 
 -- a value whose first letter is that of a word ends with the word
 pub word_end : {m : Bool} {t : List ℕ} {i j : ℕ} (word : List ℕ) → ((k : ℕ) → IsLiteral word t i k → IsValue m t i k)

@@ -1,3 +1,4 @@
+pub mod Blocks
 pub mod Containers
 pub mod Faults
 pub mod Parsers

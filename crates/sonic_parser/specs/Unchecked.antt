@@ -1,10 +1,7 @@
--- What the loops know that pass a value which is known to be whole: no public clause rests on it.
-use Rattle.std.specs.Prelude.{◌≡◌, ℕ, ◌+◌, ◌<◌, ◌≤◌, false, List, length}
-use Rattle.sonic_blocks.specs.Outside.{is_inside_at, IsClear}
-use Rattle.sonic_text.specs.declared.kind.Kind.{Kind}
-use Rattle.sonic_text.specs.Brackets.{opened, closed, Closes, KeepsBackslashes}
+-- What is known of a string that is known to be whole: no public clause rests on it.
+use Rattle.std.specs.Prelude.{◌≡◌, ℕ, ◌<◌, ◌≤◌, true, false, List, length}
+use Rattle.sonic_blocks.specs.Outside.{is_escaped_at, is_inside_at, IsClear}
 use Rattle.sonic_text.specs.Places.{byte}
-use Rattle.sonic_text.specs.Values.{opening}
 
 -- a string begins at i, and the text has a place after it that is outside strings
 pub record IsWholeString (t : List ℕ) (i : ℕ) : Type 0 where
@@ -16,16 +13,17 @@ pub record IsWholeString (t : List ℕ) (i : ℕ) : Type 0 where
   pub within : place ≤ length t
   pub outside : is_inside_at t from place ≡ false
 
--- at i a container of the kind begins, and it ends at j
-pub record IsWholeContainer (kind : Kind) (t : List ℕ) (i j : ℕ) : Type 0 where
-  pub opens : byte t i ≡ opening kind
-  pub closes : Closes kind t i j
-  pub backslashes : KeepsBackslashes t i i j
-  pub within : j ≤ length t
+-- p is inside a string, and no escape is open there
+pub record IsInside (t : List ℕ) (s p : ℕ) : Type 0 where
+  pub from : s ≤ p
+  pub no_escape : is_escaped_at t s p ≡ false
+  pub in_string : is_inside_at t s p ≡ true
 
--- before p, which is clear and comes before the end j, so many brackets of the kind are opened and not closed, at least one
-pub record IsCounted (kind : Kind) (t : List ℕ) (i j p depth : ℕ) : Type 0 where
-  pub clear : IsClear t i p
-  pub before : p < j
-  pub some : 0 < depth
-  pub level : depth + closed kind t i p ≡ opened kind t i p
+-- p is inside a string, and the text has a place after it that is outside strings
+pub record IsOpenString (t : List ℕ) (p : ℕ) : Type 0 where
+  pub from : ℕ
+  pub place : ℕ
+  pub inside : IsInside t from p
+  pub later : p < place
+  pub within : place ≤ length t
+  pub outside : is_inside_at t from place ≡ false

@@ -4,6 +4,8 @@
 
 // What the beginning of a value leads to.
 mod begin;
+// Where a container ends that is known to be there.
+mod blocks;
 // The syntax of containers: brackets, separators, keys with their colons.
 mod container;
 // Why a reader goes no further.
@@ -23,6 +25,7 @@ mod tests;
 // Where a value ends that is known to be there.
 mod unchecked;
 
+pub use blocks::container_end;
 pub use fault::Fault;
 pub use parser::Parser;
 pub use reference::Reference;

@@ -11,12 +11,13 @@ ghost use Rattle.sonic_text.specs.Places.{byte};
 ghost use Rattle.sonic_text.specs.Strings.{IsEscapedString};
 ghost use Rattle.sonic_text.specs.Values.{opening, IsValue};
 ghost use Rattle.sonic_parser.specs.Skipping.{IsComplete};
-ghost use Rattle.sonic_parser.specs.Unchecked.{IsWholeString, IsWholeContainer};
+ghost use Rattle.sonic_parser.specs.Unchecked.{IsWholeString};
 
 use crate::begin::Skipped;
+use crate::blocks::{open_string, whole_container};
 use crate::status::ParseStatus;
 use sonic_blocks::first_of;
-use sonic_text::{Kind, StringEnd, skip_number};
+use sonic_text::{StringEnd, skip_number};
 
 // The end of the string whose first quote is at a place: after the next quote that no backslash
 // escapes.
@@ -26,72 +27,15 @@ fn whole_string(text: &[u8], start: usize) -> StringEnd
     ensures end { (s : ℕ) → IsClear text.now s start → LeavesString text.now s start result.end }
     ensures escaped { IsTrue result.escaped ↔ IsEscapedString text.now start result.end }
 {
-    let mut place = start + 1;
-    let mut escaped = false;
-    'escapes: while let Some(mark) = first_of(text, place, b'"', b'\\', b'\\') {
-        if text[mark] == b'"' {
-            let end = mark + 1;
-            return StringEnd { end, escaped };
-        }
-        escaped = true;
-        place = mark + 2;
+    let Some(mark) = first_of(text, start + 1, b'"', b'\\', b'\\') else {
+        unreachable!();
+    };
+    if text[mark] == b'"' {
+        let (end, escaped) = (mark + 1, false);
+        return StringEnd { end, escaped };
     }
-    unreachable!()
-}
-
-// Whether the byte is one that mostly stands alone between other values: a comma, a colon or a
-// blank.
-#[inline(always)]
-fn is_separator(byte: u8) -> bool {
-    matches!(byte, b',' | b':' | b' ')
-}
-
-// The first quote from a place on, or one of these two brackets, or the end.
-#[inline(always)]
-fn next_mark(text: &[u8], place: usize, opening: u8, closing: u8) -> usize
-    requires { place ≤ length text.now }
-    ensures later { place ≤ result }
-    ensures within { result ≤ length text.now }
-    ensures others { (k : ℕ) → place ≤ k → k < result → is_one_of 34 opening closing (byte text.now k) ≡ false }
-{
-    first_of(text, place, b'"', opening, closing).unwrap_or(text.len())
-}
-
-// The end of the container of this kind that begins at a place.
-//
-// Each sort of byte goes its own way back to the loop, so that one bracket after the other is
-// guessed well.
-fn whole_container(text: &[u8], start: usize, kind: Kind) -> usize
-    requires { (j : ℕ) × IsWholeContainer kind text.now start j }
-    ensures { (j : ℕ) → IsWholeContainer kind text.now start j → result ≡ j }
-{
-    let (opening, closing) = (kind.opening(), kind.closing());
-    let mut depth = 1usize;
-    let mut place = start + 1;
-    'bytes: loop {
-        let byte = text[place];
-        if byte == opening {
-            depth += 1;
-            place += 1;
-            continue 'bytes;
-        }
-        if byte == closing {
-            depth -= 1;
-            place += 1;
-            if depth == 0 {
-                return place;
-            }
-            continue 'bytes;
-        }
-        if byte == b'"' {
-            place = whole_string(text, place).end;
-            continue 'bytes;
-        }
-        place += 1;
-        if !is_separator(byte) {
-            place = next_mark(text, place, opening, closing);
-        }
-    }
+    let (end, escaped) = (open_string(text, mark), true);
+    StringEnd { end, escaped }
 }
 
 // The end of the number at a place.
@@ -126,8 +70,7 @@ pub(crate) fn whole_value(text: &[u8], start: usize, lossy: bool) -> Skipped
             let status = ParseStatus::of_string(escaped);
             Skipped { end, status }
         }
-        b'{' => plain(whole_container(text, start, Kind::Object)),
-        b'[' => plain(whole_container(text, start, Kind::Array)),
+        b'{' | b'[' => plain(whole_container(text, start)),
         b'n' | b't' => plain(start + 4),
         b'f' => plain(start + 5),
         _ => plain(whole_number(text, start)),

@@ -3,9 +3,9 @@ use Rattle.std.proofs.Common.{◌≡◌, ◌≢◌, ◌⊎◌, inl, inr, ℕ, �
 use Rattle.std.proofs.lemmas.Slice.Eq.{bytes_eq-Decides}
 use Rattle.std.specs.Bool.{Decides}
 use Rattle.std.specs.Str.{bytes_eq}
-use Rattle.sonic_tool.specs.declared.commands.Command.TheVariants.{Get, List as Items, Edit, Fill}
+use Rattle.sonic_tool.specs.declared.commands.Command.TheVariants.{Get, List as Items, Edit, Fill, Fast}
 use Rattle.sonic_tool.specs.Commands.{IsListed}
-use Rattle.sonic_tool.specs.Commands.Asks.{no_word, get_word, list_word, edit_word, fill_word}
+use Rattle.sonic_tool.specs.Commands.Asks.{no_word, get_word, list_word, edit_word, fill_word, fast_word}
 
 -- no words are none
 pub no_words : {A : Type 0} (f : A → List ℕ) (words : List A) → length words < 1 → map f words ≡ []
@@ -20,12 +20,13 @@ one_word f (w ∷ []) word low high e = rw e refl
 one_word f (w ∷ v ∷ ws) word low high e = absurd (omega arith)
 
 -- one word that asks for a command is its name
-pub only_named : {word : List ℕ} → IsListed (word ∷ []) → (word ≡ codes "get") ⊎ (word ≡ codes "list") ⊎ (word ≡ codes "edit") ⊎ (word ≡ codes "fill")
+pub only_named : {word : List ℕ} → IsListed (word ∷ []) → (word ≡ codes "get") ⊎ (word ≡ codes "list") ⊎ (word ≡ codes "edit") ⊎ (word ≡ codes "fill") ⊎ (word ≡ codes "fast")
 only_named (Get, no_word e) = absurd cc
 only_named (Get, get_word e) = inl cc
 only_named (Items, list_word e) = inr (inl cc)
 only_named (Edit, edit_word e) = inr (inr (inl cc))
-only_named (Fill, fill_word e) = inr (inr (inr cc))
+only_named (Fill, fill_word e) = inr (inr (inr (inl cc)))
+only_named (Fast, fast_word e) = inr (inr (inr (inr cc)))
 
 -- two words and more ask for none
 two_unlisted : (word next : List ℕ) (words : List (List ℕ)) → ¬ IsListed (word ∷ next ∷ words)
@@ -34,6 +35,7 @@ two_unlisted word next words (Get, get_word e) = absurd cc
 two_unlisted word next words (Items, list_word e) = absurd cc
 two_unlisted word next words (Edit, edit_word e) = absurd cc
 two_unlisted word next words (Fill, fill_word e) = absurd cc
+two_unlisted word next words (Fast, fast_word e) = absurd cc
 
 -- so do words of such a number
 pub more_unlisted : {A : Type 0} (f : A → List ℕ) (words : List A) → 2 ≤ length words → ¬ IsListed (map f words)
@@ -60,7 +62,16 @@ word_listed word = elim (is_name word (codes "get")) [
       | inl e ↦ inl (Edit, edit_word (ap (λ w. w ∷ []) e))
       | inr unlike ↦ elim (is_name word (codes "fill")) [
         | inl e ↦ inl (Fill, fill_word (ap (λ w. w ∷ []) e))
-        | inr none ↦ inr (λ l. elim (only_named l) [ inl e ↦ other e | inr (inl e) ↦ never e | inr (inr (inl e)) ↦ unlike e | inr (inr (inr e)) ↦ none e ])
+        | inr apart ↦ elim (is_name word (codes "fast")) [
+          | inl e ↦ inl (Fast, fast_word (ap (λ w. w ∷ []) e))
+          | inr none ↦ inr (λ l. elim (only_named l) [
+            | inl e ↦ other e
+            | inr (inl e) ↦ never e
+            | inr (inr (inl e)) ↦ unlike e
+            | inr (inr (inr (inl e))) ↦ apart e
+            | inr (inr (inr (inr e))) ↦ none e
+          ])
+        ]
       ]
     ]
   ]

@@ -15,6 +15,7 @@ use Rattle.sonic_owned.specs.Forms.{Form, IsSound}
 use Rattle.sonic_owned.specs.TreeEdits.{Edit}
 use Rattle.sonic_text.specs.declared.stop.Stop.{Stop}
 use Rattle.sonic_tool.proofs.GetLemmas.{Same, SomeText}
+use Rattle.sonic_tool.proofs.ReplyLemmas.{line_at}
 use Rattle.sonic_tool.specs.Commands.Edits.{ReportsMade, refused, made, ReportsEdits, invalid, valid, IsEditReport, bad_edit, edited}
 use Rattle.sonic_tool.specs.Internal.Replies.{IsLineOf}
 use Rattle.sonic_tool.specs.declared.status.Status.{Status}
@@ -29,7 +30,7 @@ made_report_one (made a q z) (refused s p y) = absurd (edits_not_refused a s)
 made_report_one (made a q z) (made b p y) = (p ∙ rw (edits_one b a) (sym q), y ∙ sym z)
 
 -- a document is valid, or it isn't for one reason
-one_verdict : (document : List ℕ) → HoldsOrHasOneReason (IsValidDocument document) (IsInvalid document true)
+pub one_verdict : (document : List ℕ) → HoldsOrHasOneReason (IsValidDocument document) (IsInvalid document true)
 one_verdict document = document_one document true (λ e. absurd cc)
 
 -- so the edits of a document have one report
@@ -97,4 +98,4 @@ text_errors (Err error) e holds = text_error (rw e at holds)
 pub report_invalid : {document : List ℕ} {es : List (Edit Form)} {text : List ℕ} {status : Status} {error : Error} → IsInvalidError document true error
     → IsLineOf text error → status ≡ DocumentError → ReportsEdits document es text status
 report_invalid (out_of_memory plain) line e = absurd (line.memory plain.code)
-report_invalid (invalid_by s i at) line e = invalid s i (rw (← at.code, ← at.line, ← at.column, ← at.offset) line.is) e
+report_invalid (invalid_by s i at) line e = invalid s i (line_at at line) e

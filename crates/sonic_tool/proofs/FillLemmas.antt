@@ -6,6 +6,7 @@ use Rattle.sonic_error.specs.declared.error.Error.{Error}
 use Rattle.sonic_text.specs.Places.{after_space}
 use Rattle.sonic_text.specs.Trees.{Tree}
 use Rattle.sonic_tool.proofs.GetLemmas.{Same, SomeText}
+use Rattle.sonic_tool.proofs.ReplyLemmas.{line_at}
 use Rattle.sonic_tool.specs.Commands.Fills.{first_line, after_first_line, ReportsFilled, unfilled, filled, IsFillReport, bad_schema, reports_filled}
 use Rattle.sonic_tool.specs.Internal.Replies.{IsLineOf}
 use Rattle.sonic_tool.specs.declared.status.Status.{Status}
@@ -57,7 +58,7 @@ fill_report_some input = elim (bytes_read_one (first_line input)).outcome.some_r
 pub report_unfilled : {document : List ℕ} {schema : Tree} {text : List ℕ} {status : Status} {error : Error} → IsFillError document true schema error
     → IsLineOf text error → status ≡ DocumentError → ReportsFilled document schema text status
 report_unfilled (out_of_memory plain) line e = absurd (line.memory plain.code)
-report_unfilled (stopped s u at) line e = unfilled s u (rw (← at.code, ← at.line, ← at.column, ← at.offset) line.is) e
+report_unfilled (stopped s u at) line e = unfilled s u (line_at at line) e
 
 -- an error of the first line is so where memory didn't run out
 pub report_unread : {input text : List ℕ} {status : Status} {error : Error} → IsUnreadError (first_line input) true error → error_code error ≢ NoMemory

@@ -1,4 +1,4 @@
--- An input has one report by `get`, and it is of values alone where the input is answerable.
+-- An input has one report by `get`, as by each command over paths of which a document has one, and it is of values alone where the input is answerable.
 use Rattle.std.proofs.Common.{◌≡◌, inl, inr, ℕ, Bool, true, List, [], map, drop, arith, refl, sym, ◌∙◌}
 use Rattle.std.specs.declared.option.Option.{Option}
 use Rattle.sonic_text.specs.Paths.{Path}
@@ -8,9 +8,9 @@ use Rattle.sonic_lazy.specs.Causes.IsAnswerable.{nothing_asked, all_reported}
 use Rattle.sonic_lazy.proofs.AnswerLemmas.One.{answer_one}
 use Rattle.sonic_tool.specs.declared.status.Status.{Status}
 use Rattle.sonic_tool.specs.declared.status.Status.TheVariants.{Done}
-use Rattle.sonic_tool.specs.Commands.Get.{IsAnswerReport, ReportsPaths, IsGetReport, IsAnswerableInput}
+use Rattle.sonic_tool.specs.Commands.Get.{IsAnswerReport, ReportsPaths, IsPathsReport, IsGetReport, IsAnswerableInput}
 use Rattle.sonic_tool.specs.Commands.Get.IsAnswerReport.{entry_lines, error_line}
-use Rattle.sonic_tool.specs.Commands.Get.IsGetReport.{bad_line, answered}
+use Rattle.sonic_tool.specs.Commands.Get.IsPathsReport.{bad_line, answered}
 use Rattle.sonic_paths.specs.Lines.{AreLines, IsFirstBadLine}
 use Rattle.sonic_paths.proofs.Heads.{some_head}
 use Rattle.sonic_paths.proofs.OneHead.{head_one}
@@ -35,43 +35,62 @@ answer_report_some : (document : List ℕ) (answer : Answer) → SomeText (IsAns
 answer_report_some document (spans entries) = (_, _, entry_lines refl refl)
 answer_report_some document (error stop) = (_, _, error_line refl refl)
 
--- paths have one report in a document
-paths_report_one : {document : List ℕ} {paths : List Path} {text other : List ℕ} {status ending : Status} → ReportsPaths document paths text status
-    → ReportsPaths document paths other ending → Same text status other ending
-paths_report_one {document} {paths} {other = other} {ending = ending} r s =
+-- paths have one report of a kind in a document
+abbrev pub HaveOneReport : (List ℕ → List Path → List ℕ → Status → Type 0) → Type 0
+HaveOneReport Reports =
+    (document : List ℕ) (paths : List Path) (text other : List ℕ) (status ending : Status) → Reports document paths text status → Reports document paths other ending
+    → Same text status other ending
+
+-- so have they by `get`
+pub paths_report_one : HaveOneReport ReportsPaths
+paths_report_one document paths text other status ending r s =
     let e : s.answer ≡ r.answer = (answer_one document true paths).one s.answer r.answer s.answers r.answers in
     let moved : IsAnswerReport document r.answer other ending = rw e at s.report in
     answer_report_one r.report moved
 
--- an input has one report by `get`
-pub get_report_one : {input text other : List ℕ} {status ending : Status} → IsGetReport input text status → IsGetReport input other ending → Same text status other ending
-get_report_one (bad_line {lines} {n = n} h b q) (bad_line {n = m} g c p) =
+-- and some
+pub paths_report_some : (document : List ℕ) (paths : List Path) → SomeText (ReportsPaths document paths)
+paths_report_some document paths =
+    let one = answer_one document true paths in
+    let r = answer_report_some document one.some.0 in
+    (r.0, r.1, record { answer = one.some.0; answers = one.some.1; report = r.2 })
+
+-- where paths have one report of a kind, an input has one
+pub input_report_one : {Reports : List ℕ → List Path → List ℕ → Status → Type 0} → HaveOneReport Reports → {input text other : List ℕ} {status ending : Status}
+    → IsPathsReport Reports input text status → IsPathsReport Reports input other ending → Same text status other ending
+input_report_one one (bad_line {lines} {n = n} h b q) (bad_line {n = m} g c p) =
     let moved : IsFirstBadLine lines m = rw (head_one g h).0 at c in
     (p ∙ rw (first_bad_line_one moved b) (sym q), refl)
-get_report_one (bad_line {lines} h b q) (answered {paths = paths} g a r) =
+input_report_one one (bad_line {lines} h b q) (answered {paths = paths} g a r) =
     let moved : AreLines lines paths = rw (head_one g h).0 at a in
     absurd (no_bad_line moved b)
-get_report_one (answered {lines} h a r) (bad_line {n = m} g b q) =
+input_report_one one (answered {lines} h a r) (bad_line {n = m} g b q) =
     let moved : IsFirstBadLine lines m = rw (head_one g h).0 at b in
     absurd (no_bad_line a moved)
-get_report_one {input} {other = other} {ending = ending} (answered {lines} {paths} {d} h a r) (answered {paths = others} {d = e} g b s) =
+input_report_one {Reports} one {input} {text} {other} {status} {ending} (answered {lines} {paths} {d} h a r) (answered {paths = others} {d = e} g b s) =
     let heads = head_one g h in
     let moved : AreLines lines others = rw heads.0 at b in
     let same : others ≡ paths = lines_one moved a in
-    let led : ReportsPaths (drop d input) paths other ending = rw (heads.1, same) at s in
-    paths_report_one r led
+    let led : Reports (drop d input) paths other ending = rw (heads.1, same) at s in
+    one (drop d input) paths text other status ending r led
 
--- an input has some report by `get`
-pub get_report_some : (input : List ℕ) → SomeText (IsGetReport input)
-get_report_some input =
+-- and some where each document and paths have some
+pub input_report_some : {Reports : List ℕ → List Path → List ℕ → Status → Type 0}
+    → ((document : List ℕ) (paths : List Path) → SomeText (Reports document paths)) → (input : List ℕ) → SomeText (IsPathsReport Reports input)
+input_report_some some input =
     let h = some_head input 0 (omega arith) in
     elim (lines_or_bad [] h.lines) [
       | inr b ↦ (_, _, bad_line h.head b.1 refl)
-      | inl a ↦
-          let one = answer_one (drop h.document input) true a.0 in
-          let r = answer_report_some (drop h.document input) one.some.0 in
-          (r.0, r.1, answered h.head a.1 (record { answer = one.some.0; answers = one.some.1; report = r.2 }))
+      | inl a ↦ (let r = some (drop h.document input) a.0 in (r.0, r.1, answered h.head a.1 r.2))
     ]
+
+-- so an input has one report by `get`
+pub get_report_one : {input text other : List ℕ} {status ending : Status} → IsGetReport input text status → IsGetReport input other ending → Same text status other ending
+get_report_one = input_report_one paths_report_one
+
+-- an input has some report by `get`
+pub get_report_some : (input : List ℕ) → SomeText (IsGetReport input)
+get_report_some = input_report_some paths_report_some
 
 -- paths that can be answered are answered with spans
 with_spans : {t : List ℕ} {is_bytes : Bool} {paths : List Path} → IsAnswerable t is_bytes paths → (entries : List (Option Span)) × IsAnswer t is_bytes paths (spans entries)

@@ -1,6 +1,7 @@
 mod BufferLemmas
 mod CommandLemmas
 mod EditLemmas
+mod FastLemmas
 mod FillLemmas
 mod GetLemmas
 mod ListLemmas

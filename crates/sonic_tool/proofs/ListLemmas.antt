@@ -15,6 +15,7 @@ use Rattle.sonic_text.specs.declared.kind.Kind.{Kind}
 use Rattle.sonic_text.specs.declared.kind.Kind.TheVariants.{Array, Object}
 use Rattle.sonic_text.specs.Strings.{strict}
 use Rattle.sonic_tool.proofs.GetLemmas.{Same, SomeText}
+use Rattle.sonic_tool.proofs.ReplyLemmas.{line_at}
 use Rattle.sonic_tool.specs.Commands.Items.{listed_kind, line_of_item, line_of_ending, status_of_ending, IsListReport}
 use Rattle.sonic_tool.specs.Internal.Listed.{IsLastError, out_of_memory, last_stop, EndsBy, AreLinesOf, IsListed}
 use Rattle.sonic_tool.specs.Internal.Replies.{line_of_value, line_of_member, text_of_lines, IsLineOf}
@@ -111,7 +112,7 @@ last_line k x (out_of_memory plain) line text s = absurd (line.memory plain.code
 last_line {t} {line = bytes} {kind} k x (last_stop stop ends at) line text s =
     let lines = x.lines in
     let is : IsListing t true kind (record { items = lines.items; ending = stopped stop }) = record { count = x.count; items = lines.are; ending = ends } in
-    let last : bytes ≡ line_of_ending t (stopped stop) = rw (← at.code, ← at.line, ← at.column, ← at.offset) line.is in
+    let last : bytes ≡ line_of_ending t (stopped stop) = line_at at line in
     record {
       listing = record { items = lines.items; ending = stopped stop };
       is = rw k at is;

@@ -1,22 +1,28 @@
 -- Replies that the parts of the code make are reports.
 use Rattle.std.proofs.Common.{◌≡◌, ℕ, true, List, [], ◌++◌, refl, ◌∙◌, append-nil, Result, Ok, Err}
-use Rattle.std.specs.Prelude.{IfOk}
+use Rattle.std.specs.Prelude.{IfOk, IfErr}
 use Rattle.std.specs.List.{flat_map}
 use Rattle.sonic_text.specs.Paths.{Path}
 use Rattle.std.specs.declared.option.Option.{Option}
+use Rattle.sonic_error.specs.declared.code.ErrorCode.{ErrorCode}
 use Rattle.sonic_error.specs.declared.error.Error.{Error}
+use Rattle.sonic_error.specs.Errors.{IsErrorAt}
 use Rattle.sonic_lazy.specs.declared.lazyvalue.LazyValue.{LazyValue}
 use Rattle.sonic_lazy.specs.Answers.{Span, spans, error}
 use Rattle.sonic_lazy.specs.Shown.{Shows, shows_none, shows_span, ShowAll, no_more_values, one_more_value, AreValues}
 use Rattle.sonic_lazy.specs.Causes.{IsRefusal, out_of_memory}
 use Rattle.sonic_lazy.specs.Causes.IsRefusal.{answered as refused}
+use Rattle.std.specs.declared.vec.Vec.{Vec}
+use Rattle.sonic_paths.specs.Lines.{SaysPaths}
+use Rattle.sonic_paths.specs.declared.lines.Head.TheVariants.{Bad}
 use Rattle.sonic_tool.specs.declared.reply.Reply.{Reply}
 use Rattle.sonic_tool.specs.declared.status.Status.{Status}
-use Rattle.sonic_tool.specs.declared.status.Status.TheVariants.{Done, DocumentError}
-use Rattle.sonic_tool.specs.Internal.Replies.{text_of, line_of_value, IsLineOf}
-use Rattle.sonic_tool.specs.Commands.Get.{ReportsPaths, IsGetReport, line_of_entry}
+use Rattle.sonic_tool.specs.declared.status.Status.TheVariants.{Done}
+use Rattle.sonic_tool.specs.ErrorLines.{line_of_error}
+use Rattle.sonic_tool.specs.Internal.Replies.{text_of, line_of_value, IsLineOf, IsBadLineReply, IsValuesReply, IsErrorReply, IsAnswerReply}
+use Rattle.sonic_tool.specs.Commands.Get.{ReportsPaths, IsPathsReport, line_of_entry}
 use Rattle.sonic_tool.specs.Commands.Get.IsAnswerReport.{entry_lines, error_line}
-use Rattle.sonic_tool.specs.Commands.Get.IsGetReport.{bad_line, answered}
+use Rattle.sonic_tool.specs.Commands.Get.IsPathsReport.{bad_line}
 
 -- what follows for each value holds of a result
 pub if_ok : {A E : Type 0} (result : Result A E) {P Q : A → Type 0} → ((value : A) → P value → Q value) → IfOk result P → IfOk result Q
@@ -39,27 +45,38 @@ lines_same : {t : List ℕ} {entries : List (Option Span)} {values : List (Optio
 lines_same no_more_values = refl
 lines_same (one_more_value s r) = rw (line_same s, lines_same r) refl
 
-module _ {document : List ℕ} {paths : List Path} where
+-- a report of these lines is one of the values
+pub values_reply : {E : Type 0} (result : Result Reply E) (values : List (Option LazyValue)) → IfOk result (λ reply. text_of reply ≡ flat_map line_of_value values ++ [])
+    → IfOk result (λ reply. reply.status ≡ Done) → IfOk result (IsValuesReply values)
+values_reply result values = if_both result (λ reply text status. record { text = text ∙ append-nil (flat_map line_of_value values); status = status })
+
+-- the line of an error is that of its code at its place
+pub line_at : {document text : List ℕ} {code : ErrorCode} {place : ℕ} {refusal : Error} → IsErrorAt refusal code document place → IsLineOf text refusal
+    → text ≡ line_of_error document code place
+line_at at line = rw (← at.code, ← at.line, ← at.column, ← at.offset) line.is
+
+module _ {document : List ℕ} {paths : List Path} {reply : Reply} where
   -- the lines of the values are the report of the paths
-  pub report_values : {values : List (Option LazyValue)} {text : List ℕ} {status : Status} → AreValues document true paths values
-      → text ≡ flat_map line_of_value values → status ≡ Done → ReportsPaths document paths text status
-  report_values v q s = record { answer = spans v.entries; answers = v.answer; report = entry_lines (q ∙ lines_same v.shown) s }
+  report_values : {values : List (Option LazyValue)} → AreValues document true paths values → IsValuesReply values reply
+      → ReportsPaths document paths (text_of reply) reply.status
+  report_values v r = record { answer = spans v.entries; answers = v.answer; report = entry_lines (r.text ∙ lines_same v.shown) r.status }
 
-  -- so is a reply of those lines, if there is memory for it
-  pub report_done : {E : Type 0} (result : Result Reply E) {values : List (Option LazyValue)} → AreValues document true paths values
-      → IfOk result (λ reply. text_of reply ≡ flat_map line_of_value values ++ []) → IfOk result (λ reply. reply.status ≡ Done)
-      → IfOk result (λ reply. ReportsPaths document paths (text_of reply) reply.status)
-  report_done (Ok reply) {values} v q s = report_values v (q ∙ append-nil (flat_map line_of_value values)) s
-  report_done (Err none) v q s = tt
-
-  -- the line of the error is the report of the paths
-  pub report_refusal : {refusal : Error} {text : List ℕ} {status : Status} → IsRefusal document true paths refusal → IsLineOf text refusal
-      → status ≡ DocumentError → ReportsPaths document paths text status
-  report_refusal (out_of_memory plain) e s = absurd (e.memory plain.code)
-  report_refusal (refused stop answers at) e s = record {
+  -- so is the line of the error
+  report_refusal : {refusal : Error} → IsRefusal document true paths refusal → IsErrorReply refusal reply → ReportsPaths document paths (text_of reply) reply.status
+  report_refusal (out_of_memory plain) r = absurd (r.line.memory plain.code)
+  report_refusal (refused stop answers at) r = record {
     answer = error stop;
     answers = answers;
-    report = error_line (rw (← at.code, ← at.line, ← at.column, ← at.offset) e.is) s;
+    report = error_line (line_at at r.line) r.status;
   }
 
-pub ruleset reports = (bad_line)
+-- so an answer of the paths is reported
+pub report_of_answer : {document : List ℕ} {paths : List Path} {A : Type 0} (reply : Reply) (answer : Result (Vec (Option LazyValue) A) Error) → IfOk answer (λ values. AreValues document true paths values.items)
+    → IfErr answer (IsRefusal document true paths) → IsAnswerReply answer reply → ReportsPaths document paths (text_of reply) reply.status
+report_of_answer reply (Ok values) ok err r = report_values ok r
+report_of_answer reply (Err refusal) ok err r = report_refusal err r
+
+-- the line that names the first bad line of a head is the report
+pub report_of_bad_line : {Reports : List ℕ → List Path → List ℕ → Status → Type 0} {input : List ℕ} {number : ℕ} {reply : Reply} → SaysPaths input (Bad number)
+    → IsBadLineReply number reply → IsPathsReport Reports input (text_of reply) reply.status
+report_of_bad_line (lines, d, head, first) r = rw r.status (bad_line head first r.text)

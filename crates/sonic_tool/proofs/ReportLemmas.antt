@@ -3,24 +3,28 @@ use Rattle.std.proofs.Common.{◌≡◌, ◌⊎◌, ◌∙◌, inl, inr, ℕ, Li
 use Rattle.std.specs.Prelude.{◌==◌, if◌then◌else◌}
 use Rattle.std.proofs.lemmas.Bool.{cases_lt}
 use Rattle.sonic_tool.specs.declared.commands.Command.{Command}
-use Rattle.sonic_tool.specs.declared.commands.Command.TheVariants.{Get, List as Items, Edit, Fill}
+use Rattle.sonic_tool.specs.declared.commands.Command.TheVariants.{Get, List as Items, Edit, Fill, Fast}
 use Rattle.sonic_tool.specs.declared.outside.reading.TheConstants.{LIMIT}
 use Rattle.sonic_tool.specs.declared.status.Status.{Status}
 use Rattle.sonic_tool.specs.declared.status.Status.TheVariants.{Done, NoMemory}
-use Rattle.sonic_tool.specs.Commands.{Asks, no_word, get_word, list_word, edit_word, fill_word}
+use Rattle.sonic_tool.specs.Commands.{Asks, no_word, get_word, list_word, edit_word, fill_word, fast_word}
 use Rattle.sonic_tool.specs.Commands.Get.{IsAnswerableInput}
 use Rattle.sonic_tool.specs.Laws.{HasOneReport}
 use Rattle.sonic_tool.specs.Reports.{Writes, IsReport}
 use Rattle.sonic_tool.specs.Reports.IsReport.{usage, large, written}
 use Rattle.sonic_tool.proofs.CommandLemmas.{listed_or_not}
 use Rattle.sonic_tool.proofs.EditLemmas.{edit_report_one, edit_report_some}
+use Rattle.sonic_tool.proofs.FastLemmas.{fast_report_one, fast_report_some}
 use Rattle.sonic_tool.proofs.FillLemmas.{fill_report_one, fill_report_some}
 use Rattle.sonic_tool.proofs.GetLemmas.{Same, SomeText, get_report_one, get_report_some, answerable_report}
 use Rattle.sonic_tool.proofs.ListLemmas.{list_report_one, list_report_some}
 
--- the command that words ask for, if they ask for one, by their first letter
+-- the command that words ask for, if they ask for one, by the first letters of the first word
 abbrev asked_by : List (List ℕ) → Command
-asked_by words = let letter = get_or (get_or words 0 []) 0 0 in if letter == 108 then Items else if letter == 101 then Edit else if letter == 102 then Fill else Get
+asked_by words =
+    let word = get_or words 0 [] in
+    let letter = get_or word 0 0 in
+    if letter == 108 then Items else if letter == 101 then Edit else if letter == 102 then if get_or word 1 0 == 97 then Fast else Fill else Get
 
 asks_this : {words : List (List ℕ)} {a : Command} → Asks words a → a ≡ asked_by words
 asks_this (no_word e) = sym (ap asked_by e)
@@ -28,6 +32,7 @@ asks_this (get_word e) = sym (ap asked_by e)
 asks_this (list_word e) = sym (ap asked_by e)
 asks_this (edit_word e) = sym (ap asked_by e)
 asks_this (fill_word e) = sym (ap asked_by e)
+asks_this (fast_word e) = sym (ap asked_by e)
 
 -- words ask for one command
 asks_one : {words : List (List ℕ)} {a b : Command} → Asks words a → Asks words b → a ≡ b
@@ -40,6 +45,7 @@ writes_one Get input text other status ending r s = get_report_one r s
 writes_one Items input text other status ending r s = list_report_one r s
 writes_one Edit input text other status ending r s = edit_report_one r s
 writes_one Fill input text other status ending r s = fill_report_one r s
+writes_one Fast input text other status ending r s = fast_report_one r s
 
 -- of each input
 writes_some : (command : Command) (input : List ℕ) → SomeText (Writes command input)
@@ -47,6 +53,7 @@ writes_some Get input = get_report_some input
 writes_some Items input = list_report_some input
 writes_some Edit input = edit_report_some input
 writes_some Fill input = fill_report_some input
+writes_some Fast input = fast_report_some input
 
 -- the words and the input have one report
 report_one : {words : List (List ℕ)} {input text other : List ℕ} {status ending : Status} → IsReport words input text status → IsReport words input other ending

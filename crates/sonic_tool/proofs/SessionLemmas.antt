@@ -1,11 +1,11 @@
 -- What a run has done, by what its parts did.
-use Rattle.std.proofs.Common.{◌≡◌, ◌≢◌, inl, inr, ℕ, ◌+◌, ◌<◌, List, [], ◌++◌, length, length-append, append-nil, arith, refl, ap, ◌∙◌, Some, None}
+use Rattle.std.proofs.Common.{◌≡◌, ◌≢◌, inl, inr, ℕ, ◌+◌, ◌<◌, List, [], ◌++◌, length, length-append, append-nil, drop, arith, refl, ap, ◌∙◌, Some, None}
 use Rattle.std.specs.Prelude.{IfSome}
 use Rattle.std.specs.declared.option.Option.{Option}
 use Rattle.std.specs.Io.KnownBytes.{IsAtEnd}
 use Rattle.sonic_lazy.specs.Answers.{Answer}
 use Rattle.sonic_tool.specs.declared.commands.Command.{Command}
-use Rattle.sonic_tool.specs.declared.commands.Command.TheVariants.{Get, List as Items, Edit, Fill}
+use Rattle.sonic_tool.specs.declared.commands.Command.TheVariants.{Get, List as Items, Edit, Fill, Fast}
 use Rattle.sonic_tool.specs.declared.outside.reading.TheConstants.{LIMIT}
 use Rattle.sonic_tool.specs.declared.run.Request.{Request}
 use Rattle.sonic_tool.specs.declared.run.Request.TheVariants.{Usage, Large, Input}
@@ -14,12 +14,15 @@ use Rattle.sonic_tool.specs.declared.status.Status.TheVariants.{Done, BadUsage, 
 use Rattle.sonic_tool.specs.Commands.{IsListed}
 use Rattle.sonic_owned.specs.Forms.{Form}
 use Rattle.sonic_owned.specs.TreeEdits as edits
+use Rattle.sonic_text.specs.Paths.{Path}
 use Rattle.sonic_text.specs.Trees.{Tree}
 use Rattle.sonic_tool.specs.Commands.Edits.{ReportsMade, refused, made, ReportsEdits, invalid, valid, IsEditReport, bad_edit, edited}
+use Rattle.sonic_tool.specs.Commands.Fast as fast
+use Rattle.sonic_tool.specs.Commands.Fast.{ReportsValid, IsFastReport}
 use Rattle.sonic_tool.specs.Commands.Fills.{ReportsFilled, unfilled, filled, IsFillReport, bad_schema, reports_filled}
-use Rattle.sonic_tool.specs.Commands.Get.{IsAnswerReport, IsGetReport}
+use Rattle.sonic_tool.specs.Commands.Get.{IsAnswerReport, IsPathsReport, IsGetReport}
 use Rattle.sonic_tool.specs.Commands.Get.IsAnswerReport.{entry_lines, error_line}
-use Rattle.sonic_tool.specs.Commands.Get.IsGetReport.{bad_line, answered}
+use Rattle.sonic_tool.specs.Commands.Get.IsPathsReport.{bad_line, answered}
 use Rattle.sonic_lazy.specs.Items.{Ending, closed, stopped}
 use Rattle.sonic_tool.specs.Commands.Items.{IsListReport, status_of_ending}
 use Rattle.sonic_tool.specs.Internal.Requests.{IsAsked, IsAnswered}
@@ -61,10 +64,24 @@ answer_status : {document : List ℕ} {answer : Answer} {text : List ℕ} {endin
 answer_status (entry_lines t e) = inl e
 answer_status (error_line t e) = inr (inl e)
 
+-- so does one of paths, where each report of its document does
+paths_status : {Reports : List ℕ → List Path → List ℕ → Status → Type 0} {input text : List ℕ} {ending : Status}
+    → ((document : List ℕ) (paths : List Path) → Reports document paths text ending → IsOfInput ending) → IsPathsReport Reports input text ending → IsOfInput ending
+paths_status of_document (bad_line h b t) = inr (inr refl)
+paths_status {input = input} of_document (answered {paths = paths} {d = d} h a r) = of_document (drop d input) paths r
+
 -- so does a report by `get`
 get_status : {input text : List ℕ} {ending : Status} → IsGetReport input text ending → IsOfInput ending
-get_status (bad_line h b t) = inr (inr refl)
-get_status (answered h a r) = answer_status r.report
+get_status = paths_status (λ document paths r. answer_status r.report)
+
+-- what comes of a document that is judged whole
+valid_status : {document : List ℕ} {paths : List Path} {text : List ℕ} {ending : Status} → ReportsValid document paths text ending → IsOfInput ending
+valid_status (fast.invalid s i t e) = inr (inl e)
+valid_status (fast.valid v r) = answer_status r.report
+
+-- a report by `fast`
+fast_status : {input text : List ℕ} {ending : Status} → IsFastReport input text ending → IsOfInput ending
+fast_status = paths_status (λ document paths r. valid_status r)
 
 -- what the items end with goes with one
 ended_status : {ending : Status} (end : Ending) → ending ≡ status_of_ending end → IsOfInput ending
@@ -115,6 +132,7 @@ written_status Get input text ending r = get_status r
 written_status Items input text ending r = list_status r
 written_status Edit input text ending r = edit_status r
 written_status Fill input text ending r = fill_status r
+written_status Fast input text ending r = fast_status r
 
 -- what answers the request is such a report
 pub prepared : (run : Session) {text : List ℕ} {ending : Status} (request : Request) → IsAsked run.words run.before.left run.after.left request

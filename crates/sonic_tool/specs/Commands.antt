@@ -1,5 +1,6 @@
 -- The commands, and the words of a command line that ask for them.
 pub mod Edits
+pub mod Fast
 pub mod Fills
 pub mod Get
 pub mod Items
@@ -14,6 +15,7 @@ pub data Asks (words : List (List ℕ)) : Command → Type 0 where
   list_word : words ≡ codes "list" ∷ [] → Asks words command.List
   edit_word : words ≡ codes "edit" ∷ [] → Asks words command.Edit
   fill_word : words ≡ codes "fill" ∷ [] → Asks words command.Fill
+  fast_word : words ≡ codes "fast" ∷ [] → Asks words command.Fast
 
 -- the words ask for some command
 abbrev pub IsListed : List (List ℕ) → Type 0

@@ -7,6 +7,7 @@ use Rattle.sonic_tool.specs.declared.status.Status.{Status}
 use Rattle.sonic_tool.specs.declared.status.Status.TheVariants.{BadUsage, TooLarge}
 use Rattle.sonic_tool.specs.Commands.{Asks, IsListed}
 use Rattle.sonic_tool.specs.Commands.Edits.{IsEditReport}
+use Rattle.sonic_tool.specs.Commands.Fast.{IsFastReport}
 use Rattle.sonic_tool.specs.Commands.Fills.{IsFillReport}
 use Rattle.sonic_tool.specs.Commands.Get.{IsGetReport}
 use Rattle.sonic_tool.specs.Commands.Items.{IsListReport}
@@ -17,6 +18,7 @@ Writes command.Get input text status = IsGetReport input text status
 Writes command.List input text status = IsListReport input text status
 Writes command.Edit input text status = IsEditReport input text status
 Writes command.Fill input text status = IsFillReport input text status
+Writes command.Fast input text status = IsFastReport input text status
 
 -- what a run with these words writes of an input
 pub data IsReport (words : List (List ℕ)) (input : List ℕ) : List ℕ → Status → Type 0 where

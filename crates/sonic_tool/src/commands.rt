@@ -4,6 +4,8 @@ ghost use Rattle.sonic_tool.specs.Commands.{Asks, IsListed};
 
 // What `edit` writes: what the edits of an input's head make of its document.
 pub(crate) mod edit;
+// What `fast` writes: where the paths of an input's head lead in a document that is valid as a whole.
+pub(crate) mod fast;
 // What `fill` writes: the schema in an input's first line, filled from the rest.
 pub(crate) mod fill;
 // What `get` writes: where the paths of an input's head lead in its document.
@@ -22,6 +24,8 @@ pub enum Command {
     Edit,
     /// The schema in the first line, filled from the rest. The word `fill` asks for it.
     Fill,
+    /// As `get`, of a document that is valid as a whole. The word `fast` asks for it.
+    Fast,
 }
 
 // The command that the words ask for.
@@ -46,6 +50,7 @@ fn named_command(word: &str) -> Option<Command>
         "list" => Some(Command::List),
         "edit" => Some(Command::Edit),
         "fill" => Some(Command::Fill),
+        "fast" => Some(Command::Fast),
         _ => None,
     }
 }

@@ -6,7 +6,7 @@ ghost use Rattle.sonic_tool.specs.Internal.Requests.{IsAsked, IsAnswered};
 ghost use Rattle.sonic_tool.specs.Outside.{Rose};
 ghost use Rattle.sonic_tool.specs.Sessions.{outside_of, session_of, IsRun};
 
-use crate::commands::{Command, asked_command, edit, fill, get, list};
+use crate::commands::{Command, asked_command, edit, fast, fill, get, list};
 use crate::outside::reading::{ReadError, read_all};
 use crate::outside::sink::Sink;
 use crate::outside::source::{Failed, Source};
@@ -20,8 +20,9 @@ use std::borrow::CowStr;
 /// `words` are the words of the command line after the program's name. No word and the one word
 /// `get` ask for the command that follows the paths of the input's head, `list` for the items of
 /// the container that the input is, `edit` for the document as the edits of the input's head make it,
-/// and `fill` for the schema in the first line as the rest fills it; all others are answered by
-/// `! usage`, and the source isn't read. All memory is taken before the first byte is written.
+/// `fill` for the schema in the first line as the rest fills it, and `fast` for what `get` asks for
+/// where the document is valid as a whole; all others are answered by `! usage`, and the source
+/// isn't read. All memory is taken before the first byte is written.
 ///
 /// `IsRun` says for each status what the run has done, over the words and the outside before and
 /// after. Of no words and the input `[2,1]`, an empty line and `[1, null, [20, 300]]` it writes the
@@ -110,5 +111,6 @@ fn answer<'i>(alloc: Global, request: &'i Request) -> Result<Reply<'i>, AllocErr
         Request::Input(Command::List, input) => list::report(alloc, input),
         Request::Input(Command::Edit, input) => edit::report(alloc, input),
         Request::Input(Command::Fill, input) => fill::report(alloc, input),
+        Request::Input(Command::Fast, input) => fast::report(alloc, input),
     }
 }

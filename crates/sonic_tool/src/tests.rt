@@ -1,6 +1,7 @@
 // What no clause says: rows from outside, that calls succeed where nothing is wrong, and standard input and output.
 mod documents;
 mod edits;
+mod fast;
 mod faults;
 mod fills;
 mod format;

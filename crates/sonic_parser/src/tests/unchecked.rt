@@ -154,14 +154,75 @@ fn text_with_run(alloc: Global, bytes: usize, run: usize) -> Result<Vec<u8>, Fai
 #[test]
 fn passes_runs_of_backslashes_at_each_offset(rt: HostRuntime) -> Result<(), Fail> {
     let alloc = rt.alloc();
-    for bytes in 0..71 {
-        for run in 0..6 {
+    for bytes in 0..64 {
+        for run in 0..131 {
             let mut text = text_with_run(alloc, bytes, run)?;
             let end = text.len();
             check(&rt, alloc, (&text, 0, end, PLAIN));
             text.extend_from_slice(b"]\"\\\"")?;
             check(&rt, alloc, (&text, 0, end, PLAIN));
         }
+    }
+    Ok(())
+}
+
+// What comes before and after a run of bytes in a string that is part of a container.
+const AROUND: [(&[u8], &[u8]); 7] = [
+    (b"[\"", b"\"]"),
+    (b"{\"", b"\":[]}"),
+    (b"[[\"]", b"\",{}]]"),
+    (b"{\"}\":[{\"{", b"\":{}}]}"),
+    (b"[{\"]\\\"", b"}\":\"\\\\\"},[[]]]"),
+    (b"{\"\\u0022}\":\"", b"\\\"}\"}"),
+    (b"[1,-2.5e3,\"\",\"", b"\",null,[[[[[[[[]]]]]]]],true]"),
+];
+
+// What may come after a container: more brackets, an open string and an open escape.
+const BEYOND: &[u8; 10] = b"]}\"]}[{\"\\\\";
+
+// A container with a run of so many bytes, between what comes before and after it.
+fn container_with_run(
+    alloc: Global,
+    around: (&[u8], &[u8]),
+    bytes: usize,
+) -> Result<Vec<u8>, Fail> {
+    let (before, after) = around;
+    let mut text = Vec::new(alloc);
+    text.extend_from_slice(before)?;
+    push_times(&mut text, b"x", bytes)?;
+    text.extend_from_slice(after)?;
+    Ok(text)
+}
+
+#[test]
+fn ends_at_each_place_of_a_block(rt: HostRuntime) -> Result<(), Fail> {
+    let alloc = rt.alloc();
+    for around in &AROUND {
+        for bytes in 0..131 {
+            let mut text = container_with_run(alloc, *around, bytes)?;
+            let end = text.len();
+            check(&rt, alloc, (&text, 0, end, PLAIN));
+            text.extend_from_slice(BEYOND)?;
+            check(&rt, alloc, (&text, 0, end, PLAIN));
+            push_times(&mut text, BEYOND, 7)?;
+            check(&rt, alloc, (&text, 0, end, PLAIN));
+        }
+    }
+    Ok(())
+}
+
+// Openings over several blocks, of which the last ones end a block and the whole together.
+#[test]
+fn counts_over_many_blocks(rt: HostRuntime) -> Result<(), Fail> {
+    let alloc = rt.alloc();
+    for depth in 1..200 {
+        let mut text = Vec::new(alloc);
+        push_times(&mut text, b"[", depth)?;
+        push_times(&mut text, b"]", depth)?;
+        let end = text.len();
+        check(&rt, alloc, (&text, 0, end, PLAIN));
+        text.extend_from_slice(BEYOND)?;
+        check(&rt, alloc, (&text, 0, end, PLAIN));
     }
     Ok(())
 }

@@ -33,14 +33,18 @@ pub record ReportsPaths (document : List ℕ) (paths : List Path) (text : List �
   pub answers : IsAnswer document true paths answer
   pub report : IsAnswerReport document answer text status
 
--- what `get` writes of an input
-pub data IsGetReport (input : List ℕ) : List ℕ → Status → Type 0 where
+-- what is written of an input whose head says paths, where these are the reports of its document
+pub data IsPathsReport (Reports : List ℕ → List Path → List ℕ → Status → Type 0) (input : List ℕ) : List ℕ → Status → Type 0 where
   -- the first bad line is named by its number
   bad_line : {lines : List (List ℕ)} {d n : ℕ} {text : List ℕ} → IsHead input 0 lines d → IsFirstBadLine lines n
-      → text ≡ codes "! paths " ++ decimal n ++ codes "\n" → IsGetReport input text BadLines
+      → text ≡ codes "! paths " ++ decimal n ++ codes "\n" → IsPathsReport Reports input text BadLines
   -- the paths are followed in the document
   answered : {lines : List (List ℕ)} {paths : List Path} {d : ℕ} {text : List ℕ} {status : Status} → IsHead input 0 lines d → AreLines lines paths
-      → ReportsPaths (drop d input) paths text status → IsGetReport input text status
+      → Reports (drop d input) paths text status → IsPathsReport Reports input text status
+
+-- what `get` writes of an input
+abbrev pub IsGetReport : List ℕ → List ℕ → Status → Type 0
+IsGetReport = IsPathsReport ReportsPaths
 
 -- the input is within the limit, each line of its head says a path, and in the document after it each path finds a value or lacks its key, as far as the text is needed for that
 pub record IsAnswerableInput (input : List ℕ) : Type 0 where

@@ -1,29 +1,34 @@
 //! What the command `get` writes of an input: where the paths of its head lead in the document.
 ghost use Rattle.std.specs.Prelude.{IfOk};
 ghost use Rattle.sonic_tool.specs.Commands.Get.{IsGetReport, ReportsPaths};
-ghost use Rattle.sonic_tool.specs.Internal.Replies.{text_of};
+ghost use Rattle.sonic_tool.specs.Internal.Replies.{text_of, IsBadLineReply, IsAnswerReply};
 
 use crate::error_line::error_line;
 use crate::reply::{Lines, Reply};
 use crate::status::Status;
-use sonic_lazy::get_many;
+use sonic_error::Error;
+use sonic_lazy::{LazyValue, get_many};
 use sonic_paths::{Head, read_paths};
 use sonic_pointer::PointerTree;
 use std::alloc::{AllocError, Global};
 use std::borrow::CowStr;
 
 // The report of an input. All memory that it takes is taken here.
-#[tactic(auto, using(crate::proofs::ReplyLemmas::reports))]
 pub(crate) fn report<'i>(alloc: Global, input: &'i [u8]) -> Result<Reply<'i>, AllocError>
     ensures { IfOk result (λ reply. IsGetReport input.now (text_of reply) reply.status) }
 {
     match read_paths(alloc, input)? {
         Head::Paths(tree, document) => report_paths(alloc, &input[document..], &tree),
-        Head::Bad(number) => {
-            let line = format!(in alloc; "! paths {number}\n")?;
-            Ok(Reply::one(alloc, Status::BadLines, CowStr::Owned(line)))
-        }
+        Head::Bad(number) => report_bad_line(alloc, number),
     }
+}
+
+// The report of the first bad line of a head.
+pub(crate) fn report_bad_line<'i>(alloc: Global, number: usize) -> Result<Reply<'i>, AllocError>
+    ensures { IfOk result (IsBadLineReply number) }
+{
+    let line = format!(in alloc; "! paths {number}\n")?;
+    Ok(Reply::one(alloc, Status::BadLines, CowStr::Owned(line)))
 }
 
 // The report of a document, in which the paths of a tree are followed.
@@ -34,7 +39,17 @@ fn report_paths<'i>(
 ) -> Result<Reply<'i>, AllocError>
     ensures { IfOk result (λ reply. ReportsPaths document.now tree.now (text_of reply) reply.status) }
 {
-    match get_many(alloc, document, tree) {
+    report_answer(alloc, get_many(alloc, document, tree))
+}
+
+// The report of what many paths are answered.
+pub(crate) fn report_answer<'i>(
+    alloc: Global,
+    answer: Result<Vec<Option<LazyValue<'i>>>, Error>,
+) -> Result<Reply<'i>, AllocError>
+    ensures { IfOk result (IsAnswerReply answer.entry) }
+{
+    match answer {
         Ok(values) => {
             let lines = Lines::Values(values);
             Reply::of_lines(alloc, Status::Done, lines, CowStr::Borrowed(""))

@@ -6,7 +6,7 @@ use std::test::Fail;
 // Words, an input, its report, and the status.
 type Example = (&'static [&'static str], &'static [u8], &'static str, Status);
 
-const EXAMPLES: [Example; 34] = [
+const EXAMPLES: [Example; 37] = [
     (
         &[],
         b"[\"a\"]\n[\"b\",1]\n[\"c\"]\n\n{\"a\": \"x\", \"b\": [2, 30]}",
@@ -186,6 +186,24 @@ const EXAMPLES: [Example; 34] = [
         Status::DocumentError,
     ),
     (&["fill"], b"{\"a\":\n{}", "! schema 1\n", Status::BadLines),
+    (
+        &["fast"],
+        b"[\"a\"]\n[\"b\"]\n\n{\"a\" : [ 1 ]} ",
+        "5 [ 1 ]\n-\n",
+        Status::Done,
+    ),
+    (
+        &["fast"],
+        b"[\"a\"]\n\n{\"a\":1}\nx",
+        "! syntax TrailingCharacters 2 1 8\n",
+        Status::DocumentError,
+    ),
+    (
+        &["fast"],
+        b"[\"a\"]\n[0]\n\nx",
+        "! paths 2\n",
+        Status::BadLines,
+    ),
 ];
 
 #[test]

@@ -4,7 +4,7 @@ use Rattle.sonic_text.specs.Faults.IsFault.{null_fault, true_fault, false_fault}
 use Rattle.sonic_text.proofs.BracketLemmas.{clear_start, string_inside}
 use Rattle.sonic_text.proofs.Values.{value-longer}
 use Rattle.sonic_text.proofs.Within.{value_within}
-use Rattle.sonic_parser.proofs.UncheckedLemmas.{whole, leaves_once, word_end, value_string, value_whole_string, value_number, known_value}
+use Rattle.sonic_parser.proofs.UncheckedLemmas.{kind_of_bracket, leaves_once, word_end, value_string, value_whole_string, value_number, known_value}
 use Rattle.sonic_parser.proofs.unchecked.whole_value.Goals as goal
 
 pub bounds-text-start : goal.bounds-text-start
@@ -14,7 +14,7 @@ pub whole_string-end-requires : goal.whole_string-end-requires
 whole_string-end-requires c = value_whole_string c.requires.1 c.in-34.is
 
 pub whole_number-requires : goal.whole_number-requires
-whole_number-requires c = (_, value_number c.requires.1 (λ e. omega arith) (λ e. omega arith) (λ e. omega arith) (λ e. grind arith) (λ e. grind arith) (λ e. omega arith))
+whole_number-requires c = (_, value_number c.requires.1 (λ e. omega arith) (λ e. grind arith) (λ e. grind arith) (λ e. grind arith) (λ e. grind arith) (λ e. omega arith))
 
 pub returns-in-34 : goal.returns-in-34
 returns-in-34 c =
@@ -31,10 +31,7 @@ returns-in-34 c =
     })
 
 pub returns-in-123 : goal.returns-in-123
-returns-in-123 c = rw c.plain.ensures (known_value c.requires.1 (λ e. omega (arith, c.in-123.is)) (c.whole_container.ensures _ (whole c.requires.1 c.in-123.is)))
-
-pub returns-in-91 : goal.returns-in-91
-returns-in-91 c = rw c.plain-in-91.ensures (known_value c.requires.1 (λ e. omega (arith, c.in-91.is)) (c.whole_container-in-91.ensures _ (whole c.requires.1 c.in-91.is)))
+returns-in-123 c = rw c.plain.ensures (known_value c.requires.1 (λ e. grind (arith, c.in-123.is)) (c.whole_container.ensures _ _ c.requires.1))
 
 pub returns-in-110 : goal.returns-in-110
 returns-in-110 c = elim c.in-110.is [
@@ -46,10 +43,9 @@ pub returns-in-102 : goal.returns-in-102
 returns-in-102 c = rw c.plain-in-102.ensures (known_value c.requires.1 (λ e. omega (arith, c.in-102.is)) (sym (word_end (codes "false") (λ k. false_literal) (λ s. false_fault c.in-102.is) c.requires.1)))
 
 pub returns-in_default : goal.returns-in_default
-returns-in_default c = rw c.plain-in_default.ensures (known_value c.requires.1 (λ e. omega arith) (c.whole_number.ensures _ (value_number c.requires.1 (λ e. omega arith) (λ e. omega arith) (λ e. omega arith) (λ e. grind arith) (λ e. grind arith) (λ e. omega arith))))
+returns-in_default c = rw c.plain-in_default.ensures (known_value c.requires.1 (λ e. omega arith) (c.whole_number.ensures _ (value_number c.requires.1 (λ e. omega arith) (λ e. grind arith) (λ e. grind arith) (λ e. grind arith) (λ e. grind arith) (λ e. omega arith))))
 
 pub whole_container-requires : goal.whole_container-requires
-whole_container-requires c = (_, whole c.requires.1 c.in-123.is)
-
-pub whole_container-requires-in-91 : goal.whole_container-requires-in-91
-whole_container-requires-in-91 c = (_, whole c.requires.1 c.in-91.is)
+whole_container-requires c =
+    let bracket = kind_of_bracket _ c.in-123.is in
+    (c.args.lossy, bracket.0, c.requires.0, c.requires.1, bracket.1)

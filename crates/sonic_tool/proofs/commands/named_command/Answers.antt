@@ -1,5 +1,5 @@
 use Rattle.std.proofs.Common.{ap, ◌∷◌, []}
-use Rattle.sonic_tool.specs.Commands.Asks.{get_word, list_word, edit_word, fill_word}
+use Rattle.sonic_tool.specs.Commands.Asks.{get_word, list_word, edit_word, fill_word, fast_word}
 use Rattle.sonic_tool.proofs.commands.named_command.Goals as goal
 
 pub returns-in-get-clause-asked : goal.returns-in-get-clause-asked
@@ -13,3 +13,6 @@ returns-in-edit-clause-asked c = edit_word (ap (λ w. w ∷ []) c.in-edit.is)
 
 pub returns-in-fill-clause-asked : goal.returns-in-fill-clause-asked
 returns-in-fill-clause-asked c = fill_word (ap (λ w. w ∷ []) c.in-fill.is)
+
+pub returns-in-fast-clause-asked : goal.returns-in-fast-clause-asked
+returns-in-fast-clause-asked c = fast_word (ap (λ w. w ∷ []) c.in-fast.is)
