@@ -3,6 +3,7 @@ mod CommandLemmas
 mod EditLemmas
 mod FastLemmas
 mod FillLemmas
+mod GeneratedLemmas
 mod GetLemmas
 mod ListLemmas
 mod OutsideLemmas

@@ -1,17 +1,17 @@
 -- What a run has done, by what its parts did.
-use Rattle.std.proofs.Common.{◌≡◌, ◌≢◌, inl, inr, ℕ, ◌+◌, ◌<◌, List, [], ◌++◌, length, length-append, append-nil, drop, arith, refl, ap, ◌∙◌, Some, None}
+use Rattle.std.proofs.Common.{◌≡◌, ◌≢◌, inl, inr, ℕ, ◌+◌, ◌<◌, ◌≤◌, List, [], ◌++◌, length, length-append, append-nil, drop, arith, refl, ap, ◌∙◌, Some, None}
 use Rattle.std.specs.Prelude.{IfSome}
 use Rattle.std.specs.declared.option.Option.{Option}
 use Rattle.std.specs.Io.KnownBytes.{IsAtEnd}
 use Rattle.sonic_lazy.specs.Answers.{Answer}
 use Rattle.sonic_tool.specs.declared.commands.Command.{Command}
-use Rattle.sonic_tool.specs.declared.commands.Command.TheVariants.{Get, List as Items, Edit, Fill, Fast}
+use Rattle.sonic_tool.specs.declared.commands.Command.TheVariants.{Get, List as Items, Edit, Fill, Fast, Gen}
 use Rattle.sonic_tool.specs.declared.outside.reading.TheConstants.{LIMIT}
 use Rattle.sonic_tool.specs.declared.run.Request.{Request}
 use Rattle.sonic_tool.specs.declared.run.Request.TheVariants.{Usage, Large, Input}
 use Rattle.sonic_tool.specs.declared.status.Status.{Status}
-use Rattle.sonic_tool.specs.declared.status.Status.TheVariants.{Done, BadUsage, TooLarge, WriteFault}
-use Rattle.sonic_tool.specs.Commands.{IsListed}
+use Rattle.sonic_tool.specs.declared.status.Status.TheVariants.{Done, BadUsage, TooLarge, ReadFault, WriteFault, NoMemory}
+use Rattle.sonic_tool.specs.Commands.{Asks, IsListed, Reads, IsReading}
 use Rattle.sonic_owned.specs.Forms.{Form}
 use Rattle.sonic_owned.specs.TreeEdits as edits
 use Rattle.sonic_text.specs.Paths.{Path}
@@ -20,6 +20,8 @@ use Rattle.sonic_tool.specs.Commands.Edits.{ReportsMade, refused, made, ReportsE
 use Rattle.sonic_tool.specs.Commands.Fast as fast
 use Rattle.sonic_tool.specs.Commands.Fast.{ReportsValid, IsFastReport}
 use Rattle.sonic_tool.specs.Commands.Fills.{ReportsFilled, unfilled, filled, IsFillReport, bad_schema, reports_filled}
+use Rattle.sonic_tool.specs.Commands.Generated as gen
+use Rattle.sonic_tool.specs.Commands.Generated.{IsGenReport}
 use Rattle.sonic_tool.specs.Commands.Get.{IsAnswerReport, IsPathsReport, IsGetReport}
 use Rattle.sonic_tool.specs.Commands.Get.IsAnswerReport.{entry_lines, error_line}
 use Rattle.sonic_tool.specs.Commands.Get.IsPathsReport.{bad_line, answered}
@@ -30,7 +32,8 @@ use Rattle.sonic_tool.specs.Outside.{Gave, Took, TookPrefix, Rose}
 use Rattle.sonic_tool.specs.Reports.{Writes, IsReport}
 use Rattle.sonic_tool.specs.Reports.IsReport.{usage, large, written}
 use Rattle.sonic_tool.specs.Sessions.{Session, IsReported, IsOfInput, IsReply, Reports, ReportsOnly, AnswersAll, ReadsTooMuch, IsRun}
-use Rattle.sonic_tool.proofs.ReportLemmas.{has_one_report, answered_done}
+use Rattle.sonic_tool.proofs.ReportLemmas.{asks_one, has_one_report, answered_done}
+use Rattle.sonic_tool.proofs.CommandLemmas.{reads_or_gen}
 
 -- the input that was left, where that is known
 abbrev Known : Option (List ℕ) → List ℕ → Type 0
@@ -117,14 +120,21 @@ fill_status : {input text : List ℕ} {ending : Status} → IsFillReport input t
 fill_status (bad_schema s u t e) = inr (inr e)
 fill_status (reports_filled x r) = filled_status r
 
+-- a report by `gen`
+gen_status : {n : ℕ} {text : List ℕ} {ending : Status} → IsGenReport n text ending → IsOfInput ending
+gen_status (gen.invalid s i t e) = inr (inl e)
+gen_status (gen.stopped s v a t e) = inr (inl e)
+gen_status (gen.counted v a t e) = inl e
+
 -- a report of what the source had left, and what its status says of the words and of the source
 pub record IsPrepared (run : Session) (text : List ℕ) (ending : Status) : Type 0 where
   pub reply : IsReply run text ending
   pub reported : IsReported ending
   pub unlisted : ¬ (IsListed run.words) → ending ≡ BadUsage
   pub listed : ending ≡ BadUsage → ¬ (IsListed run.words)
-  pub whole : IsOfInput ending → IsAtEnd run.after.left
+  pub whole : IsReading run.words → IsOfInput ending → IsAtEnd run.after.left
   pub large : ending ≡ TooLarge → ReadsTooMuch run
+  pub large_of_reading : ending ≡ TooLarge → IsReading run.words
 
 -- what a command writes goes with a status of a whole input
 written_status : (command : Command) (input text : List ℕ) (ending : Status) → Writes command input text ending → IsOfInput ending
@@ -133,6 +143,23 @@ written_status Items input text ending r = list_status r
 written_status Edit input text ending r = edit_status r
 written_status Fill input text ending r = fill_status r
 written_status Fast input text ending r = fast_status r
+written_status (Gen n) input text ending r = gen_status r
+
+-- what `gen` writes is so of each input
+of_each_input : {command : Command} {n : ℕ} (input other text : List ℕ) (ending : Status) → command ≡ Gen n → Writes command input text ending
+    → Writes command other text ending
+of_each_input input other text ending e w = rw e (rw e at w)
+
+-- what a command writes of what it read is a report of what was left
+written_reply : (run : Session) {text : List ℕ} {ending : Status} {command : Command} (bytes : List ℕ) → Asks run.words command
+    → (Reads command → Gave run.before.left run.after.left bytes × IsAtEnd run.after.left × (length bytes ≤ LIMIT)) → Writes command bytes text ending
+    → IsReply run text ending
+written_reply run {command = command} bytes asks read answers = elim (reads_or_gen command) [
+  | inl reads ↦ (let (gave, end, within) = read reads in
+      record { input = bytes; known = whole_input run.before.left run.after.left bytes gave end; report = written asks (λ _. within) answers })
+  | inr (n, e) ↦ (let i = some_input run.before.left in
+      record { input = i.0; known = i.1; report = written asks (λ reads. absurd (reads n e)) (of_each_input bytes i.0 _ _ e answers) })
+]
 
 -- what answers the request is such a report
 pub prepared : (run : Session) {text : List ℕ} {ending : Status} (request : Request) → IsAsked run.words run.before.left run.after.left request
@@ -142,25 +169,28 @@ prepared run {text} {ending} Usage asked (t, e) = let i = some_input run.before.
   reported = record { no_read_fault = λ f. cc; no_write_fault = λ f. cc; memory = λ f. cc };
   unlisted = λ u. e;
   listed = λ u. asked;
-  whole = λ o. absurd ((of_input ending o).1 e);
+  whole = λ r o. absurd ((of_input ending o).1 e);
   large = λ l. absurd cc;
+  large_of_reading = λ l. absurd cc;
 }
 prepared run {text} {ending} Large (bytes, listed, long, gave) (t, e) = let i = large_input run.before.left run.after.left bytes long gave in record {
   reply = record { input = i.0; known = i.1; report = rw (t, e) (large listed i.2) };
   reported = record { no_read_fault = λ f. cc; no_write_fault = λ f. cc; memory = λ f. cc };
-  unlisted = λ u. absurd (u listed);
+  unlisted = λ u. absurd (u (listed.0, listed.1));
   listed = λ u. absurd cc;
-  whole = λ o. absurd ((of_input ending o).2 e);
+  whole = λ r o. absurd ((of_input ending o).2 e);
   large = λ l. (bytes, long, gave);
+  large_of_reading = λ l. listed;
 }
-prepared run {text} {ending} (Input command bytes) (asks, gave, end, within) answers =
+prepared run {text} {ending} (Input command bytes) (asks, read) answers =
     let o = of_input ending (written_status command bytes.items text ending answers) in record {
-      reply = record { input = bytes.items; known = whole_input run.before.left run.after.left bytes.items gave end; report = written asks within answers };
+      reply = written_reply run bytes.items asks read answers;
       reported = o.0;
       unlisted = λ u. absurd (u (command, asks));
       listed = λ u. absurd (o.1 u);
-      whole = λ p. end;
+      whole = λ (asked, others, reads) p. (read (rw (asks_one others asks) at reads)).1;
       large = λ l. absurd (o.2 l);
+      large_of_reading = λ l. absurd (o.2 l);
     }
 
 -- what a run reports of an input that is known is the one report of it
@@ -197,6 +227,8 @@ delivered {run} {text} {ending} p taken reads writes =
       listed = p.listed;
       whole = p.whole;
       large = p.large;
+      fault_of_reading = λ e. absurd (p.reported.no_read_fault e);
+      large_of_reading = p.large_of_reading;
     }
 
 -- a run that a failed write ended
@@ -215,6 +247,52 @@ broken {run} {text} {status} p taken reads rose = record {
   no_write_cause = λ e. absurd (e refl);
   unlisted = λ _. inr refl;
   listed = λ e. absurd cc;
-  whole = λ o. absurd ((of_input WriteFault o).0.no_write_fault refl);
+  whole = λ r o. absurd ((of_input WriteFault o).0.no_write_fault refl);
   large = λ e. absurd cc;
+  fault_of_reading = λ e. absurd cc;
+  large_of_reading = λ e. absurd cc;
+}
+
+-- a run that a failed read ended
+pub unread : {run : Session} → run.after.written ≡ run.before.written → Rose run.before.read_faults run.after.read_faults
+    → run.after.write_faults ≡ run.before.write_faults → IsReading run.words → IsRun run ReadFault
+unread silent rose writes (asked, asks, reads) = record {
+  reports = λ r. absurd (r.no_read_fault refl);
+  the_only_one = λ r. absurd (r.no_read_fault refl);
+  complete = λ r. absurd (r.no_read_fault refl);
+  breaks_off = λ e. absurd cc;
+  read_fault_is_silent = λ _. silent;
+  no_memory_is_silent = λ e. absurd cc;
+  read_cause = λ _. rose;
+  no_read_cause = λ e. absurd (e refl);
+  write_cause = λ e. absurd cc;
+  no_write_cause = λ _. writes;
+  unlisted = λ u. absurd (u (asked, asks));
+  listed = λ e. absurd cc;
+  whole = λ r o. absurd ((of_input ReadFault o).0.no_read_fault refl);
+  large = λ e. absurd cc;
+  fault_of_reading = λ _. (asked, asks, reads);
+  large_of_reading = λ e. absurd cc;
+}
+
+-- a run that ran out of memory
+pub out_of_memory : {run : Session} → run.after.written ≡ run.before.written → run.after.read_faults ≡ run.before.read_faults
+    → run.after.write_faults ≡ run.before.write_faults → ¬ ¬ IsListed run.words → IsRun run NoMemory
+out_of_memory silent reads writes listed = record {
+  reports = λ r. absurd (r.memory refl);
+  the_only_one = λ r. absurd (r.memory refl);
+  complete = λ r. absurd (r.memory refl);
+  breaks_off = λ e. absurd cc;
+  read_fault_is_silent = λ e. absurd cc;
+  no_memory_is_silent = λ _. silent;
+  read_cause = λ e. absurd cc;
+  no_read_cause = λ _. reads;
+  write_cause = λ e. absurd cc;
+  no_write_cause = λ _. writes;
+  unlisted = λ u. absurd (listed u);
+  listed = λ e. absurd cc;
+  whole = λ r o. absurd ((of_input NoMemory o).0.memory refl);
+  large = λ e. absurd cc;
+  fault_of_reading = λ e. absurd cc;
+  large_of_reading = λ e. absurd cc;
 }

@@ -2,11 +2,14 @@
 pub mod Edits
 pub mod Fast
 pub mod Fills
+pub mod Generated
 pub mod Get
 pub mod Items
-use Rattle.std.specs.Prelude.{◌≡◌, List, [], ◌∷◌, ℕ, codes}
+use Rattle.std.specs.Prelude.{◌≡◌, ◌≢◌, List, [], ◌∷◌, ℕ, ◌≤◌, codes}
+use Rattle.std.specs.Fmt.{decimal}
 use Rattle.sonic_tool.specs.declared.commands.Command.{Command}
 use Rattle.sonic_tool.specs.declared.commands.Command.TheVariants as command
+use Rattle.sonic_tool.specs.declared.commands.TheConstants.{MOST}
 
 -- the words ask for this command: no word asks for `get`, as the one word `get` does
 pub data Asks (words : List (List ℕ)) : Command → Type 0 where
@@ -16,7 +19,16 @@ pub data Asks (words : List (List ℕ)) : Command → Type 0 where
   edit_word : words ≡ codes "edit" ∷ [] → Asks words command.Edit
   fill_word : words ≡ codes "fill" ∷ [] → Asks words command.Fill
   fast_word : words ≡ codes "fast" ∷ [] → Asks words command.Fast
+  gen_words : {n : ℕ} → words ≡ codes "gen" ∷ decimal n ∷ [] → 1 ≤ n → n ≤ MOST → Asks words (command.Gen n)
 
 -- the words ask for some command
 abbrev pub IsListed : List (List ℕ) → Type 0
 IsListed words = (asked : Command) × Asks words asked
+
+-- the command reads the source: each does but `gen`
+abbrev pub Reads : Command → Type 0
+Reads asked = (n : ℕ) → asked ≢ command.Gen n
+
+-- the words ask for a command that reads the source
+abbrev pub IsReading : List (List ℕ) → Type 0
+IsReading words = (asked : Command) × Asks words asked × Reads asked

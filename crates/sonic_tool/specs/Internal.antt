@@ -1,5 +1,6 @@
 -- What serves private clauses and loop invariants alone.
 pub mod Buffers
+pub mod Counted
 pub mod Listed
 pub mod Replies
 pub mod Requests

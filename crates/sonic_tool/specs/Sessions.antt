@@ -6,7 +6,7 @@ use Rattle.sonic_tool.specs.declared.commands.Command.TheVariants.{Get}
 use Rattle.sonic_tool.specs.declared.outside.reading.TheConstants.{LIMIT}
 use Rattle.sonic_tool.specs.declared.status.Status.{Status}
 use Rattle.sonic_tool.specs.declared.status.Status.TheVariants.{Done, DocumentError, BadUsage, BadLines, TooLarge, ReadFault, WriteFault, NoMemory}
-use Rattle.sonic_tool.specs.Commands.{Asks, IsListed}
+use Rattle.sonic_tool.specs.Commands.{Asks, IsListed, IsReading}
 use Rattle.sonic_tool.specs.Commands.Get.{IsAnswerableInput}
 use Rattle.sonic_tool.specs.Outside.{Rose, Gave, Took, TookPrefix}
 use Rattle.sonic_tool.specs.Reports.{IsReport}
@@ -100,6 +100,9 @@ pub record IsRun (run : Session) (ending : Status) : Type 0 where
   -- words that ask for no command are answered so, and need no memory
   pub unlisted : ¬ IsListed run.words → (ending ≡ BadUsage) ⊎ (ending ≡ WriteFault)
   pub listed : ending ≡ BadUsage → ¬ IsListed run.words
-  -- a report of the input was made of all of it
-  pub whole : IsOfInput ending → IsAtEnd run.after.left
+  -- a report of an input that is read was made of all of it
+  pub whole : IsReading run.words → IsOfInput ending → IsAtEnd run.after.left
   pub large : ending ≡ TooLarge → ReadsTooMuch run
+  -- only words that ask for a command that reads end with the status of a failed read or of a large input
+  pub fault_of_reading : ending ≡ ReadFault → IsReading run.words
+  pub large_of_reading : ending ≡ TooLarge → IsReading run.words

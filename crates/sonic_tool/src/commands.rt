@@ -1,6 +1,8 @@
 //! The commands, and the words of a command line that ask for them.
-ghost use Rattle.std.specs.Prelude.{◌≡◌, ◌∷◌, [], map, string_bytes, IfSome, IfNone};
+ghost use Rattle.std.specs.Prelude.{◌≡◌, ◌≤◌, ℕ, ◌∷◌, [], map, string_bytes, IfSome, IfNone};
+ghost use Rattle.std.specs.Fmt.{decimal};
 ghost use Rattle.sonic_tool.specs.Commands.{Asks, IsListed};
+ghost use Rattle.sonic_tool.specs.declared.commands.TheConstants.{MOST};
 
 // What `edit` writes: what the edits of an input's head make of its document.
 pub(crate) mod edit;
@@ -8,6 +10,8 @@ pub(crate) mod edit;
 pub(crate) mod fast;
 // What `fill` writes: the schema in an input's first line, filled from the rest.
 pub(crate) mod fill;
+// What `gen` writes: a report over a document that it makes itself.
+pub(crate) mod generated;
 // What `get` writes: where the paths of an input's head lead in its document.
 pub(crate) mod get;
 // What `list` writes: the items of the container that an input is.
@@ -26,7 +30,13 @@ pub enum Command {
     Fill,
     /// As `get`, of a document that is valid as a whole. The word `fast` asks for it.
     Fast,
+    /// Counts over a document of so many objects, which it makes itself. The word `gen` and their
+    /// number ask for it, and no input is read.
+    Gen(u32),
 }
+
+/// The most objects that `gen` makes.
+pub const MOST: u32 = 1_000_000;
 
 // The command that the words ask for.
 pub(crate) fn asked_command(words: &[String]) -> Option<Command>
@@ -36,6 +46,7 @@ pub(crate) fn asked_command(words: &[String]) -> Option<Command>
     match words {
         [] => Some(Command::Get),
         [word] => named_command(word.as_str()),
+        [word, count] => counted_command(word.as_str(), count.as_str()),
         _ => None,
     }
 }
@@ -53,4 +64,39 @@ fn named_command(word: &str) -> Option<Command>
         "fast" => Some(Command::Fast),
         _ => None,
     }
+}
+
+// The command that a word and a number ask for.
+fn counted_command(word: &str, count: &str) -> Option<Command>
+    ensures asked { IfSome result (λ command. Asks (word.now ∷ count.now ∷ []) command) }
+    ensures unlisted { IfNone result (¬ IsListed (word.now ∷ count.now ∷ [])) }
+{
+    if word != "gen" {
+        return None;
+    }
+    match asked_count(count) {
+        Some(count) => Some(Command::Gen(count)),
+        None => None,
+    }
+}
+
+// The number of objects that a text asks for: its decimal has no sign and no zero before it.
+fn asked_count(text: &str) -> Option<u32>
+    ensures some { IfSome result (λ n. (text.now ≡ decimal n) × (1 ≤ n) × (n ≤ MOST)) }
+    ensures none { IfNone result ((n : ℕ) → text.now ≡ decimal n → 1 ≤ n → ¬ (n ≤ MOST)) }
+{
+    let Ok(count) = text.parse::<u32>() else {
+        return None;
+    };
+    if count == 0 {
+        return None;
+    }
+    if MOST < count {
+        return None;
+    }
+    let mut digits = itoa::Buffer::new();
+    if digits.format(count) != text {
+        return None;
+    }
+    Some(count)
 }

@@ -1,12 +1,12 @@
 //! The top call.
 ghost use Rattle.std.specs.Prelude.{◌≡◌, map, string_bytes, IsOk, IfOk, IsErrOf, IsOkAnd};
-ghost use Rattle.sonic_tool.specs.Commands.{IsListed};
+ghost use Rattle.sonic_tool.specs.Commands.{IsListed, IsReading};
 ghost use Rattle.sonic_tool.specs.Internal.Replies.{text_of};
 ghost use Rattle.sonic_tool.specs.Internal.Requests.{IsAsked, IsAnswered};
 ghost use Rattle.sonic_tool.specs.Outside.{Rose};
 ghost use Rattle.sonic_tool.specs.Sessions.{outside_of, session_of, IsRun};
 
-use crate::commands::{Command, asked_command, edit, fast, fill, get, list};
+use crate::commands::{Command, asked_command, edit, fast, fill, generated, get, list};
 use crate::outside::reading::{ReadError, read_all};
 use crate::outside::sink::Sink;
 use crate::outside::source::{Failed, Source};
@@ -15,14 +15,16 @@ use crate::status::Status;
 use std::alloc::{AllocError, Global};
 use std::borrow::CowStr;
 
-/// Reads the whole input, and writes its report.
+/// Reads the whole input, where a command asks for it, and writes the report.
 ///
 /// `words` are the words of the command line after the program's name. No word and the one word
 /// `get` ask for the command that follows the paths of the input's head, `list` for the items of
 /// the container that the input is, `edit` for the document as the edits of the input's head make it,
 /// `fill` for the schema in the first line as the rest fills it, and `fast` for what `get` asks for
-/// where the document is valid as a whole; all others are answered by `! usage`, and the source
-/// isn't read. All memory is taken before the first byte is written.
+/// where the document is valid as a whole. The two words `gen` and a number from 1 to `MOST` ask for
+/// counts over a document of so many objects that the command makes itself. All others are answered
+/// by `! usage`. There and for `gen` the source isn't read. All memory is taken before the first byte
+/// is written.
 ///
 /// `IsRun` says for each status what the run has done, over the words and the outside before and
 /// after. Of no words and the input `[2,1]`, an empty line and `[1, null, [20, 300]]` it writes the
@@ -37,8 +39,8 @@ pub fn run<S: Source, K: Sink>(
         (outside_of (S.left source.old) (S.faults source.old) (K.written sink.old) (K.faults sink.old))
         (outside_of (S.left source.new) (S.faults source.new) (K.written sink.new) (K.faults sink.new)))
         result }
-    // Words that ask for no command leave the source as it is.
-    ensures unread { ¬ IsListed (map string_bytes words.now) → source.new ≡ source.old }
+    // Words that ask for no command that reads leave the source as it is.
+    ensures unread { ¬ IsReading (map string_bytes words.now) → source.new ≡ source.old }
 {
     let request = match prepare(alloc, words, source) {
         Ok(request) => request,
@@ -62,7 +64,7 @@ enum Request {
     Usage,
     // More bytes than an input may have.
     Large,
-    // A command, and an input that was read to its end.
+    // A command, and the input that was read to its end, if the command reads one.
     Input(Command, Vec<u8>),
 }
 
@@ -85,12 +87,17 @@ fn prepare<S: Source>(
         (IsAsked (map string_bytes words.now) (S.left source.old) (S.left source.new)) }
     ensures cause { IsErrOf result Unprepared.Fault → Rose (S.faults source.old) (S.faults source.new) }
     ensures calm { ¬ IsErrOf result Unprepared.Fault → S.faults source.new ≡ S.faults source.old }
-    ensures unlisted { ¬ IsListed (map string_bytes words.now) → (source.new ≡ source.old)
-        × IsOkAnd result (λ request. request ≡ Request.Usage) }
+    ensures unlisted { ¬ IsListed (map string_bytes words.now)
+        → IsOkAnd result (λ request. request ≡ Request.Usage) }
+    ensures unread { ¬ IsReading (map string_bytes words.now) → source.new ≡ source.old }
+    ensures reading { IsErrOf result Unprepared.Fault → IsReading (map string_bytes words.now) }
 {
     let Some(command) = asked_command(words) else {
         return Ok(Request::Usage);
     };
+    if let Command::Gen(_) = command {
+        return Ok(Request::Input(command, Vec::new(alloc)));
+    }
     match read_all(alloc, source) {
         Ok(input) => Ok(Request::Input(command, input)),
         Err(ReadError::TooLarge) => Ok(Request::Large),
@@ -112,5 +119,6 @@ fn answer<'i>(alloc: Global, request: &'i Request) -> Result<Reply<'i>, AllocErr
         Request::Input(Command::Edit, input) => edit::report(alloc, input),
         Request::Input(Command::Fill, input) => fill::report(alloc, input),
         Request::Input(Command::Fast, input) => fast::report(alloc, input),
+        Request::Input(Command::Gen(count), _) => generated::report(alloc, *count),
     }
 }

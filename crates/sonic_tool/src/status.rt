@@ -1,8 +1,8 @@
 /// How a run ended, by the number that the process ends with.
 #[derive(Clone, Copy, Debug, PartialEq, Eq)]
 pub enum Status {
-    /// Each path leads to a value or lacks its key, or all items are listed, or all edits are made,
-    /// and the report is written.
+    /// Each path leads to a value or lacks its key, or all items are listed, or all edits are made, or
+    /// the schema is filled, and the report is written.
     Done = 0,
     /// The last line of the report is that of an error of the document, or names the first edit that
     /// is refused.

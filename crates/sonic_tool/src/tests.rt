@@ -5,6 +5,7 @@ mod fast;
 mod faults;
 mod fills;
 mod format;
+mod generated;
 mod lists;
 mod outside;
 mod paths;

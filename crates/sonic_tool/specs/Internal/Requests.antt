@@ -7,15 +7,15 @@ use Rattle.sonic_tool.specs.declared.run.Request.{Request}
 use Rattle.sonic_tool.specs.declared.run.Request.TheVariants.{Usage, Large, Input}
 use Rattle.sonic_tool.specs.declared.status.Status.{Status}
 use Rattle.sonic_tool.specs.declared.status.Status.TheVariants.{BadUsage, TooLarge}
-use Rattle.sonic_tool.specs.Commands.{Asks, IsListed}
+use Rattle.sonic_tool.specs.Commands.{Asks, IsListed, Reads, IsReading}
 use Rattle.sonic_tool.specs.Outside.{Gave}
 use Rattle.sonic_tool.specs.Reports.{Writes}
 
 -- what is to be answered, by the words and by what the source had left and has
 abbrev pub IsAsked : List (List ℕ) → Option (List ℕ) → Option (List ℕ) → Request → Type 0
 IsAsked words before now Usage = ¬ IsListed words
-IsAsked words before now Large = (bytes : List ℕ) × IsListed words × (length bytes ≡ LIMIT + 1) × Gave before now bytes
-IsAsked words before now (Input command bytes) = Asks words command × Gave before now bytes.items × IsAtEnd now × (length bytes.items ≤ LIMIT)
+IsAsked words before now Large = (bytes : List ℕ) × IsReading words × (length bytes ≡ LIMIT + 1) × Gave before now bytes
+IsAsked words before now (Input command bytes) = Asks words command × (Reads command → Gave before now bytes.items × IsAtEnd now × (length bytes.items ≤ LIMIT))
 
 -- the text and the status that answer it
 abbrev pub IsAnswered : Request → List ℕ → Status → Type 0

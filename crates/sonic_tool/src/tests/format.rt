@@ -6,7 +6,7 @@ use std::test::Fail;
 // Words, an input, its report, and the status.
 type Example = (&'static [&'static str], &'static [u8], &'static str, Status);
 
-const EXAMPLES: [Example; 37] = [
+const EXAMPLES: [Example; 38] = [
     (
         &[],
         b"[\"a\"]\n[\"b\",1]\n[\"c\"]\n\n{\"a\": \"x\", \"b\": [2, 30]}",
@@ -203,6 +203,12 @@ const EXAMPLES: [Example; 37] = [
         b"[\"a\"]\n[0]\n\nx",
         "! paths 2\n",
         Status::BadLines,
+    ),
+    (
+        &["gen", "2"],
+        b"",
+        "objects 2\nbytes 104\nchecked 3 1 58\nunchecked 3 1 58\n",
+        Status::Done,
     ),
 ];
 

@@ -526,7 +526,7 @@ fn ends_at_the_first_failing_call(rt: HostRuntime) -> Result<(), Fail> {
 
 // A reader that always fails.
 #[derive(Drop)]
-struct Broken;
+pub struct Broken;
 
 impl Read for Broken {
     fn read(&mut self, _room: &mut [u8]) -> io::Result<usize> {

@@ -1,4 +1,5 @@
-use Rattle.sonic_tool.proofs.SessionLemmas.{prepared, delivered, broken}
+use Rattle.std.proofs.Common.{rules, refl}
+use Rattle.sonic_tool.proofs.SessionLemmas.{prepared, delivered, broken, unread, out_of_memory}
 use Rattle.sonic_tool.proofs.run.run.Goals as goal
 
 pub returns-in-Ok-deliver-clause-outcome : goal.returns-in-Ok-deliver-clause-outcome
@@ -8,3 +9,9 @@ returns-in-Ok-deliver-clause-outcome g c =
 pub returns-clause-outcome : goal.returns-clause-outcome
 returns-clause-outcome g c =
     broken (prepared _ c.in-Ok.request c.in-Ok.ensures.asked c.in-Ok-answer.ensures.answered) c.in-Err.ensures.prefix (c.in-Ok.ensures.calm (λ e. cc)) c.in-Err.ensures.cause
+
+pub returns-in-Err-Fault-clause-outcome : goal.returns-in-Err-Fault-clause-outcome
+returns-in-Err-Fault-clause-outcome g c = unread refl (search rules) refl (search rules)
+
+pub returns-in-Err-Memory-clause-outcome : goal.returns-in-Err-Memory-clause-outcome
+returns-in-Err-Memory-clause-outcome g c = out_of_memory refl (search rules) refl (search rules)
