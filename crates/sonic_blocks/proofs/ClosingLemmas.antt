@@ -6,11 +6,18 @@ use Rattle.std.specs.Int.{trailing_zeros}
 use lib.Bits.{bit_and, and_le_r}
 use lib.Count.{ones}
 use Rattle.sonic_blocks.specs.Bits.{is_set, count_below}
-use Rattle.sonic_blocks.specs.Closings.{StaysOpen, IsClosingBit, IsScanned}
+use Rattle.sonic_blocks.specs.Closings.{StaysOpen, IsClosingBit}
 use Rattle.sonic_blocks.proofs.BitLemmas.{set_zero}
 use Rattle.sonic_blocks.proofs.CountLemmas.{count_from, count_none, count_grows, count_few}
 use Rattle.sonic_blocks.proofs.LowestLemmas.{lowest_within, lowest_set, none_lower, cleared}
 use Rattle.sonic_blocks.proofs.OnesLemmas.{ones_all, ones_lower}
+
+-- the bits below y were looked at: so many of them close, and the rest is left
+pub record IsScanned (opens closes depth rest closed y : ℕ) : Type 0 where
+  pub within : y ≤ 64
+  pub left : (k : ℕ) → k < 64 → is_set rest k ≡ (is_set closes k && nat_le y k)
+  pub count : closed ≡ count_below (is_set closes) 0 y
+  pub before : (k : ℕ) → k < y → StaysOpen opens closes depth k
 
 and_true : (a b : Bool) → b ≡ true → (a && b) ≡ a
 and_true true b h = h

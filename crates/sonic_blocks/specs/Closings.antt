@@ -1,5 +1,5 @@
 -- Brackets of a block as bits: those that open and those that close.
-use Rattle.std.specs.Prelude.{◌≡◌, ◌≢◌, ℕ, suc, ◌<◌, ◌≤◌, ◌&&◌, true, nat_le}
+use Rattle.std.specs.Prelude.{◌≡◌, ◌≢◌, ℕ, suc, ◌<◌, true}
 use Rattle.sonic_blocks.specs.Bits.{is_set, count_below}
 
 -- if the bit k closes, then not as many are closed up to it as are opened, and `depth` before them
@@ -11,10 +11,3 @@ pub record IsClosingBit (opens closes depth z : ℕ) : Type 0 where
   pub within : z < 64
   pub level : count_below (is_set closes) 0 (suc z) ≡ count_below (is_set opens) depth (suc z)
   pub before : (k : ℕ) → k < z → StaysOpen opens closes depth k
-
--- the bits below y were looked at: so many of them close, and the rest is left
-pub record IsScanned (opens closes depth rest closed y : ℕ) : Type 0 where
-  pub within : y ≤ 64
-  pub left : (k : ℕ) → k < 64 → is_set rest k ≡ (is_set closes k && nat_le y k)
-  pub count : closed ≡ count_below (is_set closes) 0 y
-  pub before : (k : ℕ) → k < y → StaysOpen opens closes depth k

@@ -1,3 +1,5 @@
 pub mod Elements
 pub mod Settings
+pub mod Streams
+pub mod StreamViews
 pub mod Subjects

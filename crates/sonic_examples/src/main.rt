@@ -11,7 +11,10 @@ mod lookup;
 mod records;
 // An editor that opens a file of settings.
 mod settings;
-// What no clause says: that an edit keeps every byte that it doesn't concern.
+// A log reader that takes a stream of records in pieces.
+mod stream;
+// What no clause says: that an edit keeps every byte that it doesn't concern, and that a stream gives the
+// same however it is cut.
 #[cfg(test)]
 mod tests;
 // Lazy values: their types, and paths inside them.
@@ -27,7 +30,8 @@ fn show(rt: &impl Print, alloc: Global) -> io::Result<()> {
     records::show(rt, alloc)?;
     values::show(rt, alloc)?;
     items::show(rt, alloc)?;
-    settings::show(rt, alloc)
+    settings::show(rt, alloc)?;
+    stream::show(rt, alloc)
 }
 
 fn main(rt: HostRuntime) -> ExitCode {

@@ -24,16 +24,16 @@ pub fn paths(alloc: Global) -> Result<PointerTree, Error> {
     Ok(tree)
 }
 
-/// The fields of a record, each as its exact text, or `None` where the record has none.
+/// The fields of the record on a line, each as its exact text, or `None` where the record has none.
 pub fn fields<'t>(
     alloc: Global,
     paths: &PointerTree,
-    record: &'t str,
+    line: &'t str,
 ) -> Result<Vec<Option<LazyValue<'t>>>, Error>
-    ensures ok { IfOk result (λ values. AreValues record.now false paths.now values.items) }
-    ensures err { IfErr result (IsRefusal record.now false paths.now) }
+    ensures ok { IfOk result (λ values. AreValues line.now false paths.now values.items) }
+    ensures err { IfErr result (IsRefusal line.now false paths.now) }
 {
-    get_many(alloc, record, paths)
+    get_many(alloc, line, paths)
 }
 
 const LOG: &str = r#"{"ts": "12:00:00", "user": {"id": 42}, "tags": ["api", "v2"]}
@@ -59,8 +59,8 @@ pub fn show(rt: &impl Print, alloc: Global) -> io::Result<()> {
         Ok(tree) => tree,
         Err(error) => return println!(rt; "{error}"),
     };
-    for record in LOG.lines() {
-        match fields(alloc, &tree, record) {
+    for line in LOG.lines() {
+        match fields(alloc, &tree, line) {
             Ok(values) => show_fields(rt, &values)?,
             Err(error) => println!(rt; "column {}: {}", error.column(), error.code())?,
         }

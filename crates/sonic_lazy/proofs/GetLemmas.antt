@@ -29,10 +29,11 @@ use Rattle.sonic_parser.specs.declared.fault.Fault.TheVariants.{OutOfMemory, At}
 use Rattle.sonic_text.proofs.Outcomes.{value_some_outcome}
 use Rattle.sonic_text.proofs.Stops.{fault_within}
 use Rattle.sonic_text.proofs.Within.{value_within}
+use Rattle.sonic_lazy.proofs.SeparatorLemmas.{item_goes_on, member_has_key}
 use Rattle.sonic_text.proofs.Insides.{item_whole}
 use Rattle.sonic_lazy.specs.Internal.Steps.{HasWhole}
 use Rattle.std.proofs.Math.Seq.{take-length}
-use Rattle.sonic_parser.specs.Containers.{IsEnd, IsSeparated, IsSeparatorFault}
+use Rattle.sonic_parser.specs.Containers.{GoesOn, IsEnd, IsSeparated, IsSeparatorFault}
 use Rattle.sonic_text.proofs.Items.{head_never_both, closing_no_comma}
 use Rattle.sonic_text.proofs.Strings.{string_one}
 use Rattle.sonic_text.proofs.Values.{items_open, items_not_empty}
@@ -246,3 +247,15 @@ get_answer_one t is_bytes path =
     let o = evaluates_some t path (after_space t 0) in
     let a = alone_some t is_bytes o.0 in
     record { some = (a.0, record { outcome = o.0; leads = o.1; come_to = a.1 }); one = λ a b x y. get_one x y }
+
+-- where a member of a whole object is expected, a key with its colon is
+pub named_key : {t : List ℕ} {i n h : ℕ} {node : Node} → NoneNamed t i (kind_of node) n h node → kind_of node ≡ Object → HasWhole t i
+    → (v : ℕ) × (b : List ℕ) × IsKey strict t h v b
+named_key {t} {i} {n} {h} before k x =
+    let members : ItemsFit strict t Object i n h = rw k at before.fit in
+    member_has_key x.1 members
+
+-- after an item of a whole container a comma or the closing bracket comes
+pub tried_goes_on : {t : List ℕ} {i n h v e : ℕ} {is : Bool} {node : Node} → NoneNamed t i (kind_of node) n h node → IsTried t node n h v is
+    → IsValue strict t v e → HasWhole t i → GoesOn t (kind_of node) e
+tried_goes_on before x value y = item_goes_on y.1 before.fit x.item.head value

@@ -16,7 +16,8 @@ use Rattle.sonic_lazy.specs.declared.unescaped.StringSpan.{StringSpan}
 use Rattle.sonic_lazy.specs.Wholes.{IsPart}
 use Rattle.sonic_lazy.proofs.PathLemmas.Lead.{count_below}
 use Rattle.sonic_lazy.proofs.WholeLemmas.{utf8_of_span}
-use Rattle.sonic_parser.specs.Containers.{IsEnd, IsSeparated, IsSeparatorFault}
+use Rattle.sonic_parser.specs.Containers.{GoesOn, IsEnd, IsSeparated, IsSeparatorFault}
+use Rattle.sonic_lazy.proofs.SeparatorLemmas.{item_goes_on, member_has_key}
 use Rattle.sonic_text.proofs.Insides.{item_whole, item_before_end}
 use Rattle.sonic_text.proofs.Stops.{fault_within}
 use Rattle.sonic_text.proofs.Parts.{part_is, part_length}
@@ -199,3 +200,15 @@ pub member_key : {t : List ℕ} {kind : Kind} {h v : ℕ} (key : Option StringSp
     → IsKeyOf t key
 member_key None k (no_key e) s = absurd cc
 member_key (Some key) k h s = s
+
+-- where a member of a whole object is expected, a key with its colon is
+pub reach_key : {t : List ℕ} {kind : Kind} {n h : ℕ} → ItemsReach t kind n h → kind ≡ Object → HasWhole t (after_space t 0)
+    → (v : ℕ) × (b : List ℕ) × IsKey strict t h v b
+reach_key {t} {n = n} {h} is k x =
+    let members : ItemsFit strict t Object (after_space t 0) n h = rw k at is in
+    member_has_key x.1 members
+
+-- after the last item that was passed of a whole container a comma or the closing bracket comes
+pub after_goes_on : {t : List ℕ} {kind : Kind} {n p : ℕ} → IsAfterItems t kind n p → 0 < n → HasWhole t (after_space t 0) → GoesOn t kind p
+after_goes_on (before_all none e) some x = absurd (omega arith)
+after_goes_on (after_last item d e) some x = rw e (item_goes_on x.1 item.before item.head item.value)

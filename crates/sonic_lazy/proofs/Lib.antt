@@ -4,8 +4,12 @@ pub mod AnswerLemmas
 pub mod DocumentLemmas
 -- How the slots of many paths are filled in a text that starts with a value.
 pub mod FillLemmas
+-- What is found, as spans of the caller's.
+pub mod FindingLemmas
 -- What one path alone comes to, and where it stops.
 pub mod GetLemmas
+-- Which errors are honest.
+pub mod HonestLemmas
 -- How the items of a container are passed one after the other.
 pub mod ItemLemmas
 -- What a call of `next` gives of an iterator.
@@ -20,6 +24,8 @@ pub mod PathLemmas
 pub mod RawNumberLemmas
 -- What the first byte says of a whole value.
 pub mod ScalarLemmas
+-- What comes before and after the items of a whole container.
+pub mod SeparatorLemmas
 -- Which lazy values show an answer.
 pub mod ShownLemmas
 -- What paths come to in a text that is known to start with a value.

@@ -4,15 +4,18 @@ use Rattle.std.specs.Cow.{IsBorrowedStr, cow_str_bytes}
 use Rattle.std.specs.Str.{IsUtf8}
 use Rattle.std.specs.declared.borrow.CowStr.{CowStr}
 use Rattle.std.specs.declared.option.Option.{Option}
+use Rattle.sonic_error.specs.declared.code.ErrorCode.{ErrorCode}
 use Rattle.sonic_error.specs.declared.code.ErrorCode.TheVariants.{NoMemory}
 use Rattle.sonic_error.specs.declared.error.Error.{Error}
-use Rattle.sonic_error.specs.Errors.{IsErrorAt, IsPlainError}
+use Rattle.sonic_error.specs.Errors.{error_code, IsErrorAt, IsPlainError}
 use Rattle.sonic_text.specs.declared.kind.Kind.{Kind}
 use Rattle.sonic_text.specs.declared.kind.Kind.TheVariants.{Array, Object}
 use Rattle.sonic_text.specs.declared.stop.Stop.{Stop}
 use Rattle.sonic_text.specs.Strings.{strict, IsString, IsEscapedString}
+use Rattle.sonic_text.specs.Faults.{code_after_item}
+use Rattle.sonic_parser.specs.Honest.{IsHonest}
 use Rattle.sonic_lazy.specs.declared.lazyvalue.LazyValue.{LazyValue}
-use Rattle.sonic_lazy.specs.Items.{Item, ItemsReach, IsItemAt, closed, stopped, EndsItems}
+use Rattle.sonic_lazy.specs.Items.{Item, ItemsReach, IsItemAt, code_of_start, code_before_item, closed, stopped, EndsItems}
 use Rattle.sonic_lazy.specs.LazyValues.{raw_bytes}
 use Rattle.sonic_lazy.specs.Shown.{span_text}
 
@@ -94,3 +97,11 @@ pub record IsNext {V : Type 0} (Shows : List ℕ → ℕ → V → Type 0) (befo
   pub none : IfNone result (IsOver before now)
   -- an item that is there is given, unless memory runs out
   pub complete : HasNext before → IsSome result × IfSome result (λ r. IfErr r (λ e. IsPlainError e NoMemory))
+
+-- a code for what a container of this kind itself lacks, which an iterator gives at the end of the text too
+abbrev pub IsOwnCode : Kind → ErrorCode → Type 0
+IsOwnCode kind code = (code ≡ code_of_start kind) ⊎ (code ≡ code_after_item kind) ⊎ (n : ℕ) × (code ≡ code_before_item kind n)
+
+-- where the code is none of these, the error is honest
+abbrev pub IsHonestNext : Iterating → Error → Type 0
+IsHonestNext it e = ¬ IsOwnCode it.kind (error_code e) → IsHonest strict it.text 0 e

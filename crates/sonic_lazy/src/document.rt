@@ -3,7 +3,9 @@ ghost use Rattle.std.specs.Prelude.{◌≡◌, ◌≤◌, Bool, false, length, I
 ghost use Rattle.std.specs.Str.{IsUtf8};
 ghost use Rattle.sonic_error.specs.Errors.{IsPlainError};
 ghost use Rattle.sonic_text.specs.Documents.{IsRootFault, StartsWithUtf8Value};
+ghost use Rattle.sonic_text.specs.Strings.{strict};
 ghost use Rattle.sonic_parser.specs.Faults.{IsStopFor};
+ghost use Rattle.sonic_parser.specs.Honest.{IsHonest};
 ghost use Rattle.sonic_lazy.specs.Documents.{IsAlone, IsValidDocument, IsInvalid, IsInvalidError, IsDocumentValue};
 ghost use Rattle.sonic_lazy.specs.Internal.Located.{IsStatus};
 ghost use Rattle.sonic_lazy.specs.LazyValues.{raw_bytes};
@@ -99,6 +101,7 @@ pub fn validate<'de, I: JsonInput<'de>>(alloc: Global, json: I) -> Result<(), Er
         IsInvalidError (I.JsonInput.content json) I.JsonInput.is_bytes error) }
     ensures complete { IsValidDocument (I.JsonInput.content json)
         → IfErr result (λ error. IsPlainError error ErrorCode.NoMemory) }
+    ensures honest { IfErr result (IsHonest strict (I.JsonInput.content json) 0) }
 {
     let text = json.to_u8_slice();
     let read = Read::unscanned(json.to_json_slice());
@@ -120,6 +123,7 @@ pub fn from_str<'de>(alloc: Global, json: &'de str) -> Result<LazyValue<'de>, Er
     ensures err { IfErr result (IsInvalidError json.now false) }
     ensures complete { IsValidDocument json.now
         → IfErr result (λ error. IsPlainError error ErrorCode.NoMemory) }
+    ensures honest { IfErr result (IsHonest strict json.now 0) }
 {
     let text = json.as_bytes();
     match pass_alone(alloc, Read::unscanned(JsonSlice::Raw(text))) {

@@ -6,7 +6,7 @@ ghost use Rattle.sonic_text.specs.Strings.{strict};
 ghost use Rattle.sonic_text.specs.Faults.{IsKeyFault};
 ghost use Rattle.sonic_parser.specs.Faults.{IsStopFor};
 ghost use Rattle.sonic_lazy.specs.Internal.Items.{IsAfterItems, IsFound, IsHead, IsKeyAt};
-ghost use Rattle.sonic_lazy.specs.Internal.Steps.{HasWhole};
+ghost use Rattle.sonic_lazy.specs.Internal.Steps.{HasWhole, IsAtKey};
 ghost use Rattle.sonic_lazy.specs.Items.{ItemsReach, AreClosed, BeginsNoItem, AreStopped, code_of_start, code_before_item};
 
 use crate::located::Located;
@@ -56,7 +56,8 @@ pub(crate) fn find_item(
 
 // Goes on after the items that were given: whether another one is expected.
 fn go_on(steps: &mut Steps<'_>, kind: Kind, given: usize) -> Result<bool, Stop>
-    requires { IsAfterItems steps.old.text kind given steps.old.place }
+    requires after { IsAfterItems steps.old.text kind given steps.old.place }
+    requires whole { steps.old.checks ≡ false → HasWhole steps.old.text (after_space steps.old.text 0) }
     ensures item { IfOk result (λ more. more ≡ true → ItemsReach steps.old.text kind given steps.new.place) }
     ensures closed { IfOk result (λ more. more ≡ false → AreClosed steps.old.text kind given) }
     ensures moved { steps.new ≡ record steps.old { place = steps.new.place } }
@@ -88,6 +89,7 @@ fn enter(steps: &mut Steps<'_>, kind: Kind) -> Result<bool, Stop>
 // Goes on after the last item that was given: whether another one is expected.
 fn pass_separator(steps: &mut Steps<'_>, kind: Kind, given: usize) -> Result<bool, Stop>
     requires after { IsAfterItems steps.old.text kind given steps.old.place }
+    requires whole { steps.old.checks ≡ false → HasWhole steps.old.text (after_space steps.old.text 0) }
     requires some { 0 < given }
     ensures item { IfOk result (λ more. more ≡ true → ItemsReach steps.old.text kind given steps.new.place) }
     ensures closed { IfOk result (λ more. more ≡ false → AreClosed steps.old.text kind given) }
@@ -115,6 +117,7 @@ fn begins_none(steps: &Steps<'_>, kind: Kind, given: usize) -> bool
 
 // Passes what comes before the value of the item at the cursor.
 fn pass_head(steps: &mut Steps<'_>, kind: Kind) -> Result<Option<StringSpan>, Stop>
+    requires { kind ≡ Kind.Object → IsAtKey steps.old }
     ensures ok { IfOk result (IsHead steps.old.text kind steps.old.place steps.new.place) }
     ensures moved { steps.new ≡ record steps.old { place = steps.new.place } }
     ensures err { IfErr result (λ s. (kind ≡ Kind.Object)
@@ -128,6 +131,7 @@ fn pass_head(steps: &mut Steps<'_>, kind: Kind) -> Result<Option<StringSpan>, St
 
 // Passes the key at the cursor, and its colon.
 fn pass_key(steps: &mut Steps<'_>) -> Result<StringSpan, Stop>
+    requires { IsAtKey steps.old }
     ensures ok { IfOk result (IsKeyAt steps.old.text steps.old.place steps.new.place) }
     ensures moved { steps.new ≡ record steps.old { place = steps.new.place } }
     ensures err { IfErr result (IsKeyFault strict steps.old.text steps.old.place) }

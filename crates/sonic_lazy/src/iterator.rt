@@ -52,7 +52,7 @@ impl<'de> ObjectJsonIter<'de> {
     ghost use Rattle.sonic_text.specs.Strings.{IsEscapedString};
     ghost use Rattle.sonic_lazy.specs.Internal.Items.{IsKeyOf, IsKeyText};
     ghost use Rattle.sonic_lazy.specs.Internal.Located.{IsStatus};
-    ghost use Rattle.sonic_lazy.specs.Iterators.{IsNext, ShowsMember};
+    ghost use Rattle.sonic_lazy.specs.Iterators.{IsHonestNext, IsNext, ShowsMember};
     ghost use Rattle.sonic_lazy.specs.LazyValues.{raw_bytes};
     ghost use Rattle.sonic_lazy.specs.Wholes.{IsPart};
 
@@ -69,6 +69,7 @@ impl<'de> ObjectJsonIter<'de> {
     pub fn next(&mut self) -> Option<Result<(CowStr<'de>, LazyValue<'de>)>>
         ensures next { IsNext ShowsMember self.old self.new result }
         ensures kind { self.new.kind ≡ Kind.Object }
+        ensures honest { IfSome result (λ r. IfErr r (IsHonestNext self.old)) }
     {
         match self.items.next() {
             Some(Ok(found)) => Some(self.member(found)),
@@ -145,7 +146,8 @@ impl<'de> Model for ArrayJsonIter<'de> {
 }
 
 impl<'de> ArrayJsonIter<'de> {
-    ghost use Rattle.sonic_lazy.specs.Iterators.{IsNext, ShowsElement};
+    ghost use Rattle.std.specs.Prelude.{IfSome, IfErr};
+    ghost use Rattle.sonic_lazy.specs.Iterators.{IsHonestNext, IsNext, ShowsElement};
 
     /// The next element. `None` after the last, and for ever.
     ///
@@ -159,6 +161,7 @@ impl<'de> ArrayJsonIter<'de> {
     pub fn next(&mut self) -> Option<Result<LazyValue<'de>>>
         ensures next { IsNext ShowsElement self.old self.new result }
         ensures kind { self.new.kind ≡ Kind.Array }
+        ensures honest { IfSome result (λ r. IfErr r (IsHonestNext self.old)) }
     {
         match self.items.next() {
             Some(Ok(Found { value, .. })) => Some(Ok(self.items.value(value))),

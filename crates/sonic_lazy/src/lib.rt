@@ -21,6 +21,8 @@ mod law;
 mod lazyvalue;
 // Where a value was found, and what it needs.
 mod located;
+// Where paths lead in an input, as spans of it.
+mod finding;
 // What many paths find in an input.
 mod many;
 // What many paths find in an input that is known to begin with a value.
@@ -55,6 +57,7 @@ mod within;
 
 pub use container_trait::JsonContainerTrait;
 pub use document::{from_str, validate};
+pub use finding::{find, find_many, find_unchecked};
 pub use iterator::{
     ArrayJsonIter, ObjectJsonIter, to_array_iter, to_array_iter_unchecked, to_object_iter,
     to_object_iter_unchecked,

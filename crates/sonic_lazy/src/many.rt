@@ -1,6 +1,8 @@
 // What many paths find in an input.
 ghost use Rattle.std.specs.Prelude.{◌≡◌, option_map, IfOk, IfErr, IfSome};
 ghost use Rattle.sonic_error.specs.Errors.{IsPlainError};
+ghost use Rattle.sonic_text.specs.Strings.{strict};
+ghost use Rattle.sonic_parser.specs.Honest.{IsHonest};
 ghost use Rattle.sonic_lazy.specs.Answers.{IsAnswer, Answer};
 ghost use Rattle.sonic_lazy.specs.Causes.{IsAnswerable, IsRefusal};
 ghost use Rattle.sonic_lazy.specs.LazyValues.{raw_bytes};
@@ -20,7 +22,7 @@ use std::alloc::{AllocError, Global};
 // The values that the paths of a tree find, in their order, with `None` for one that lacks its key.
 //
 // What follows the last byte that the paths need plays no part.
-pub(crate) fn find_many<'de, I: JsonInput<'de>>(
+pub(crate) fn locate_many<'de, I: JsonInput<'de>>(
     alloc: Global,
     json: I,
     tree: &PointerTree,
@@ -33,6 +35,7 @@ pub(crate) fn find_many<'de, I: JsonInput<'de>>(
         tree.now error) }
     ensures complete { IsAnswerable (I.JsonInput.content json) I.JsonInput.is_bytes tree.now
         → IfErr result (λ error. IsPlainError error ErrorCode.NoMemory) }
+    ensures honest { IfErr result (IsHonest strict (I.JsonInput.content json) 0) }
 {
     let text = json.to_u8_slice();
     let read = Read::unscanned(json.to_json_slice());
@@ -95,8 +98,9 @@ pub fn get_many<'de, I: JsonInput<'de>>(
         tree.now error) }
     ensures complete { IsAnswerable (I.JsonInput.content json) I.JsonInput.is_bytes tree.now
         → IfErr result (λ error. IsPlainError error ErrorCode.NoMemory) }
+    ensures honest { IfErr result (IsHonest strict (I.JsonInput.content json) 0) }
 {
-    let found = find_many(alloc, json, tree)?;
+    let found = locate_many(alloc, json, tree)?;
     match values(alloc, json, &found) {
         Ok(values) => Ok(values),
         Err(_) => Err(Error::plain(ErrorCode::NoMemory)),

@@ -175,7 +175,7 @@ fn fill_child(
 }
 
 // Empties the slots.
-fn clear(slots: &mut [Option<Span>])
+pub(crate) fn clear(slots: &mut [Option<Span>])
     ensures { slots.new ≡ replicate (length slots.old) None }
 {
     slots.fill(None);

@@ -5,6 +5,7 @@ ghost use Rattle.sonic_text.specs.Strings.{strict};
 ghost use Rattle.sonic_text.specs.Values.{IsValue};
 ghost use Rattle.sonic_pointer.specs.Nodes.{path_of};
 ghost use Rattle.sonic_parser.specs.Faults.{IsStopFor};
+ghost use Rattle.sonic_parser.specs.Honest.{IsHonest};
 ghost use Rattle.sonic_lazy.specs.Answers.{IsGetAnswer, Answer};
 ghost use Rattle.sonic_lazy.specs.Internal.Located.{IsStatus};
 
@@ -34,11 +35,12 @@ pub fn get<'de, I: JsonInput<'de>>(
     json: I,
     path: &[PointerNode<'_>],
 ) -> Result<LazyValue<'de>, Error>
-    ensures { IsLookup (I.JsonInput.content json) I.JsonInput.is_bytes (path_of path.now) result }
+    ensures lookup { IsLookup (I.JsonInput.content json) I.JsonInput.is_bytes (path_of path.now) result }
+    ensures honest { IfErr result (IsHonest strict (I.JsonInput.content json) 0) }
 {
     let text = json.to_u8_slice();
     let read = Read::unscanned(json.to_json_slice());
-    match find(alloc, read, json.need_utf8_valid(), path) {
+    match locate_from(alloc, read, json.need_utf8_valid(), path) {
         Ok(found) => Ok(entry(json, found)),
         Err(fault) => Err(fault.error(text)),
     }
@@ -52,7 +54,8 @@ pub fn get_from_str<'de>(
     json: &'de str,
     path: &[PointerNode<'_>],
 ) -> Result<LazyValue<'de>, Error>
-    ensures { IsLookup json.now false (path_of path.now) result }
+    ensures lookup { IsLookup json.now false (path_of path.now) result }
+    ensures honest { IfErr result (IsHonest strict json.now 0) }
 {
     get(alloc, json, path)
 }
@@ -65,7 +68,8 @@ pub fn get_from_slice<'de>(
     json: &'de [u8],
     path: &[PointerNode<'_>],
 ) -> Result<LazyValue<'de>, Error>
-    ensures { IsLookup json.now true (path_of path.now) result }
+    ensures lookup { IsLookup json.now true (path_of path.now) result }
+    ensures honest { IfErr result (IsHonest strict json.now 0) }
 {
     get(alloc, json, path)
 }
@@ -78,7 +82,8 @@ pub fn get_from_bytes<'de>(
     json: &'de Bytes,
     path: &[PointerNode<'_>],
 ) -> Result<LazyValue<'de>, Error>
-    ensures { IsLookup json.now true (path_of path.now) result }
+    ensures lookup { IsLookup json.now true (path_of path.now) result }
+    ensures honest { IfErr result (IsHonest strict json.now 0) }
 {
     get(alloc, json, path)
 }
@@ -91,13 +96,14 @@ pub fn get_from_faststr<'de>(
     json: &'de FastStr,
     path: &[PointerNode<'_>],
 ) -> Result<LazyValue<'de>, Error>
-    ensures { IsLookup json.now false (path_of path.now) result }
+    ensures lookup { IsLookup json.now false (path_of path.now) result }
+    ensures honest { IfErr result (IsHonest strict json.now 0) }
 {
     get(alloc, json, path)
 }
 
 // The value to which a path leads, up to whose end the text is UTF-8.
-fn find(
+pub(crate) fn locate_from(
     alloc: Global,
     read: Read<'_>,
     is_bytes: bool,

@@ -8,7 +8,7 @@ ghost use Rattle.sonic_pointer.specs.Nodes.{node_of, path_of};
 ghost use Rattle.sonic_parser.specs.Faults.{IsStopFor};
 ghost use Rattle.sonic_lazy.specs.Internal.Follow.{IsDeadEnd, IsDeadNode, LacksNode, IsTried, IsRest};
 ghost use Rattle.sonic_lazy.specs.Internal.Located.{IsStatus};
-ghost use Rattle.sonic_lazy.specs.Internal.Steps.{IsSkippable};
+ghost use Rattle.sonic_lazy.specs.Internal.Steps.{IsAtKey, IsSkippable};
 ghost use Rattle.sonic_lazy.specs.Internal.Walk.{IsStopped};
 ghost use Rattle.sonic_lazy.specs.Paths.{found, lacks, kind_of, Evaluates, LeadsOn};
 
@@ -112,6 +112,7 @@ fn kind_of_node(node: &PointerNode<'_>) -> Kind
 
 // Passes what comes before the value of the item at the cursor: whether the node names it.
 fn try_item(steps: &mut Steps<'_>, node: &PointerNode<'_>, passed: usize) -> Result<bool, Stop>
+    requires { kind_of (node_of node.now) ≡ Kind.Object → IsAtKey steps.old }
     ensures item { IfOk result (IsTried steps.old.text (node_of node.now) passed steps.old.place
         steps.new.place) }
     ensures moved { OnOk result (steps.new ≡ record steps.old { place = steps.new.place }) }

@@ -7,7 +7,7 @@ ghost use Rattle.sonic_text.specs.Faults.{IsFault, IsKeyFault};
 ghost use Rattle.sonic_parser.specs.Containers.{IsEnd, IsSeparated, IsSeparatorFault};
 ghost use Rattle.sonic_parser.specs.Faults.{IsStopFor};
 ghost use Rattle.sonic_lazy.specs.Internal.Located.{IsStatus};
-ghost use Rattle.sonic_lazy.specs.Internal.Steps.{IsSkippable};
+ghost use Rattle.sonic_lazy.specs.Internal.Steps.{IsAfterItem, IsAtKey, IsSkippable};
 ghost use Rattle.sonic_lazy.specs.Internal.Walk.{IsNoEntry};
 ghost use Rattle.sonic_lazy.specs.Paths.{empty_code, wanted_of};
 
@@ -162,6 +162,7 @@ impl<'de> Steps<'de> {
 
     // Goes on after an item of a container of this kind: whether another one comes.
     pub(crate) fn next_item(&mut self, kind: Kind) -> Result<bool, Stop>
+        requires { IsAfterItem kind self.old }
         ensures item { IfOk result (λ more. more ≡ true
             → IsSeparated self.old.text self.old.place self.new.place) }
         ensures end { IfOk result (λ more. more ≡ false
@@ -170,12 +171,16 @@ impl<'de> Steps<'de> {
         ensures fits { OnOk result (self.new.place < 2 ^ 64) }
         ensures err { IfErr result (λ s. IsSeparatorFault self.old.text kind self.old.place s) }
     {
-        self.parser.next_item(kind)
+        match self.memory {
+            Some(_) => self.parser.next_item(kind),
+            None => Ok(self.parser.next_item_unchecked(kind)),
+        }
     }
 
     // Passes the key at the cursor, up to the member's value, and gives where the key ends and
     // whether it has a backslash.
     pub(crate) fn key(&mut self) -> Result<StringEnd, Stop>
+        requires { IsAtKey self.old }
         ensures ok { IfOk result (λ key. (b : List ℕ)
             × IsString strict self.old.text self.old.place key.end b
             × IsKey strict self.old.text self.old.place self.new.place b) }
@@ -184,7 +189,10 @@ impl<'de> Steps<'de> {
         ensures moved { self.new ≡ record self.old { place = self.new.place } }
         ensures err { IfErr result (λ s. IsKeyFault strict self.old.text self.old.place s) }
     {
-        self.parser.key()
+        match self.memory {
+            Some(_) => self.parser.key(),
+            None => Ok(self.parser.key_unchecked()),
+        }
     }
 }
 

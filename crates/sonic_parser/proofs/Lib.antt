@@ -2,7 +2,9 @@ mod BeginningLemmas
 mod BlockLemmas
 mod DescentLemmas
 pub mod FaultLemmas
+pub mod HonestLemmas
 mod RefusalLemmas
 mod SkippingLemmas
+mod SpaceLemmas
 mod TextLemmas
 mod UncheckedLemmas

@@ -3,12 +3,12 @@ use Rattle.std.proofs.Common.{◌≡◌, ◌≢◌, ℕ, zero, suc, ◌+◌, ◌
 use Rattle.std.proofs.lemmas.Bool.{cases_lt, cases_eq, cases_order, false≢true}
 use Rattle.std.proofs.lemmas.Bool.Decides.{nat_tests}
 use Rattle.sonic_blocks.specs.Firsts.{is_one_of}
-use Rattle.sonic_blocks.specs.Outside.{is_inside_at}
+use Rattle.sonic_blocks.specs.Outside.{is_inside_at, IsClear}
 use Rattle.sonic_text.specs.declared.kind.Kind.{Kind}
 use Rattle.sonic_text.specs.declared.kind.Kind.TheVariants.{Array, Object}
 use Rattle.sonic_text.specs.Brackets.{LeavesString}
 use Rattle.sonic_text.specs.Places.{byte}
-use Rattle.sonic_text.specs.Values.{opening, IsValue}
+use Rattle.sonic_text.specs.Values.{opening, IsKey, IsValue}
 use Rattle.sonic_text.specs.Values.IsValue.{number, string}
 use Rattle.sonic_text.specs.Literals.{IsLiteral, IsLiteralFault}
 use Rattle.sonic_text.specs.Numbers.{IsNumber}
@@ -122,3 +122,7 @@ value_number {m} {t} {i} {j} x quote object array null truth falsehood = elim (n
 -- a value that is no string, and ends here
 pub known_value : {m : Bool} {t : List ℕ} {i j e : ℕ} → IsValue m t i j → byte t i ≢ 34 → e ≡ j → IsComplete m t i (record { end = e; status = NoNeed })
 known_value x other same = rw same (plain_value other (value-longer x) (value_within x) x)
+
+-- what leaves the string that begins with a key's first quote ends with the key
+pub key_string_end : {m : Bool} {t : List ℕ} {k v e : ℕ} {b : List ℕ} (key : IsKey m t k v b) → ((s : ℕ) → IsClear t s k → LeavesString t s k e) → e ≡ key.end
+key_string_end {m} {t} {k} key leaves = leaves_once (leaves _ (clear_start t k)) (string_inside m t k _ _ key.string)

@@ -1,9 +1,11 @@
 pub mod Blocks
 pub mod Containers
 pub mod Faults
+pub mod Honest
 pub mod Parsers
 pub mod Rows
 pub mod Skipping
+pub mod Spaces
 pub mod StringsAhead
 pub mod Texts
 pub mod Unchecked

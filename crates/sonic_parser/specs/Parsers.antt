@@ -36,6 +36,10 @@ value_start parser = after_space parser.text parser.place
 abbrev pub HasValue : Parsing → ℕ → Type 0
 HasValue parser i = (j : ℕ) × IsValue parser.lossy parser.text i j
 
+-- a key with its colon is at the place
+abbrev pub HasKey : Parsing → Type 0
+HasKey parser = (v : ℕ) × (b : List ℕ) × IsKey parser.lossy parser.text parser.place v b
+
 -- the value that was expected was skipped, and this is its text
 pub record IsSkipped (before now : Parsing) (bytes : List ℕ) (needs : ParseStatus) : Type 0 where
   pub value : IsValue before.lossy before.text (value_start before) now.place

@@ -1,5 +1,6 @@
--- What is known of a string that is known to be whole: no public clause rests on it.
+-- What is known of a string and of separators that are known to be whole: no public clause rests on it.
 use Rattle.std.specs.Prelude.{◌≡◌, ℕ, ◌<◌, ◌≤◌, true, false, List, length}
+use Rattle.sonic_blocks.specs.Bits.{is_space}
 use Rattle.sonic_blocks.specs.Outside.{is_escaped_at, is_inside_at, IsClear}
 use Rattle.sonic_text.specs.Places.{byte}
 
@@ -27,3 +28,8 @@ pub record IsOpenString (t : List ℕ) (p : ℕ) : Type 0 where
   pub later : p < place
   pub within : place ≤ length t
   pub outside : is_inside_at t from place ≡ false
+
+-- a byte that separates: it is no white space, and no text has it after its end
+pub record IsMark (b : ℕ) : Type 0 where
+  pub no_space : is_space b ≡ false
+  pub some : 0 < b

@@ -1,5 +1,6 @@
 -- What the fields of a `Parser` denote.
 use Rattle.sonic_parser.specs.Parsers.{Parsing}
+use Rattle.sonic_parser.specs.Spaces.{IsKept}
 use Rattle.sonic_parser.specs.declared.parser.Parser.TheInside.{Inside}
 
 -- the parser that callers see
@@ -11,3 +12,7 @@ parsing_of parser = record {
   is_bytes = parser.read.is_bytes;
   lossy = parser.lossy;
 }
+
+-- the white space that it keeps is that of its text
+abbrev pub KeepsSpace : Inside → Type 0
+KeepsSpace parser = IsKept parser.read.text parser.kept

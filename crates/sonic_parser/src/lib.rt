@@ -10,6 +10,8 @@ mod blocks;
 mod container;
 // Why a reader goes no further.
 mod fault;
+// The law of honest errors.
+mod law;
 // The calls, over a cursor.
 mod parser;
 // The loop over items that fit.
@@ -18,6 +20,8 @@ mod quick;
 mod reference;
 // The loop over open containers.
 mod skip;
+// White space by blocks.
+mod space;
 // What a skipped value needs.
 mod status;
 #[cfg(test)]
@@ -27,6 +31,7 @@ mod unchecked;
 
 pub use blocks::container_end;
 pub use fault::Fault;
+pub use law::honest_error_shows_the_fault;
 pub use parser::Parser;
 pub use reference::Reference;
 pub use status::ParseStatus;

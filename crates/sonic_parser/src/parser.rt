@@ -8,18 +8,20 @@ ghost use Rattle.sonic_text.specs.Faults.{IsFault, IsKeyFault};
 ghost use Rattle.sonic_text.specs.Literals.{IsLiteral, IsLiteralFault};
 ghost use Rattle.sonic_text.specs.Numbers.{IsNumber, IsNumberFault};
 ghost use Rattle.sonic_text.specs.Values.{opening, IsValue, ItemsFit};
-ghost use Rattle.sonic_parser.specs.Containers.{IsEnd, IsSeparated, IsSeparatorFault};
+ghost use Rattle.sonic_parser.specs.Containers.{GoesOn, IsEnd, IsSeparated, IsSeparatorFault};
 ghost use Rattle.sonic_parser.specs.Faults.{IsStopFor};
+ghost use Rattle.sonic_parser.specs.Honest.{IsHonest};
 
 use crate::begin::{Begun, Skipped, begin};
 use crate::container::{Next, first_item, key_end, next_item};
 use crate::fault::Fault;
 use crate::skip::close;
+use crate::space::{SpaceBlock, words_from};
 use crate::status::ParseStatus;
-use crate::unchecked::whole_value;
+use crate::unchecked::{whole_key, whole_next, whole_value};
 use sonic_error::{Error, ErrorCode};
 use sonic_input::Read;
-use sonic_text::{Kind, Stop, StringEnd, literal_end, number_end, skip_space};
+use sonic_text::{Kind, Stop, StringEnd, byte_at, literal_end, number_end};
 use std::alloc::Global;
 use std::marker::Model;
 
@@ -43,6 +45,8 @@ pub struct Parser<'de> {
     // The kinds of the containers that are open while one is skipped: kept, so that each value that
     // is skipped after the first finds the memory there.
     opened: Option<Vec<Kind>>,
+    // The white space of the last whole block in which some was passed.
+    kept: Option<SpaceBlock>,
 }
 
 impl<'de> Model for Parser<'de> {
@@ -50,13 +54,15 @@ impl<'de> Model for Parser<'de> {
 
     ghost Value = { Parsing };
 
-    ghost use Rattle.sonic_parser.specs.Views.{parsing_of};
+    ghost use Rattle.sonic_parser.specs.Views.{parsing_of, KeepsSpace};
 
     ghost view = { parsing_of };
+
+    ghost invariant = { KeepsSpace };
 }
 
 impl<'de> Parser<'de> {
-    ghost use Rattle.sonic_parser.specs.Parsers.{moved, value_start, HasValue, IsSkipped, IsUnskipped, IsStopped, IsFilledContainer, IsOutOfMemory, IsEntered, IsKeyPassed, IsPassed};
+    ghost use Rattle.sonic_parser.specs.Parsers.{moved, value_start, HasKey, HasValue, IsSkipped, IsUnskipped, IsStopped, IsFilledContainer, IsOutOfMemory, IsEntered, IsKeyPassed, IsPassed};
 
     /// A strict parser, which starts at the reader's place.
     pub fn new(read: Read<'de>) -> Parser<'de>
@@ -70,6 +76,7 @@ impl<'de> Parser<'de> {
             read,
             lossy: false,
             opened: None,
+            kept: None,
         }
     }
 
@@ -81,6 +88,7 @@ impl<'de> Parser<'de> {
             read: self.read,
             lossy: true,
             opened: self.opened,
+            kept: self.kept,
         }
     }
 
@@ -121,9 +129,25 @@ impl<'de> Parser<'de> {
         ensures moved { self.new ≡ moved self.old (value_start self.old) }
         ensures none { IfNone result (self.new.place ≡ length self.old.text) }
     {
-        let place = skip_space(self.read.as_u8_slice(), self.read.index());
+        let place = self.value_place();
         self.read.set_index(place);
         self.read.peek()
+    }
+
+    // The place where the next value is expected, or the end.
+    #[inline]
+    fn value_place(&mut self) -> usize
+        ensures place { result ≡ value_start self.old }
+        ensures within { result ≤ length self.old.text }
+        ensures kept { self.new ≡ self.old }
+    {
+        let text = self.read.as_u8_slice();
+        let place = self.read.index();
+        // Mostly it is at hand.
+        if byte_at(text, place) > b' ' {
+            return place;
+        }
+        words_from(text, place, &mut self.kept)
     }
 
     /// The error for what was found at the byte before the cursor, or, where the text came as bytes
@@ -289,6 +313,44 @@ impl<'de> Parser<'de> {
         Ok(key.string)
     }
 
+    /// Goes on after an item as `next_item` does, where a comma or the closing bracket is known to
+    /// come.
+    ///
+    /// After the `1` of `[1 , 2]` the cursor moves to the `2`.
+    #[inline]
+    pub fn next_item_unchecked(&mut self, kind: Kind) -> bool
+        requires { GoesOn self.old.text kind self.old.place }
+        ensures item { result ≡ true → IsSeparated self.old.text self.old.place self.new.place }
+        ensures end { result ≡ false → IsEnd self.old.text kind self.old.place self.new.place }
+        ensures cursor { self.new ≡ moved self.old self.new.place }
+        ensures fits { self.new.place < 2 ^ 64 }
+    {
+        match whole_next(self.read.as_u8_slice(), self.read.index(), kind) {
+            Next::Item(next) => {
+                self.read.set_index(next);
+                true
+            }
+            Next::End(end) => {
+                self.read.set_index(end);
+                false
+            }
+        }
+    }
+
+    /// Passes the key that begins at the cursor as `key` does, where a key with a colon is known to be.
+    ///
+    /// Of `"a" : 1` the key ends at 3, and the cursor moves to the `1`.
+    #[inline]
+    pub fn key_unchecked(&mut self) -> StringEnd
+        requires { HasKey self.old }
+        ensures ok { IsKeyPassed self.old self.new result }
+        ensures cursor { self.new ≡ moved self.old self.new.place }
+    {
+        let key = whole_key(self.read.as_u8_slice(), self.read.index(), self.lossy);
+        self.read.set_index(key.value);
+        key.string
+    }
+
     /// Skips the value that begins at the cursor, however deep it is.
     ///
     /// The cursor moves past the value's last byte. After an error it is where it was. Only a
@@ -377,6 +439,7 @@ impl<'de> Parser<'de> {
         ensures memory { IfErr result (λ error.
             error_code error ≡ ErrorCode.NoMemory
             → IsOutOfMemory (value_start self.old) self.old self.new error) }
+        ensures honest { IfErr result (IsHonest self.old.lossy self.old.text self.old.place) }
     {
         let place = self.read.index();
         self.skip_space_peek();

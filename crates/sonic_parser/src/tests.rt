@@ -5,5 +5,6 @@ mod depth;
 mod faults;
 mod mismatches;
 mod reference;
+mod space;
 mod strings;
 mod unchecked;

@@ -1,23 +1,26 @@
-// Where a value ends that is known to be whole, without memory.
+// Where a value ends that is known to be whole, and what comes after it in its container, without
+// memory.
 //
 // Strings are passed up to their quotes, and of the brackets outside them only those of the value's
 // own kind are counted. What else is between the brackets is not looked at.
-ghost use Rattle.std.specs.Prelude.{◌≡◌, ◌↔◌, ℕ, ◌+◌, ◌<◌, ◌≤◌, Bool, true, false, length, IsTrue};
+ghost use Rattle.std.specs.Prelude.{◌≡◌, ◌↔◌, ◌⊎◌, ℕ, ◌+◌, ◌<◌, ◌≤◌, Bool, List, true, false, length, IsTrue};
 ghost use Rattle.sonic_blocks.specs.Firsts.{is_one_of};
 ghost use Rattle.sonic_blocks.specs.Outside.{IsClear};
 ghost use Rattle.sonic_text.specs.Brackets.{LeavesString};
 ghost use Rattle.sonic_text.specs.Numbers.{IsNumber};
-ghost use Rattle.sonic_text.specs.Places.{byte};
-ghost use Rattle.sonic_text.specs.Strings.{IsEscapedString};
-ghost use Rattle.sonic_text.specs.Values.{opening, IsValue};
+ghost use Rattle.sonic_text.specs.Places.{byte, after_space};
+ghost use Rattle.sonic_text.specs.Strings.{IsString, IsEscapedString};
+ghost use Rattle.sonic_text.specs.Values.{opening, IsKey, IsValue};
+ghost use Rattle.sonic_parser.specs.Containers.{GoesOn, IsNext};
 ghost use Rattle.sonic_parser.specs.Skipping.{IsComplete};
-ghost use Rattle.sonic_parser.specs.Unchecked.{IsWholeString};
+ghost use Rattle.sonic_parser.specs.Unchecked.{IsMark, IsWholeString};
 
 use crate::begin::Skipped;
 use crate::blocks::{open_string, whole_container};
+use crate::container::{KeyEnd, Next};
 use crate::status::ParseStatus;
 use sonic_blocks::first_of;
-use sonic_text::{StringEnd, skip_number};
+use sonic_text::{Kind, StringEnd, skip_number, skip_space};
 
 // The end of the string whose first quote is at a place: after the next quote that no backslash
 // escapes.
@@ -36,6 +39,55 @@ fn whole_string(text: &[u8], start: usize) -> StringEnd
     }
     let (end, escaped) = (open_string(text, mark), true);
     StringEnd { end, escaped }
+}
+
+// The first place from a place on that holds no white space, which is known to hold one of two bytes.
+#[inline(always)]
+fn mark_after_space(text: &[u8], place: usize, a: u8, b: u8) -> usize
+    requires marks { IsMark a × IsMark b }
+    requires known { (byte text.now (after_space text.now place) ≡ a)
+        ⊎ (byte text.now (after_space text.now place) ≡ b) }
+    ensures place { result ≡ after_space text.now place }
+    ensures within { result < length text.now }
+{
+    // Mostly it is the byte at hand.
+    let first = text[place];
+    if first == a || first == b {
+        return place;
+    }
+    let Some(mark) = first_of(text, place, a, b, b) else {
+        unreachable!();
+    };
+    mark
+}
+
+// How a container that is known to be whole goes on after the item whose value ended at a place.
+#[inline(always)]
+pub(crate) fn whole_next(text: &[u8], end: usize, kind: Kind) -> Next
+    requires { GoesOn text.now kind end }
+    ensures { IsNext text.now kind end result }
+{
+    let mark = mark_after_space(text, end, b',', kind.closing());
+    if text[mark] == b',' {
+        Next::Item(skip_space(text, mark + 1))
+    } else {
+        Next::End(mark + 1)
+    }
+}
+
+// The key of the member at a place, which is known to have one, and where its value begins.
+#[inline(always)]
+pub(crate) fn whole_key(text: &[u8], place: usize, lossy: bool) -> KeyEnd
+    requires { (v : ℕ) × (b : List ℕ) × IsKey lossy text.now place v b }
+    ensures within { (place < result.value) × (result.value ≤ length text.now) }
+    ensures ok { (b : List ℕ) × IsString lossy text.now place result.string.end b
+        × IsKey lossy text.now place result.value b }
+    ensures escaped { IsTrue result.string.escaped ↔ IsEscapedString text.now place result.string.end }
+{
+    let string = whole_string(text, place);
+    let colon = mark_after_space(text, string.end, b':', b':');
+    let value = skip_space(text, colon + 1);
+    KeyEnd { string, value }
 }
 
 // The end of the number at a place.

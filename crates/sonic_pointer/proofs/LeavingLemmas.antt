@@ -1,7 +1,7 @@
 -- A path that goes down a tree, and where it leaves it.
 use Rattle.std.proofs.Common.{◌≡◌, ℕ, ◌+◌, ◌<◌, List, ◌∷◌, ◌++◌, [], Some, length, get_or, slice_get, take, drop, sym, ap, ◌∙◌, subst, inl, inr, arith}
 use Rattle.std.proofs.lemmas.List.{take_more, take_all}
-use Rattle.std.proofs.lemmas.Option.{slice_get_within, get_or_from_slice_get}
+use Rattle.std.proofs.lemmas.Option.{get_or_from_slice_get}
 use Rattle.sonic_text.specs.Paths.{Node, index, Path}
 use Rattle.sonic_pointer.specs.Nodes.{is_key}
 use Rattle.sonic_pointer.specs.Paths.{HasNext, IsMixed}
@@ -9,18 +9,17 @@ use Rattle.sonic_pointer.specs.Tries.{spot_at, prefix_at, IsGap}
 use Rattle.sonic_pointer.specs.Shapes.{entries_of, shape_spots, shape_labels, AreKids, IsShape, HasOtherKind, IsLeaving}
 use Rattle.sonic_pointer.specs.declared.shape.Shape.{Shape}
 use Rattle.sonic_pointer.proofs.TreeLemmas.{left_parts, gap_fresh, kinds_same}
+use Rattle.sonic_pointer.proofs.ShapeLemmas.{kid_step, kid_below, kid_node}
 use Rattle.sonic_pointer.proofs.VertexLemmas.{spot_here, pure_ended, pure_left}
 
 -- one node down
-pub step_down : (shape : Shape) (at i depth : ℕ) (p : Path) (kids : List ℕ) → AreKids shape at kids → prefix_at (shape_spots shape) at ≡ take depth p → depth < length p
-    → slice_get (shape_labels shape at) i ≡ Some (get_or p depth (index 0))
-    → (i < length kids) × (get_or kids i 0 < length (entries_of shape)) × (prefix_at (shape_spots shape) (get_or kids i 0) ≡ take (depth + 1) p)
-step_down shape at i depth p kids are prefix short found =
+pub step_down : (shape : Shape) (at i child depth : ℕ) (p : Path) (kids : List ℕ) → AreKids shape at kids → slice_get kids i ≡ Some child → prefix_at (shape_spots shape) at ≡ take depth p → depth < length p
+    → slice_get (shape_labels shape at) i ≡ Some (get_or p depth (index 0)) → (child < length (entries_of shape)) × (prefix_at (shape_spots shape) child ≡ take (depth + 1) p)
+step_down shape at i child depth p kids are kid prefix short found =
     let n = get_or p depth (index 0) in
-    let l : i < length kids = omega (arith, slice_get_within (shape_labels shape at) i n found, are.count) in
-    let label = sym (are.nodes i (index 0) l) ∙ get_or_from_slice_get (shape_labels shape at) i n (index 0) found in
+    let label = sym (kid_node shape at kids i child are kid (index 0)) ∙ get_or_from_slice_get (shape_labels shape at) i n (index 0) found in
     let down = ap (λ m. prefix_at (shape_spots shape) at ++ m ∷ []) label ∙ (ap (λ f. f ++ n ∷ []) prefix ∙ sym (take_more p depth (index 0) short)) in
-    (l, are.below i l, (are.steps i l).is ∙ down)
+    (kid_below shape at kids i child are kid, (kid_step shape at kids i child are kid).is ∙ down)
 
 -- the path mixes
 pub mixed_here : (shape : Shape) (at depth : ℕ) (p : Path) (n : Node) → prefix_at (shape_spots shape) at ≡ take depth p → depth < length p → get_or p depth (index 0) ≡ n

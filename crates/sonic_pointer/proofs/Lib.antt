@@ -3,6 +3,7 @@ mod InsertLemmas
 mod LeavingLemmas
 mod NodeLemmas
 mod PathLemmas
+mod PiecesLemmas
 mod VertexLemmas
 mod ShapeLemmas
 pub mod TreeLemmas

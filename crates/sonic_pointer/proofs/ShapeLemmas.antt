@@ -73,8 +73,19 @@ module _ (shape : Shape) (at : ℕ) (tree : IsShape shape) (inside : at < length
     all = λ n other. tree.unmixed (prefix_at (shape_spots shape) at) n node other next ∙ own;
   }
 
--- the first child is one step below
-pub first_step : (shape : Shape) (at : ℕ) (kids : List ℕ) (child : ℕ) → AreKids shape at kids → Some child ≡ slice_get kids 0
-    → IsStep (shape_spots shape) (prefix_at (shape_spots shape) at) child
-first_step shape at kids child are first =
-    subst (IsStep (shape_spots shape) (prefix_at (shape_spots shape) at)) (get_or_from_slice_get kids 0 child 0 (sym first)) (are.steps 0 (slice_get_within kids 0 child (sym first)))
+-- one child
+module _ (shape : Shape) (at : ℕ) (kids : List ℕ) (k child : ℕ) (are : AreKids shape at kids) (found : slice_get kids k ≡ Some child) where
+  inside : k < length kids
+  inside = slice_get_within kids k child found
+
+  same : get_or kids k 0 ≡ child
+  same = get_or_from_slice_get kids k child 0 found
+
+  pub kid_step : IsStep (shape_spots shape) (prefix_at (shape_spots shape) at) child
+  kid_step = subst (IsStep (shape_spots shape) (prefix_at (shape_spots shape) at)) same (are.steps k inside)
+
+  pub kid_below : child < length (entries_of shape)
+  kid_below = subst (λ c. c < length (entries_of shape)) same (are.below k inside)
+
+  pub kid_node : (d : Node) → get_or (shape_labels shape at) k d ≡ label_at (shape_spots shape) child
+  kid_node d = are.nodes k d inside ∙ ap (label_at (shape_spots shape)) same

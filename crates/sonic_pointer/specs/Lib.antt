@@ -2,6 +2,7 @@ pub mod Fields
 pub mod Nodes
 pub mod Owned
 pub mod Paths
+pub mod Pieces
 pub mod Vertices
 pub mod Shapes
 pub mod Trees

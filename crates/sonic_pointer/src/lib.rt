@@ -13,6 +13,8 @@ mod macros;
 mod node;
 // Copies of paths.
 mod owned;
+// Lists of numbers that grow at any position.
+mod pieces;
 // The vertices of a tree.
 mod vertex;
 // A tree as its calls read it.

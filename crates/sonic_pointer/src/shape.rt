@@ -8,6 +8,7 @@ ghost use Rattle.sonic_pointer.specs.Tries.{entry_at, prefix_at, label_at, IsSte
 use crate::fault::PathError;
 use crate::node::PointerNode;
 use crate::owned::OwnedPath;
+use crate::pieces::Pieces;
 use crate::vertex::Vertex;
 use crate::wanted::Wanted;
 use std::cmp::Ordering;
@@ -57,7 +58,7 @@ impl<'t> Shape<'t> {
     }
 
     // The numbers of the children of the vertex with this number.
-    pub(crate) fn children(&self, at: usize) -> &'t [usize]
+    pub(crate) fn children(&self, at: usize) -> &'t Pieces
         requires shape { IsShape self.now }
         requires inside { at < length (entries_of self.now) }
         ensures { AreKids self.now at result.now }
@@ -77,7 +78,7 @@ impl<'t> Shape<'t> {
     {
         match self.children(at).first() {
             None => None,
-            Some(child) => Some(self.label(*child)),
+            Some(child) => Some(self.label(child)),
         }
     }
 
@@ -96,7 +97,7 @@ impl<'t> Shape<'t> {
         let mut high = children.len();
         while low < high {
             let middle = low + (high - low) / 2;
-            match wanted.compare(self.label(children[middle])) {
+            match wanted.compare(self.label(children.get(middle))) {
                 Ordering::Less => high = middle,
                 Ordering::Equal => return Ok(middle),
                 Ordering::Greater => low = middle + 1,
@@ -117,6 +118,31 @@ impl<'t> Shape<'t> {
         }
     }
 
+    // The path leaves the tree here, unless its next node is of another kind than those that follow.
+    fn leave(
+        &self,
+        at: usize,
+        depth: usize,
+        position: usize,
+        node: PointerNode<'_>,
+    ) -> Result<Leaving, PathError>
+        requires shape { IsShape self.now }
+        requires inside { at < length (entries_of self.now) }
+        ensures ok { IfOk result (λ leaving. (leaving ≡ record { at = at; depth = depth; position = position })
+            × ¬ HasOtherKind self.now at (node_of node.entry)) }
+        ensures err { IfErr result (λ error.
+            (error ≡ PathError.Mixed) × HasOtherKind self.now at (node_of node.entry)) }
+    {
+        if self.mixes(at, node) {
+            return Err(PathError::Mixed);
+        }
+        Ok(Leaving {
+            at,
+            depth,
+            position,
+        })
+    }
+
     // Where the path leaves the tree, unless it mixes with a path of it.
     pub(crate) fn walk(&self, path: &[PointerNode<'_>]) -> Result<Leaving, PathError>
         requires { IsShape self.now }
@@ -128,13 +154,8 @@ impl<'t> Shape<'t> {
         let mut at = 0;
         for (depth, node) in path.iter().enumerate() {
             match self.find(at, &Wanted::Node(*node)) {
-                Ok(i) => at = self.children(at)[i],
-                Err(_) if self.mixes(at, *node) => return Err(PathError::Mixed),
-                Err(position) => return Ok(Leaving {
-                    at,
-                    depth,
-                    position,
-                }),
+                Ok(i) => at = self.children(at).get(i),
+                Err(position) => return self.leave(at, depth, position, *node),
             }
         }
         Ok(Leaving {

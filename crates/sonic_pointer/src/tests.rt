@@ -1,5 +1,8 @@
 // What no clause says: that the calls answer the worked examples of their documents, and that
 // trees with many keys under one prefix are quick to make and to search.
+ghost use Rattle.std.specs.Prelude.{◌<◌, ◌≤◌};
+
+use crate::pieces::{FULL, Pieces};
 use crate::{Branch, PathError, PointerNode, PointerTree, TreeView, pointer};
 use sonic_input::FastStr;
 use sonic_text::string_end;
@@ -241,6 +244,134 @@ fn finds_each_of_many_siblings(rt: HostRuntime) -> Result<(), AllocError> {
             }
         }
         assert_eq!(rt; number_of(&all, b"\"key20000\""), None);
+    }
+    Ok(())
+}
+
+// Where numbers are put into a list, or the order in which siblings come.
+#[derive(Clone, Copy, Debug)]
+enum Order {
+    Rising,
+    Falling,
+    Halving,
+    Shuffled,
+}
+
+const ORDERS: [Order; 4] = [
+    Order::Rising,
+    Order::Falling,
+    Order::Halving,
+    Order::Shuffled,
+];
+
+// The position of one more number, where there are so many.
+fn position_of(order: Order, count: usize) -> usize
+    ensures { result ≤ count }
+{
+    match order {
+        Order::Rising => count,
+        Order::Falling => 0,
+        Order::Halving => count / 2,
+        Order::Shuffled => count.wrapping_mul(7919) % count.max(1),
+    }
+}
+
+// Puts one more number into both lists.
+fn put(
+    rt: &impl Abort,
+    pieces: &mut Pieces,
+    plain: &mut Vec<usize>,
+    position: usize,
+) -> Result<(), AllocError> {
+    let number = plain.len();
+    assert!(rt; position <= number && position <= pieces.len());
+    pieces.insert(position, number)?;
+    plain.insert(position, number)?;
+    Ok(())
+}
+
+fn check_same(rt: &impl Abort, pieces: &Pieces, plain: &[usize]) {
+    assert_eq!(rt; pieces.len(), plain.len());
+    assert_eq!(rt; pieces.first(), plain.first().copied());
+    for i in 0..pieces.len() {
+        assert_eq!(rt; Some(pieces.get(i)), plain.get(i).copied(), "at {i}");
+    }
+}
+
+#[test]
+fn keeps_lists_in_pieces(rt: HostRuntime) -> Result<(), AllocError> {
+    for order in ORDERS {
+        let mut pieces = Pieces::new(rt.alloc());
+        let mut plain = Vec::new(rt.alloc());
+        check_same(&rt, &pieces, &plain);
+        for count in 0..5 * FULL {
+            put(&rt, &mut pieces, &mut plain, position_of(order, count))?;
+        }
+        check_same(&rt, &pieces, &plain);
+    }
+    Ok(())
+}
+
+// After so many numbers in rising order the first piece is full, or the second, or the last of
+// four.
+#[test]
+fn splits_full_pieces(rt: HostRuntime) -> Result<(), AllocError> {
+    for count in [FULL, FULL + FULL / 2, 5 * FULL / 2] {
+        for position in [
+            0, 1, 511, 512, 513, 1023, 1024, 1025, 1535, 1536, 2047, 2048, 2559, 2560,
+        ] {
+            let mut pieces = Pieces::new(rt.alloc());
+            let mut plain = Vec::new(rt.alloc());
+            for i in 0..count {
+                put(&rt, &mut pieces, &mut plain, i)?;
+            }
+            put(&rt, &mut pieces, &mut plain, position.min(count))?;
+            check_same(&rt, &pieces, &plain);
+        }
+    }
+    Ok(())
+}
+
+// The sibling that comes at this place of an order.
+fn sibling(order: Order, i: usize) -> usize
+    requires { i < 3000 }
+    ensures { result < 3000 }
+{
+    match order {
+        Order::Rising => i,
+        Order::Falling => 2999 - i,
+        Order::Halving => i * 1501 % 3000,
+        Order::Shuffled => i * 1237 % 3000,
+    }
+}
+
+#[test]
+fn sorts_siblings(rt: HostRuntime) -> Result<(), AllocError> {
+    for order in ORDERS {
+        let mut tree = PointerTree::new(rt.alloc());
+        for i in 0..3000usize {
+            let key = format!(in rt.alloc(); "key{}", 10000 + sibling(order, i))?;
+            add(&rt, rt.alloc(), &mut tree, &pointer!["all", &key]);
+        }
+        match child(&tree.view(), 0) {
+            Some((_, all)) => check_siblings(&rt, rt.alloc(), &all)?,
+            None => panic!(rt; "no child"),
+        }
+    }
+    Ok(())
+}
+
+// The keys are in order, and each is found.
+fn check_siblings(rt: &impl Abort, alloc: Global, all: &TreeView<'_>) -> Result<(), AllocError> {
+    assert_eq!(rt; all.count(), 3000);
+    for i in 0..3000usize {
+        let key = format!(in alloc; "key{}", 10000 + i)?;
+        let text = format!(in alloc; "\"{key}\"")?;
+        match child(all, i) {
+            Some((node, _)) => assert_eq!(rt; node, PointerNode::Key(key.as_str())),
+            None => panic!(rt; "no child {i}"),
+        }
+        assert_eq!(rt; number_of(all, text.as_str().as_bytes()), Some(i));
     }
     Ok(())
 }

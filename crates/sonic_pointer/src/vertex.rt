@@ -2,6 +2,7 @@
 ghost use Rattle.std.specs.Prelude.{◌≡◌, ◌+◌, ◌≤◌, ◌∷◌, ◌++◌, [], IfOk, OnOk, OnErr, length};
 ghost use Rattle.sonic_pointer.specs.Tries.{with_order, with_child};
 
+use crate::pieces::Pieces;
 use std::alloc::{AllocError, Global};
 use std::marker::Model;
 
@@ -11,7 +12,7 @@ pub(crate) struct Vertex {
     path: usize,
     depth: usize,
     orders: Vec<usize>,
-    children: Vec<usize>,
+    children: Pieces,
 }
 
 impl Model for Vertex {
@@ -33,7 +34,7 @@ impl Vertex {
             path,
             depth,
             orders: Vec::new(alloc),
-            children: Vec::new(alloc),
+            children: Pieces::new(alloc),
         }
     }
 
@@ -80,10 +81,10 @@ impl Vertex {
         self.orders.as_slice()
     }
 
-    pub(crate) fn children(&self) -> &[usize]
+    pub(crate) fn children(&self) -> &Pieces
         ensures { result.now ≡ self.now.children }
     {
-        self.children.as_slice()
+        &self.children
     }
 
     pub(crate) fn add_order(&mut self, number: usize) -> Result<(), AllocError>
@@ -99,7 +100,6 @@ impl Vertex {
         ensures ok { OnOk result (self.new ≡ with_child self.old vertex child) }
         ensures err { OnErr result (self.new ≡ self.old) }
     {
-        self.children.insert(vertex, child)?;
-        Ok(())
+        self.children.insert(vertex, child)
     }
 }

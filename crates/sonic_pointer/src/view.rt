@@ -94,7 +94,7 @@ impl<'t> TreeView<'t> {
         ensures paths { result.1.paths ≡ self.now.paths }
         ensures prefix { result.1.prefix ≡ self.now.prefix ++ node_of result.0 ∷ [] }
     {
-        let at = self.shape.children(self.at)[i];
+        let at = self.shape.children(self.at).get(i);
         let node = self.shape.label(at);
         let below = TreeView {
             shape: self.shape,

@@ -124,7 +124,7 @@ abbrev pub Outcome : Bool → List ℕ → ℕ → Type 0
 Outcome m t k = ((q : ℕ) × ((b : List ℕ) × IsChar m t k q b)) ⊎ ((s : Stop) × IsEscapeFault m t k s)
 
 -- a test passes everywhere, or fails at a first place
-first_false : (P : ℕ → Bool) (n : ℕ) → ((d : ℕ) → d < n → P d ≡ true) ⊎ ((j : ℕ) × (j < n) × ((d : ℕ) → d < j → P d ≡ true) × (P j ≡ false))
+pub first_false : (P : ℕ → Bool) (n : ℕ) → ((d : ℕ) → d < n → P d ≡ true) ⊎ ((j : ℕ) × (j < n) × ((d : ℕ) → d < j → P d ≡ true) × (P j ≡ false))
 first_false P zero = inl (λ d l. absurd (omega arith))
 first_false P (suc n) = elim (first_false P n) [
   | inr (j, l, h, e) ↦ inr (j, omega arith, h, e)

@@ -1,6 +1,7 @@
 pub mod Ascii
 pub mod BracketLemmas
 mod CodepointLemmas
+pub mod Completions
 pub mod Decimals
 mod EscapeFaultLemmas
 mod EscapeLemmas
@@ -19,6 +20,10 @@ pub mod PartItems
 pub mod Parts
 pub mod Places
 pub mod PlainStrings
+pub mod Same
+pub mod SameFaults
+mod SameStrings
+mod SameValues
 pub mod Stops
 pub mod QuotedLemmas
 mod QuotedTextLemmas
@@ -30,6 +35,7 @@ pub mod StringTexts
 pub mod Strings
 mod TableLemmas
 pub mod TreeLemmas
+pub mod ValueCompletions
 pub mod ValueParts
 pub mod Values
 pub mod Within

@@ -21,7 +21,7 @@ pub byte_within : (t : List ℕ) (p : ℕ) → byte t p ≢ 0 → p < length t
 byte_within t p h = elim (cases_lt p (length t)) [ inl l ↦ l | inr l ↦ absurd (h (byte_after t p l)) ]
 
 -- the number of a digit is that of an ASCII digit
-digit_passes : (b : ℕ) → IsDigit b → is_ascii_digit b ≡ true
+pub digit_passes : (b : ℕ) → IsDigit b → is_ascii_digit b ≡ true
 digit_passes b h = grind (arith, nat_tests)
 
 -- digits end after a digit

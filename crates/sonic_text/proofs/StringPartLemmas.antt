@@ -15,7 +15,7 @@ abbrev Agree : List ℕ → ℕ → List ℕ → ℕ → ℕ → Type 0
 Agree t p u q n = (x y k : ℕ) → k < n → x ≡ p + k → y ≡ q + k → byte u y ≡ byte t x
 
 -- where six bytes are the same, so is the escape
-escape_same : (t : List ℕ) (p : ℕ) (u : List ℕ) (q n : ℕ) → Agree t p u q 6 → IsEscape t p n → IsEscape u q n
+pub escape_same : (t : List ℕ) (p : ℕ) (u : List ℕ) (q n : ℕ) → Agree t p u q 6 → IsEscape t p n → IsEscape u q n
 escape_same t p u q n same h =
     let g = h.2 in (
       same p q 0 (omega arith) (omega arith) (omega arith) ∙ h.0,

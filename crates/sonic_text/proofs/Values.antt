@@ -237,7 +237,7 @@ pub items_one : {m : Bool} {t : List ℕ} {kind : Kind} {i n h g : ℕ} → Item
 items_one {m} {t} is fs = items_same (λ v l. outcome_one m t v) refl is fs
 
 -- white space begins no value
-space_begins_none : (b : ℕ) → is_space b ≡ true → BeginsNone b
+pub space_begins_none : (b : ℕ) → is_space b ≡ true → BeginsNone b
 space_begins_none b e = grind (arith, nat_tests)
 
 -- so where a value begins there is none, as the test says

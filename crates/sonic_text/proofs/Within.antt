@@ -1,5 +1,5 @@
 -- What a text holds ends within it.
-use Rattle.std.proofs.Common.{◌≡◌, ◌≢◌, inl, inr, ℕ, ◌+◌, ◌≤◌, List, Bool, length, drop, arith}
+use Rattle.std.proofs.Common.{◌≡◌, ◌≢◌, inl, inr, ℕ, ◌+◌, ◌<◌, ◌≤◌, List, Bool, length, drop, arith}
 use Rattle.std.proofs.lemmas.List.{length-drop}
 use Rattle.std.proofs.lemmas.List.Sums.{prefix_len-le-length}
 use Rattle.std.specs.Prelude.{Option}
@@ -7,9 +7,15 @@ use Rattle.std.specs.Char.{is_ascii_digit}
 use Rattle.sonic_text.specs.declared.kind.Kind.{Kind}
 use Rattle.sonic_text.specs.Places.{byte, is_space, after_space, digits_end}
 use Rattle.sonic_text.specs.Numbers.{after_minus, after_sign, IsInt, IsNumber}
+use Rattle.sonic_text.specs.Strings.{IsEscape, IsUnicodeChar, IsChar, AreChars}
+use Rattle.sonic_text.specs.Strings.IsUnicodeChar.{scalar, pair, lone_high, lone_low}
+use Rattle.sonic_text.specs.Strings.IsChar.{unescaped, short_escape, unicode_escape}
+use Rattle.sonic_text.specs.Strings.AreChars.{no_char, one_more}
 use Rattle.sonic_text.specs.Values.{IsValue, IsKey, ItemHead, no_head, key_head, ItemsFit, first_item, next_item}
 use Rattle.sonic_text.specs.Values.IsValue.{null_literal, true_literal, false_literal, number, string, empty, filled}
 use Rattle.sonic_text.specs.Numbers.{IsE}
+use Rattle.sonic_text.proofs.EscapeFaultLemmas.{escaped_letter}
+use Rattle.sonic_text.proofs.HexDigitLemmas.{hex4_within}
 use Rattle.sonic_text.proofs.Numbers.{Tail}
 use Rattle.sonic_text.proofs.Items.{opening_not_end, closing_not_end}
 use Rattle.sonic_text.proofs.Places.{byte_within}
@@ -42,6 +48,24 @@ number_within t i j h =
     let w = int_within t (after_minus t i) h.int_end h.int in
     let f = tail_within t (byte t h.int_end ≡ 46) (h.int_end + 1) h.int_end h.fraction_end h.fraction w in
     tail_within t (IsE (byte t h.fraction_end)) (after_sign t (h.fraction_end + 1)) h.fraction_end j h.exponent f
+
+-- a char that an escape begins
+unicode_within : {m : Bool} {t : List ℕ} {p n q : ℕ} {b : List ℕ} → IsEscape t p n → IsUnicodeChar m t p n q b → q ≤ length t
+unicode_within x (scalar h l e o) = omega (arith, hex4_within x.2)
+unicode_within x (pair h y l e o) = omega (arith, hex4_within y.2)
+unicode_within x (lone_high r h l e o) = omega (arith, hex4_within x.2)
+unicode_within x (lone_low r h e o) = omega (arith, hex4_within x.2)
+
+-- a char
+pub char_within : {m : Bool} {t : List ℕ} {p q : ℕ} {b : List ℕ} → IsChar m t p q b → q ≤ length t
+char_within {t = t} {p} (unescaped h e o) = let l : p < length t = byte_within t p (λ z. omega arith) in omega arith
+char_within {t = t} {p} (short_escape h f e o) = let l = byte_within t (p + 1) (escaped_letter _ _ f).0 in omega arith
+char_within (unicode_escape x y) = unicode_within x y
+
+-- chars
+pub chars_within : {m : Bool} {t : List ℕ} {i k : ℕ} {b : List ℕ} → i ≤ length t → AreChars m t i k b → k ≤ length t
+chars_within l (no_char e o) = omega arith
+chars_within l (one_more us c o) = char_within c
 
 -- what ends after a byte that isn't 0 ends within the text
 byte_ends : (t : List ℕ) (q j : ℕ) → byte t q ≢ 0 → j ≡ q + 1 → j ≤ length t

@@ -1,6 +1,9 @@
-ghost use Rattle.std.specs.Prelude.{◌≡◌, ◌↔◌, ℕ, ◌≤◌, Bool, List, length};
+ghost use Rattle.std.specs.Prelude.{◌≡◌, ◌≢◌, ◌↔◌, ℕ, ◌≤◌, Bool, List, length};
+ghost use Rattle.sonic_error.specs.declared.code.ErrorCode.TheVariants.{EofWhileParsing};
+ghost use Rattle.sonic_text.specs.declared.stop.Stop.{Stop};
+ghost use Rattle.sonic_text.specs.Places.{after_space};
 ghost use Rattle.sonic_text.specs.Faults.{IsFault};
-ghost use Rattle.sonic_text.specs.Laws.{HasOneOutcome};
+ghost use Rattle.sonic_text.specs.Laws.{HasOneOutcome, IsFinal, MayGoOn};
 ghost use Rattle.sonic_text.specs.Literals.{IsLiteral, IsLiteralFault};
 ghost use Rattle.sonic_text.specs.Numbers.{IsNumber, IsNumberFault};
 ghost use Rattle.sonic_text.specs.Strings.{strict};
@@ -43,4 +46,17 @@ pub fn value_means_one_tree()
     ensures means { (t : List ℕ) (i j : ℕ) → IsValue strict t i j ↔ ((x : Tree) × Means t i j x) }
     ensures one_tree { (t : List ℕ) (i j k : ℕ) (x y : Tree) → Means t i j x → Means t i k y
         → x ≡ y }
+{}
+
+/// The law of the honest end, for both ways of reading and every text that no value begins.
+///
+/// Where the reason is the end of the input, some longer text that begins with this one is a value
+/// after white space. Where it is another one, every text with the same bytes up to its place, and
+/// with the byte there, has that very reason: no other bytes after it help. So `{"a":tru` may go
+/// on, and `{"a":trx` may not.
+pub fn end_is_honest()
+    ensures goes_on { (m : Bool) (t : List ℕ) (s : Stop) → IsFault m t (after_space t 0) s
+        → s.code ≡ EofWhileParsing → MayGoOn m t }
+    ensures is_final { (m : Bool) (t : List ℕ) (s : Stop) → IsFault m t (after_space t 0) s
+        → s.code ≢ EofWhileParsing → IsFinal m t s }
 {}

@@ -44,7 +44,8 @@ pub use hex::hex4;
 pub use key::{compare_key, same_key};
 pub use kind::Kind;
 pub use law::{
-    literal_has_one_outcome, number_has_one_outcome, value_has_one_outcome, value_means_one_tree,
+    end_is_honest, literal_has_one_outcome, number_has_one_outcome, value_has_one_outcome,
+    value_means_one_tree,
 };
 pub use literal::{literal_end, skip_literal};
 pub use number::{number_end, skip_number, whole_i64, whole_u64};

@@ -1,22 +1,18 @@
 -- What a source over memory gave, and what a sink took of several pieces.
-use Rattle.std.proofs.Common.{◌≡◌, ℕ, ◌+◌, ◌-◌, List, [], ◌++◌, length, take, drop, sym, ap, ◌∙◌, append_assoc, append-nil, arith, drop-drop, take-add, take-append-drop}
-use Rattle.std.specs.Prelude.{Some, None, Ok, Err, OnOk, OnErr}
+use Rattle.std.proofs.Common.{◌≡◌, ℕ, ◌+◌, ◌-◌, ◌≤◌, List, [], ◌++◌, length, take, drop, refl, sym, ap, ◌∙◌, append_assoc, append-nil, arith, take-add, take-append-drop}
+use Rattle.std.specs.Prelude.{Some, None, Ok, Err, OnOk, OnErr, replicate}
 use Rattle.std.specs.declared.result.Result.{Result}
 use Rattle.std.specs.declared.option.Option.{Option}
 use Rattle.std.specs.Io.KnownBytes.{append_known}
-use Rattle.std.proofs.lemmas.List.{take_rest}
-use Rattle.sonic_tool.specs.Outside.{Rose, Gave, Took, TookPrefix}
+use Rattle.std.proofs.lemmas.List.{take_rest, replicate-append-replicate}
+use Rattle.sonic_tool.specs.Outside.{Gave, Took, TookPrefix}
 
--- where the first bytes of a room were copied from the rest of the bytes, they were the next of what was left
-pub given_prefix : (bytes : List ℕ) (at count : ℕ) (room : List ℕ)
-    → take count room ≡ take count (take (length bytes - at) (drop at bytes))
-    → Gave (Some (drop at bytes)) (Some (drop (at + count) bytes)) (take count room)
-given_prefix bytes at count room copied =
-    let prefix : take count room ≡ take count (drop at bytes)
-    = copied ∙ ap (take count) (take_rest bytes at) in
-    ap Some (sym (take-append-drop count (drop at bytes))
-    ∙ ap (λ rest. take count (drop at bytes) ++ rest) (drop-drop count at bytes)
-    ∙ ap (λ piece. piece ++ drop (at + count) bytes) (sym prefix))
+-- of one byte so many times, a first part of them and the rest are all
+pub given_again : (byte times count : ℕ) (room : List ℕ) → count ≤ times → take count room ≡ replicate count byte
+    → Gave (Some (replicate times byte)) (Some (replicate (times - count) byte)) (take count room)
+given_again byte times count room within copied =
+    let all : count + (times - count) ≡ times = omega arith in
+    rw (copied, replicate-append-replicate count (times - count) byte, all) refl
 
 -- what holds at all holds of a value
 pub on_ok : {A E : Type 0} (result : Result A E) (P : Type 0) → P → OnOk result P
@@ -69,7 +65,3 @@ pub prefix_of_both : (before between after : Option (List ℕ)) (xs ys : List �
     → TookPrefix before after (xs ++ ys)
 prefix_of_both before between after xs ys first (part, rest, e, taken) =
     (xs ++ part, rest, ap (λ all. xs ++ all) e ∙ sym (append_assoc xs part rest), took_both before between after xs part first taken)
-
--- no count is the next one after itself
-pub rose_shows : (count : ℕ) → ¬ Rose count count
-rose_shows count same = omega (arith, same)

@@ -1,11 +1,15 @@
 -- What a source gives and a sink takes, and how they count their faults.
-use Rattle.std.specs.Prelude.{◌≡◌, ℕ, ◌+◌, ◌%◌, ◌^◌, List, ◌++◌}
+use Rattle.std.specs.Prelude.{◌≡◌, ℕ, ◌+◌, ◌-◌, ◌^◌, min, List, ◌++◌}
 use Rattle.std.specs.declared.option.Option.{Option}
 use Rattle.std.specs.Io.KnownBytes.{prepend_known, append_known}
 
--- a count of 64 bits rose by one, which leads from the last of them to 0, so that no count is as it was
+-- one more than a count of 64 bits, which stays at the greatest number once it is there
+abbrev pub raised : ℕ → ℕ
+raised count = min (count + 1) (2 ^ 64 - 1)
+
+-- a count rose by one, or stays at the greatest number
 abbrev pub Rose : ℕ → ℕ → Type 0
-Rose before after = after ≡ (before + 1) % 2 ^ 64
+Rose before after = after ≡ raised before
 
 -- these bytes were the next of what was left, and whether that is known stays so
 abbrev pub Gave : Option (List ℕ) → Option (List ℕ) → List ℕ → Type 0

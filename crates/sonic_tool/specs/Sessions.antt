@@ -11,7 +11,7 @@ use Rattle.sonic_tool.specs.Commands.Get.{IsAnswerableInput}
 use Rattle.sonic_tool.specs.Outside.{Rose, Gave, Took, TookPrefix}
 use Rattle.sonic_tool.specs.Reports.{IsReport}
 
--- what the source has left and the sink has written, where that is known, and how many of their calls failed, modulo 2^64
+-- what the source has left and the sink has written, where that is known, and how many of their calls failed, up to the greatest number of 64 bits
 pub record Outside : Type 0 where
   pub left : Option (List ℕ)
   pub read_faults : ℕ
@@ -92,7 +92,7 @@ pub record IsRun (run : Session) (ending : Status) : Type 0 where
   -- after a failed read, and out of memory, nothing was written
   pub read_fault_is_silent : ending ≡ ReadFault → IsSilent run
   pub no_memory_is_silent : ending ≡ NoMemory → IsSilent run
-  -- a fault is reported where its count rose, and otherwise the count stays
+  -- a fault is reported where its count rose, or stands at the greatest number, and otherwise the count stays
   pub read_cause : ending ≡ ReadFault → Rose run.before.read_faults run.after.read_faults
   pub no_read_cause : ending ≢ ReadFault → run.after.read_faults ≡ run.before.read_faults
   pub write_cause : ending ≡ WriteFault → Rose run.before.write_faults run.after.write_faults

@@ -2,9 +2,9 @@
 
 // A buffer before a sink.
 pub(crate) mod buffer;
-// A count of faults.
+// Counts of calls and of faults.
 pub mod faults;
-// The source and the sink over memory.
+// The sources and the sinks over memory.
 pub mod memory;
 // The loop that reads the whole input.
 pub mod reading;

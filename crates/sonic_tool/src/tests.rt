@@ -1,4 +1,5 @@
 // What no clause says: rows from outside, that calls succeed where nothing is wrong, and standard input and output.
+mod cuts;
 mod documents;
 mod edits;
 mod fast;
@@ -7,6 +8,7 @@ mod fills;
 mod format;
 mod generated;
 mod lists;
+mod memory;
 mod outside;
 mod paths;
 mod rows;

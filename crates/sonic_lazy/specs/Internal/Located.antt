@@ -12,6 +12,10 @@ use Rattle.sonic_lazy.specs.Wholes.{IsPart}
 abbrev pub span_at : Located → Span
 span_at x = (x.start, x.end)
 
+-- the same, as callers have it
+abbrev pub slot_at : Located → slot.Span
+slot_at x = record { start = x.start; end = x.end }
+
 -- the spans of values, where they were found
 abbrev pub spans_of : List (Option Located) → List (Option Span)
 spans_of xs = map (option_map span_at) xs

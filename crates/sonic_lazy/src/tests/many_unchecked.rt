@@ -155,3 +155,62 @@ fn answers_as_get_many_does(rt: HostRuntime) {
         compare(&rt, alloc, paths, text);
     }
 }
+
+// The tokens of an object, between which white space may be.
+const TOKENS: [&str; 24] = [
+    "{",
+    "\"a\"",
+    ":",
+    "[",
+    "1",
+    ",",
+    "{",
+    "\"\\\"}\"",
+    ":",
+    "[",
+    "]",
+    ",",
+    "\"\"",
+    ":",
+    "{",
+    "}",
+    "}",
+    "]",
+    ",",
+    "\"b\"",
+    ":",
+    "\"],\\\\\"",
+    "}",
+    "",
+];
+
+const IN_TOKENS: Paths = &[
+    &[Key("a"), Index(1), Key("\"}")],
+    &[Key("a"), Index(0)],
+    &[Key("b")],
+    &[Key("z")],
+    &[],
+];
+
+// The tokens, and so many blanks of each kind in turn before each of them and after the last.
+fn spaced(alloc: Global, blanks: usize) -> Result<String, Fail> {
+    let mut text = String::new(alloc);
+    for token in TOKENS {
+        for n in 0..blanks {
+            text.push([' ', '\t', '\n', '\r'][n % 4])?;
+        }
+        text.push_str(token)?;
+    }
+    Ok(text)
+}
+
+#[test]
+fn passes_white_space_between_all_tokens(rt: HostRuntime) -> Result<(), Fail> {
+    let alloc = rt.alloc();
+    for blanks in 0..131 {
+        let text = spaced(alloc, blanks)?;
+        assert!(&rt; starts(alloc, text.as_bytes()), "{blanks}");
+        compare(&rt, alloc, IN_TOKENS, &text);
+    }
+    Ok(())
+}

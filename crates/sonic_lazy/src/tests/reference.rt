@@ -10,7 +10,7 @@ ghost use Rattle.sonic_parser.specs.Parsers.{moved};
 ghost use Rattle.sonic_lazy.specs.Paths.{found, lacks, fails, cut, fails_at, kind_of, nowhere, IsNamed, LeadsOn, Evaluates};
 
 use crate::located::Located;
-use crate::many::find_many;
+use crate::many::locate_many;
 use crate::steps::{empty_code, wanted_of};
 use crate::tests::lookups::{Paths, tree_of};
 use sonic_error::{ErrorCode, Note};
@@ -384,7 +384,7 @@ fn check_text(
     tree: &PointerTree,
 ) -> Result<(), Fail> {
     match (
-        find_many(alloc, text, tree),
+        locate_many(alloc, text, tree),
         plain_answer(alloc, text, paths)?,
     ) {
         (Ok(found), Ok(spans)) => {

@@ -21,12 +21,8 @@ pub(crate) fn report<'i>(alloc: Global, input: &[u8]) -> Result<Reply<'i>, Alloc
     let end = find_line_end(input, 0);
     match Value::from_slice(alloc, &input[..end]) {
         Ok(schema) => report_filled(alloc, after_line(input, end), schema),
-        Err(error) => {
-            if let ErrorCode::NoMemory = error.code() {
-                return Err(AllocError);
-            }
-            Ok(Reply::one(alloc, Status::BadLines, CowStr::Borrowed("! schema 1\n")))
-        }
+        Err(error) if matches!(error.code(), ErrorCode::NoMemory) => Err(AllocError),
+        Err(_) => Ok(Reply::one(alloc, Status::BadLines, CowStr::Borrowed("! schema 1\n"))),
     }
 }
 

@@ -1,22 +1,69 @@
-//! The source and the sink over memory.
-ghost use Rattle.std.specs.Prelude.{◌≡◌, ◌↔◌, ◌+◌, ◌-◌, ◌^◌, ◌<◌, ◌≤◌, min, List, [], Some, None, length, take, drop, vec_capacity, IfOk, IfErr, IsErr, OnOk, OnErr, Contains};
+//! The sources and the sinks over memory.
+ghost use Rattle.std.specs.Prelude.{◌≡◌, ◌↔◌, ◌⊎◌, ◌++◌, ◌-◌, ◌<◌, ◌≤◌, min, Some, None, List, [], length, take, replicate, vec_capacity, IsOk, IfOk, IfErr, IsErr, OnOk, OnErr};
+ghost use Rattle.std.specs.Io.KnownBytes.{IsAtEnd};
 ghost use Rattle.sonic_error.specs.Errors.{IsPlainError};
-ghost use Rattle.sonic_tool.specs.Outside.{Rose};
+ghost use Rattle.sonic_tool.specs.Memory.{Supply, IsToFail, uncalled, worked, failed, portion, without};
+ghost use Rattle.sonic_tool.specs.Outside.{Gave};
 
-use crate::outside::faults::Faults;
+use crate::outside::faults::Calls;
 use crate::outside::sink::Sink;
 use crate::outside::source::{Failed, Source};
 use sonic_error::{Error, ErrorCode};
 use std::alloc::Global;
+use std::marker::Model;
+
+/// Bytes that are given a piece at a time.
+#[derive(Debug, Drop)]
+pub struct Stock {
+    bytes: Vec<u8>,
+    at: usize,
+    piece: usize,
+}
+
+impl Model for Stock {
+    ghost use Rattle.std.specs.Prelude.{◌≤◌, drop, length};
+    ghost use Rattle.sonic_tool.specs.Memory.{Supply};
+
+    ghost Value = { Supply };
+
+    ghost view = { λ stock. record { left = drop stock.at stock.bytes.items; piece = stock.piece } };
+
+    ghost invariant = { λ stock. (stock.at ≤ length stock.bytes.items) × (1 ≤ stock.piece) };
+}
+
+impl Stock {
+    /// All of `bytes`, of which a call gives at most `piece`.
+    fn new(bytes: Vec<u8>, piece: usize) -> Stock
+        requires { 1 ≤ piece }
+        ensures left { result.left ≡ bytes.items }
+        ensures piece { result.piece ≡ piece }
+    {
+        Stock {
+            bytes,
+            at: 0,
+            piece,
+        }
+    }
+
+    /// Copies the next bytes to the start of `room`, and answers how many they are.
+    fn give(&mut self, room: &mut [u8]) -> usize
+        ensures count { result ≡ portion self.old (length room.old) }
+        ensures given { take result room.new ≡ take result self.old.left }
+        ensures left { self.new ≡ without self.old result }
+        ensures end { result ≡ 0 → 0 < length room.old → self.old.left ≡ [] }
+    {
+        let from = &self.bytes[self.at..];
+        let count = room.len().min(self.piece.min(from.len()));
+        room[..count].copy_from_slice(&from[..count]);
+        self.at += count;
+        count
+    }
+}
 
 /// A source over bytes in memory. It never fails.
 #[derive(Debug, Drop)]
 pub struct SureSource {
-    bytes: Vec<u8>,
-    at: usize,
-    piece: usize,
-    ghost within: { at ≤ length bytes.items },
-    ghost moves: { 1 ≤ piece },
+    stock: Stock,
 }
 
 impl SureSource {
@@ -26,41 +73,117 @@ impl SureSource {
     pub fn new(bytes: Vec<u8>, piece: usize) -> SureSource
         requires { 1 ≤ piece }
         ensures all { ⟦<SureSource as Source>⟧.left result ≡ Some bytes.items }
+        ensures piece { result.stock.piece ≡ piece }
         ensures calm { ⟦<SureSource as Source>⟧.faults result ≡ 0 }
     {
-        SureSource {
-            bytes,
-            at: 0,
-            piece,
-        }
+        let stock = Stock::new(bytes, piece);
+        SureSource { stock }
     }
 }
 
 impl Source for SureSource {
-    ghost left = { λ source. Some (drop source.at source.bytes.items) };
+    ghost left = { λ source. Some source.stock.left };
 
     ghost faults = { λ _. 0 };
 
-    #[tactic(auto, using(crate::proofs::OutsideLemmas::given_prefix))]
-    fn read(&mut self, room: &mut [u8]) -> Result<usize, Failed> {
-        let count = copy_prefix(&self.bytes[self.at..], room, self.piece);
-        self.at += count;
-        Ok(count)
+    fn read(&mut self, room: &mut [u8]) -> Result<usize, Failed>
+        ensures sure { IsOk result }
+        ensures count { IfOk result (λ count. count ≡ portion self.old.stock (length room.old)) }
+        ensures given { IfOk result (λ count. take count room.new ≡ take count self.old.stock.left) }
+        ensures left { IfOk result (λ count. self.new.stock ≡ without self.old.stock count) }
+        ensures end { IfOk result (λ count.
+            count ≡ 0 → 0 < length room.new → IsAtEnd (Some self.new.stock.left)) }
+    {
+        Ok(self.stock.give(room))
     }
 }
 
-// Copies a prefix of `from`, of at most `most` bytes, to the start of `room`, and answers how many
-// bytes it copied.
-fn copy_prefix(from: &[u8], room: &mut [u8], most: usize) -> usize
-    requires { 1 ≤ most }
-    ensures copied { take result room.new ≡ take result from.now }
-    ensures in_room { result ≤ length room.new }
-    ensures in_from { result ≤ length from.now }
-    ensures end { result ≡ 0 → 0 < length room.new → from.now ≡ [] }
-{
-    let count = from.len().min(room.len()).min(most);
-    room[..count].copy_from_slice(&from[..count]);
-    count
+/// A source over bytes in memory, that fails in the calls that it is made to fail in.
+#[derive(Debug, Drop)]
+pub struct MemorySource {
+    stock: Stock,
+    calls: Calls,
+}
+
+impl MemorySource {
+    /// A source of all of `bytes`, that gives at most `piece` of them in one call. The calls whose
+    /// numbers, from 1, `fails` lists are to fail.
+    ///
+    /// Of `[7]` by pieces of 2 and 2 as a failing call it gives `[7`, fails, and gives `]`.
+    pub fn new(bytes: Vec<u8>, piece: usize, fails: Vec<u64>) -> MemorySource
+        requires { 1 ≤ piece }
+        ensures all { ⟦<MemorySource as Source>⟧.left result ≡ Some bytes.items }
+        ensures piece { result.stock.piece ≡ piece }
+        ensures calm { ⟦<MemorySource as Source>⟧.faults result ≡ 0 }
+        ensures calls { result.calls ≡ uncalled fails.items }
+    {
+        let stock = Stock::new(bytes, piece);
+        let calls = Calls::new(fails);
+        MemorySource { stock, calls }
+    }
+}
+
+impl Source for MemorySource {
+    ghost left = { λ source. Some source.stock.left };
+
+    ghost faults = { λ source. source.calls.faults };
+
+    fn read(&mut self, room: &mut [u8]) -> Result<usize, Failed>
+        ensures fails { IsErr result ↔ IsToFail self.old.calls }
+        ensures count { IfOk result (λ count. count ≡ portion self.old.stock (length room.old)) }
+        ensures given { IfOk result (λ count. take count room.new ≡ take count self.old.stock.left) }
+        ensures left { IfOk result (λ count. self.new.stock ≡ without self.old.stock count) }
+        ensures end { IfOk result (λ count.
+            count ≡ 0 → 0 < length room.new → IsAtEnd (Some self.new.stock.left)) }
+        ensures kept { OnErr result (self.new.stock ≡ self.old.stock) }
+        ensures ok { OnOk result (self.new.calls ≡ worked self.old.calls) }
+        ensures err { OnErr result (self.new.calls ≡ failed self.old.calls) }
+    {
+        self.calls.next()?;
+        Ok(self.stock.give(room))
+    }
+}
+
+/// A source of one byte, so many times. It never fails, and takes no memory.
+#[derive(Debug, Drop)]
+pub struct RepeatSource {
+    byte: u8,
+    times: u64,
+}
+
+impl RepeatSource {
+    /// A source that gives `byte`, `times` times in all.
+    ///
+    /// Of 65 and 3 a room for two bytes takes two `A`, and then one.
+    pub fn new(byte: u8, times: u64) -> RepeatSource
+        ensures all { ⟦<RepeatSource as Source>⟧.left result ≡ Some (replicate times byte) }
+        ensures calm { ⟦<RepeatSource as Source>⟧.faults result ≡ 0 }
+    {
+        RepeatSource { byte, times }
+    }
+}
+
+impl Source for RepeatSource {
+    ghost left = { λ source. Some (replicate source.times source.byte) };
+
+    ghost faults = { λ _. 0 };
+
+    fn read(&mut self, room: &mut [u8]) -> Result<usize, Failed>
+        ensures sure { IsOk result }
+        ensures count { IfOk result (λ count. count ≡ min (length room.old) self.old.times) }
+        ensures given { IfOk result (λ count. take count room.new ≡ replicate count self.old.byte) }
+        ensures times { IfOk result (λ count. self.new.times ≡ self.old.times - count) }
+        ensures byte { self.new.byte ≡ self.old.byte }
+        ensures all { IfOk result (λ count. Gave (Some (replicate self.old.times self.old.byte))
+            (Some (replicate self.new.times self.new.byte)) (take count room.new)) }
+        ensures end { IfOk result (λ count.
+            count ≡ 0 → 0 < length room.new → IsAtEnd (Some (replicate self.new.times self.new.byte))) }
+    {
+        let count = room.len().min(self.times as usize);
+        room[..count].fill(self.byte);
+        self.times -= count as u64;
+        Ok(count)
+    }
 }
 
 /// A sink that takes everything and holds nothing. It never fails.
@@ -87,41 +210,6 @@ impl Sink for SureSink {
     }
 
     fn finish(&mut self) -> Result<(), Failed> {
-        Ok(())
-    }
-}
-
-// Which calls fail, by their numbers from 1 on, and how many calls there were and how many failed.
-#[derive(Debug, Drop)]
-struct Calls {
-    fails: Vec<u64>,
-    number: u64,
-    faults: Faults,
-}
-
-impl Calls {
-    fn new(fails: Vec<u64>) -> Calls
-        ensures { result.faults.count ≡ 0 }
-    {
-        Calls {
-            fails,
-            number: 0,
-            faults: Faults::new(),
-        }
-    }
-
-    // Counts a call, which fails where its number is listed.
-    fn next(&mut self) -> Result<(), Failed>
-        ensures number { self.new.number ≡ min (self.old.number + 1) (2 ^ 64 - 1) }
-        ensures listed { IsErr result ↔ Contains self.old.fails.items self.new.number }
-        ensures fails_kept { self.new.fails ≡ self.old.fails }
-        ensures calm { OnOk result (self.new.faults ≡ self.old.faults) }
-        ensures cause { OnErr result (Rose self.old.faults.count self.new.faults.count) }
-    {
-        self.number = self.number.saturating_add(1);
-        if self.fails.contains(&self.number) {
-            return Err(self.faults.fail());
-        }
         Ok(())
     }
 }
@@ -156,6 +244,10 @@ impl MemorySink {
         requires { 1 ≤ piece }
         ensures empty { IfOk result (λ sink. ⟦<MemorySink as Sink>⟧.written sink ≡ Some []) }
         ensures calm { IfOk result (λ sink. ⟦<MemorySink as Sink>⟧.faults sink ≡ 0) }
+        ensures room { IfOk result (λ sink. sink.room ≡ room) }
+        ensures piece { IfOk result (λ sink. sink.piece ≡ piece) }
+        ensures calls { IfOk result (λ sink. sink.calls ≡ uncalled fails.items) }
+        ensures reserved { IfOk result (λ sink. room ≤ vec_capacity sink.held) }
         ensures only_memory { IfErr result (λ error. IsPlainError error ErrorCode.NoMemory) }
     {
         let Ok(held) = Vec::with_capacity(alloc, room) else {
@@ -181,18 +273,37 @@ impl MemorySink {
 impl Sink for MemorySink {
     ghost written = { λ sink. Some sink.held.items };
 
-    ghost faults = { λ sink. sink.calls.faults.count };
+    ghost faults = { λ sink. sink.calls.faults };
 
-    fn write(&mut self, piece: &[u8]) -> Result<usize, Failed> {
+    fn write(&mut self, piece: &[u8]) -> Result<usize, Failed>
+        requires { 0 < length piece.now }
+        ensures fails { IsErr result ↔ IsToFail self.old.calls ⊎ (self.old.room ≡ length self.old.held.items) }
+        ensures count { IfOk result (λ count.
+            count ≡ min (length piece.now) (min self.old.piece (self.old.room - length self.old.held.items))) }
+        ensures held { IfOk result (λ count.
+            self.new.held.items ≡ self.old.held.items ++ take count piece.now) }
+        ensures kept { OnErr result (self.new.held ≡ self.old.held) }
+        ensures ok { OnOk result (self.new.calls ≡ worked self.old.calls) }
+        ensures err { OnErr result (self.new.calls ≡ failed self.old.calls) }
+        ensures room { self.new.room ≡ self.old.room }
+        ensures piece { self.new.piece ≡ self.old.piece }
+    {
         self.calls.next()?;
-        let count = piece.len().min(self.piece).min(self.room - self.held.len());
+        let count = piece.len().min(self.piece.min(self.room - self.held.len()));
         if count == 0 || self.held.extend_from_slice(&piece[..count]).is_err() {
-            return Err(self.calls.faults.fail());
+            return Err(self.calls.fail());
         }
         Ok(count)
     }
 
-    fn finish(&mut self) -> Result<(), Failed> {
+    fn finish(&mut self) -> Result<(), Failed>
+        ensures fails { IsErr result ↔ IsToFail self.old.calls }
+        ensures held { self.new.held ≡ self.old.held }
+        ensures ok { OnOk result (self.new.calls ≡ worked self.old.calls) }
+        ensures err { OnErr result (self.new.calls ≡ failed self.old.calls) }
+        ensures room { self.new.room ≡ self.old.room }
+        ensures piece { self.new.piece ≡ self.old.piece }
+    {
         self.calls.next()
     }
 }

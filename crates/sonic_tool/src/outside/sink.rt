@@ -8,12 +8,12 @@ use crate::outside::source::Failed;
 /// Where the output goes, a piece at a time.
 ///
 /// What is written is known of a sink over memory, and not of one over the system. As a source
-/// does, it counts its faults modulo 2^64.
+/// does, it counts its faults up to the greatest number of 64 bits.
 pub trait Sink {
     // The bytes that it has taken, where that is known.
     ghost written: { Self → Option (List ℕ) };
 
-    // How many of its calls failed, modulo 2^64.
+    // How many of its calls failed, up to the greatest number of 64 bits.
     ghost faults: { Self → ℕ };
 
     /// Takes a prefix of `piece`, of one byte at least, and answers how many bytes it took.

@@ -12,14 +12,15 @@ pub struct Failed;
 ///
 /// What is left is known of a source over memory, and not of one over the system. A source counts
 /// its faults, so that whoever reports a fault can show that there was one. The count is a number
-/// of 64 bits: each failed call raises it by one, after the last number comes 0, and no other call
-/// changes it. So a failed call always leaves another count than it found (`fault_shows`), and a
-/// source whose count can't change is one that never fails. Each maker says that it begins at 0.
+/// of 64 bits: each failed call raises it by one, up to the greatest number, where it stays, and no
+/// other call changes it. So a failed call leaves a greater count than it found, unless that stands
+/// at its last value (`fault_shows`), and a source whose count is the constant 0 is one that never
+/// fails. Each maker says that it begins at 0.
 pub trait Source {
     // The bytes that it still has to give, where that is known.
     ghost left: { Self → Option (List ℕ) };
 
-    // How many of its calls failed, modulo 2^64.
+    // How many of its calls failed, up to the greatest number of 64 bits.
     ghost faults: { Self → ℕ };
 
     /// Copies the next bytes to the start of `room`, and answers how many they are.

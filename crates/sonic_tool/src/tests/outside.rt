@@ -1,6 +1,6 @@
-// What no clause says: that calls succeed where nothing is wrong, which calls fail, and what passes
-// standard input and output.
-use crate::outside::memory::{MemorySink, SureSink, SureSource};
+// What no clause says: that calls succeed where nothing is wrong, and what passes standard input and
+// output.
+use crate::outside::memory::{SureSink, SureSource};
 use crate::outside::reading::{ReadError, read_all};
 use crate::outside::sink::Sink;
 use crate::outside::source::Failed;
@@ -141,34 +141,6 @@ fn writes_to_a_writer(rt: HostRuntime) -> Result<(), Fail> {
     check_output(&rt, full, Err(Failed), b"[7")?;
     let unfinished = Stumbling::new(alloc, 4, other);
     check_output(&rt, unfinished, Err(Failed), b"[7]")
-}
-
-// Delivers `[1,2]` to a sink over memory that takes two bytes a call, by the calls `[1`, `,`, `2]`
-// and the finish.
-fn check_memory(
-    rt: &impl Abort,
-    alloc: Global,
-    room: usize,
-    fails: &[u64],
-    ending: Result<(), Failed>,
-    written: &[u8],
-) -> Result<(), Fail> {
-    let mut sink = MemorySink::new(alloc, room, 2, Vec::from_slice(alloc, fails)?)?;
-    let result = deliver(&mut sink, &[b"[1,", b"", b"2]"]);
-    assert_eq!(rt; result, ending, "room {room}, {fails:?}");
-    assert_eq!(rt; sink.written(), written, "room {room}, {fails:?}");
-    Ok(())
-}
-
-#[test]
-fn fails_at_the_chosen_call(rt: HostRuntime) -> Result<(), Fail> {
-    let alloc = rt.alloc();
-    check_memory(&rt, alloc, 5, &[], Ok(()), b"[1,2]")?;
-    check_memory(&rt, alloc, 900, &[5, 0], Ok(()), b"[1,2]")?;
-    check_memory(&rt, alloc, 0, &[], Err(Failed), b"")?;
-    check_memory(&rt, alloc, 4, &[], Err(Failed), b"[1,2")?;
-    check_memory(&rt, alloc, 5, &[2], Err(Failed), b"[1")?;
-    check_memory(&rt, alloc, 5, &[9, 4], Err(Failed), b"[1,2]")
 }
 
 #[test]

@@ -1,5 +1,5 @@
 // Whole runs over memory: what comes in, what goes out, and the status.
-use crate::outside::memory::{MemorySink, SureSink, SureSource};
+use crate::outside::memory::{MemorySink, RepeatSource, SureSink, SureSource};
 use crate::outside::stdio::InputSource;
 use crate::run::run;
 use crate::status::Status;
@@ -478,21 +478,28 @@ fn takes_paths_of_at_most_255_indexes(rt: HostRuntime) -> Result<(), Fail> {
     Ok(())
 }
 
-// So many blanks.
-fn blanks(alloc: Global, count: usize) -> Result<Vec<u8>, Fail> {
-    Ok(vec![in alloc; b' '; count]?)
+// How `get` ends over so many blanks, and what it writes.
+fn check_blanks(
+    rt: &impl Abort,
+    alloc: Global,
+    times: u64,
+    ending: Status,
+    output: &str,
+) -> Result<(), Fail> {
+    let mut source = RepeatSource::new(b' ', times);
+    let mut sink = MemorySink::new(alloc, 99, 99, Vec::new(alloc))
+        .ok()
+        .ok_or("no memory")?;
+    let status = run(alloc, &owned(alloc, &["get"])?, &mut source, &mut sink);
+    assert_eq!(rt; status, ending, "{times}");
+    assert_eq!(rt; sink.written(), output.as_bytes(), "{times}");
+    Ok(())
 }
 
 #[test]
 fn refuses_more_than_256_mib(rt: HostRuntime) -> Result<(), Fail> {
-    let alloc = rt.alloc();
-    let most = blanks(alloc, 268_435_456)?;
-    assert_eq!(rt; status_of(alloc, most)?, Status::Done);
-    let large = blanks(alloc, 268_435_457)?;
-    let (status, text) = written(alloc, large, 99)?;
-    assert_eq!(rt; status, Status::TooLarge);
-    assert_eq!(rt; text.as_slice(), b"! large\n".as_slice());
-    Ok(())
+    check_blanks(&rt, rt.alloc(), 268_435_456, Status::Done, "")?;
+    check_blanks(&rt, rt.alloc(), 268_435_457, Status::TooLarge, "! large\n")
 }
 
 // What a sink holds and how the run ends, where its call number `fails` fails. The report `3 300`

@@ -1,5 +1,5 @@
 use Rattle.std.proofs.Common.{ℕ}
-use Rattle.sonic_blocks.specs.Closings.{IsScanned}
+use Rattle.sonic_blocks.proofs.ClosingLemmas.{IsScanned}
 use Rattle.sonic_blocks.proofs.closing.closing_bit.Given as goal
 
 abbrev pub invariant-loop-rest : goal.invariant-loop-rest

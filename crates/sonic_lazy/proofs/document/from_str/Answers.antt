@@ -1,4 +1,5 @@
 use Rattle.std.proofs.Common.{false, refl, ◌∙◌}
+use Rattle.sonic_lazy.proofs.HonestLemmas.{honest_of_invalid}
 use Rattle.sonic_lazy.proofs.DocumentLemmas.{alone_part, reason_either, invalid_error, valid_but_memory}
 use Rattle.sonic_lazy.proofs.document.from_str.Goals as goal
 
@@ -18,3 +19,8 @@ pub returns-in-Err-clause-complete : goal.returns-in-Err-clause-complete
 returns-in-Err-clause-complete c = λ valid.
     let e = rw (c.unscanned.ensures.text ∙ c.as_bytes-text.ensures.value) at c.in-Err.ensures.err in
     valid_but_memory valid (invalid_error c.in-Err.fault (reason_either c.args.json.now false c.in-Err.fault e) (rw c.as_bytes-text.ensures.value at c.error.ensures))
+
+pub returns-in-Err-clause-honest : goal.returns-in-Err-clause-honest
+returns-in-Err-clause-honest c =
+    let e = rw (c.unscanned.ensures.text ∙ c.as_bytes-text.ensures.value) at c.in-Err.ensures.err in
+    honest_of_invalid (invalid_error c.in-Err.fault (reason_either c.args.json.now false c.in-Err.fault e) (rw c.as_bytes-text.ensures.value at c.error.ensures))

@@ -1,6 +1,6 @@
 use Rattle.std.proofs.Common.{◌≡◌, ◌∙◌, ap, refl}
 use Rattle.std.proofs.lemmas.Result.{err_from_is_err_and}
-use Rattle.sonic_lazy.proofs.ItemLemmas.{head_whole, key_stopped, value_stopped}
+use Rattle.sonic_lazy.proofs.ItemLemmas.{head_whole, reach_key, key_stopped, value_stopped}
 use Rattle.sonic_lazy.proofs.items.find_item.Goals as goal
 use Rattle.sonic_lazy.specs.Internal.Steps.{Stepping}
 use Rattle.sonic_lazy.specs.Items.{BeginsNoItem, no_item}
@@ -39,3 +39,8 @@ returns-in_err-status-clause-err c =
     ap (λ (s : Stepping). s.text) c.in_ok-key.ensures.moved ∙ ap (λ (s : Stepping). s.text) c.in_ok-go_on.ensures.moved in
     let fault = rw text at c.in_err-status.ensures.err in
     rw (p.1, p.2) (stop_weaker c.in_err-status.field-0.0 (λ s f. value_stopped reach begins head f) fault)
+
+pub pass_head-requires : goal.pass_head-requires
+pass_head-requires c =
+    let reach = c.in_ok-go_on.ensures.item c.if-not-branch.false in
+    rw c.in_ok-go_on.ensures.moved (λ k e. reach_key reach k (c.requires.whole e))

@@ -1,7 +1,7 @@
 use Rattle.sonic_lazy.proofs.path.lead_on.Goals as goal
 use Rattle.std.proofs.Common.{arith, ap, length, ◌∙◌, ◌≡◌, sym}
 use Rattle.std.proofs.lemmas.Result.{err_from_is_err_and}
-use Rattle.sonic_lazy.proofs.GetLemmas.{key_dead, value_dead, separator_dead, next_unnamed, past_items, past_fails, past_lacks, tried_whole}
+use Rattle.sonic_lazy.proofs.GetLemmas.{key_dead, value_dead, separator_dead, next_unnamed, named_key, tried_goes_on, past_items, past_fails, past_lacks, tried_whole}
 use Rattle.sonic_lazy.proofs.PathLemmas.Lead.{count_below}
 use Rattle.sonic_lazy.proofs.WalkLemmas.Step.{separated_later}
 use Rattle.sonic_lazy.specs.Internal.Steps.{Stepping}
@@ -84,3 +84,15 @@ returns-in-Object-clause-lacks c =
     let after : c.skip.new.self.text ≡ c.args.steps.now.text = ap (λ (s : Stepping). s.text) c.in_ok-skip.ensures.moved ∙ text in
     let end = rw (after, c.kind_of_node-kind.ensures) at (c.in_ok-next_item.ensures.end c.if-not-branch.true) in
     λ _. (omega (arith, end.1), past_lacks c.in-Object.is (sym c.kind_of_node-kind.ensures) (past_items c.items.invariant.before tried value end))
+
+pub try_item-requires : goal.try_item-requires
+try_item-requires c = rw c.items.invariant.moved (λ k e. named_key c.items.invariant.before k (c.requires e))
+
+pub next_item-requires : goal.next_item-requires
+next_item-requires c =
+    let tried = rw (c.items.invariant.moved, c.if-branch.false) at c.in_ok-try_item.ensures.item in
+    let first : c.items.steps.text ≡ c.args.steps.now.text = ap (λ (s : Stepping). s.text) c.items.invariant.moved in
+    let text : c.try_item.new.steps.text ≡ c.args.steps.now.text = ap (λ (s : Stepping). s.text) c.in_ok-try_item.ensures.moved ∙ first in
+    let value = rw text at c.in_ok-skip.ensures.value in
+    let moved : c.skip.new.self ≡ record c.args.steps.now { place = c.skip.new.self.place } = rw c.items.invariant.moved at (rw c.in_ok-try_item.ensures.moved at c.in_ok-skip.ensures.moved) in
+    rw (moved, c.kind_of_node-kind.ensures) (λ e. tried_goes_on c.items.invariant.before tried value (c.requires e))

@@ -1,4 +1,5 @@
 use Rattle.std.proofs.Common.{refl}
+use Rattle.sonic_lazy.proofs.HonestLemmas.{honest_next}
 use Rattle.sonic_lazy.proofs.IteratorLemmas.{next_given, next_stuck, next_over, fault_error, element_given}
 use Rattle.sonic_lazy.proofs.iterator.ArrayJsonIter.next.Goals as goal
 use Rattle.sonic_lazy.proofs.iterator.ArrayJsonIter.next.Goals.{in-Some-Ok, in-Some-Err, in-None}
@@ -21,3 +22,6 @@ returns-clause-next c = rw (← c.self.view_is) (elim c.match-next.branch [
       }))
   | in-None w ↦ rw w.result-is (next_over w.in-None.ensures.none)
 ])
+
+pub returns-clause-honest : goal.returns-clause-honest
+returns-clause-honest c = honest_next _ (returns-clause-next c)

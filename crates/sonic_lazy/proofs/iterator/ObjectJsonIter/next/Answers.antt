@@ -1,5 +1,6 @@
 use Rattle.std.proofs.Common.{refl}
 use Rattle.sonic_lazy.proofs.ItemLemmas.{member_key}
+use Rattle.sonic_lazy.proofs.HonestLemmas.{honest_next}
 use Rattle.sonic_lazy.proofs.IteratorLemmas.{next_stuck, next_over, fault_error, member_next}
 use Rattle.sonic_lazy.proofs.iterator.ObjectJsonIter.next.Goals as goal
 
@@ -30,3 +31,9 @@ returns-in-Some-Err-clause-next c =
 
 pub returns-in-None-clause-next : goal.returns-in-None-clause-next
 returns-in-None-clause-next c = rw (← c.self.view_is) (next_over c.in-None.ensures.none)
+
+pub returns-in-Some-Ok-clause-honest : goal.returns-in-Some-Ok-clause-honest
+returns-in-Some-Ok-clause-honest c = honest_next _ (returns-in-Some-Ok-clause-next c)
+
+pub returns-in-Some-Err-clause-honest : goal.returns-in-Some-Err-clause-honest
+returns-in-Some-Err-clause-honest c = honest_next _ (returns-in-Some-Err-clause-next c)

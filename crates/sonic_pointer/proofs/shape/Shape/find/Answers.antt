@@ -4,13 +4,13 @@ use Rattle.sonic_pointer.specs.Nodes.{node_of}
 use Rattle.sonic_pointer.specs.Tries.{prefix_at}
 use Rattle.sonic_pointer.specs.Shapes.{entries_of, shape_spots, shape_labels}
 use Rattle.sonic_pointer.proofs.VertexLemmas.{spot_here}
+use Rattle.sonic_pointer.proofs.ShapeLemmas.{kid_step, kid_node}
 use Rattle.sonic_pointer.proofs.NodeLemmas.{after_middle, before_middle, node_cmp_same}
 use Rattle.sonic_pointer.proofs.shape.Shape.find.Goals as goal
 
 pub label-requires-clause-step : goal.label-requires-clause-step
 label-requires-clause-step c =
-    let i = c.loop-low.invariant in
-    (prefix_at (shape_spots c.args.self.now) c.args.at, c.children-children.ensures.steps (c.loop-low.low + (c.loop-low.high - c.loop-low.low) / 2) (omega arith))
+    (prefix_at (shape_spots c.args.self.now) c.args.at, kid_step c.args.self.now c.args.at _ _ c.get.result c.children-children.ensures c.get.ensures)
 
 pub loop-low-preserved-in-Less : goal.loop-low-preserved-in-Less
 loop-low-preserved-in-Less c =
@@ -19,13 +19,14 @@ loop-low-preserved-in-Less c =
     let middle = c.loop-low.low + (c.loop-low.high - c.loop-low.low) / 2 in
     let kids = c.children-children.ensures in
     let many = kids.count in
+    let node = kid_node shape c.args.at _ _ c.get.result kids c.get.ensures in
     let sorted = (spot_here shape.paths.now (entries_of shape) c.requires.shape c.args.at c.requires.inside).sorted in
     record {
       order = omega arith;
       end = omega arith;
       before = i.before;
       after = λ n s. before_middle (shape_labels shape c.args.at) n (node_of c.label.result) middle sorted (omega arith)
-          (λ d. kids.nodes middle d (omega arith) ∙ sym c.label.ensures) (sym (c.in-Less.ensures n s));
+          (λ d. node d ∙ sym c.label.ensures) (sym (c.in-Less.ensures n s));
     }
 
 pub returns-in-Equal-clause-found : goal.returns-in-Equal-clause-found
@@ -36,7 +37,7 @@ returns-in-Equal-clause-found c = λ n s.
     let many = kids.count in
     let same : n ≡ node_of c.label.result = node_cmp_same n (node_of c.label.result) (sym (c.in-Equal.ensures n s)) in
     slice_get-get_or (shape_labels c.args.self.now c.args.at) middle n (omega arith)
-    ∙ ap Some (kids.nodes middle n (omega arith) ∙ (sym c.label.ensures ∙ sym same))
+    ∙ ap Some (kid_node c.args.self.now c.args.at _ _ c.get.result kids c.get.ensures n ∙ (sym c.label.ensures ∙ sym same))
 
 pub loop-low-preserved : goal.loop-low-preserved
 loop-low-preserved c =
@@ -45,11 +46,12 @@ loop-low-preserved c =
     let middle = c.loop-low.low + (c.loop-low.high - c.loop-low.low) / 2 in
     let kids = c.children-children.ensures in
     let many = kids.count in
+    let node = kid_node shape c.args.at _ _ c.get.result kids c.get.ensures in
     let sorted = (spot_here shape.paths.now (entries_of shape) c.requires.shape c.args.at c.requires.inside).sorted in
     record {
       order = omega arith;
       end = i.end;
       before = λ n s. after_middle (shape_labels shape c.args.at) n (node_of c.label.result) middle sorted (omega arith)
-          (λ d. kids.nodes middle d (omega arith) ∙ sym c.label.ensures) (sym (c.in-Greater.ensures n s));
+          (λ d. node d ∙ sym c.label.ensures) (sym (c.in-Greater.ensures n s));
       after = i.after;
     }

@@ -1,5 +1,6 @@
 use Rattle.std.proofs.Common.{◌≡◌, length, refl, subst, arith}
 use Rattle.std.proofs.lemmas.List.{get_or-map, length-map}
+use Rattle.std.proofs.lemmas.Result.{IfOk-weaker, IfErr-weaker}
 use Rattle.sonic_text.specs.Paths.{index}
 use Rattle.sonic_pointer.specs.Nodes.{node_of, path_of}
 use Rattle.sonic_pointer.specs.Shapes.{entries_of, IsLeaving}
@@ -9,27 +10,28 @@ use Rattle.sonic_pointer.proofs.shape.Shape.walk.Goals as goal
 pub returns-in-Err-clause-err : goal.returns-in-Err-clause-err
 returns-in-Err-clause-err c =
     let long = length-map c.args.path.now node_of in
-    let i = c.loop-depth.invariant in (
-      refl,
+    let i = c.loop-depth.invariant in
+    IfErr-weaker c.leave.result _ _ (λ e h. (
+      h.0,
       mixed_here c.args.self.now c.loop-depth.at c.loop-depth.depth (path_of c.args.path.now) _ i.prefix (omega arith)
-          (get_or-map node_of c.args.path.now c.loop-depth.depth _ (index 0) (omega arith)) (c.mixes.ensures.0 c.if-mixes.true),
-    )
+          (get_or-map node_of c.args.path.now c.loop-depth.depth _ (index 0) (omega arith)) h.1,
+    )) c.leave.ensures.err
 
-pub returns-in-Err-2-clause-ok : goal.returns-in-Err-2-clause-ok
-returns-in-Err-2-clause-ok c =
+pub returns-in-Err-clause-ok : goal.returns-in-Err-clause-ok
+returns-in-Err-clause-ok c =
     let long = length-map c.args.path.now node_of in
     let i = c.loop-depth.invariant in
-    leaving_here c.args.self.now c.loop-depth.at c.loop-depth.depth c.in-Err.field-0 (path_of c.args.path.now) _ c.requires i.inside i.prefix (omega arith)
-    (get_or-map node_of c.args.path.now c.loop-depth.depth _ (index 0) (omega arith)) (c.in-Err.ensures.absent _ refl)
-    (λ h. let t = c.mixes.ensures.1 h in let f = c.if-mixes.false in absurd (cc))
+    IfOk-weaker c.leave.result _ _ (λ l h. rw h.0
+    (leaving_here c.args.self.now c.loop-depth.at c.loop-depth.depth c.in-Err.position (path_of c.args.path.now) _ c.requires i.inside i.prefix (omega arith)
+    (get_or-map node_of c.args.path.now c.loop-depth.depth _ (index 0) (omega arith)) (c.in-Err.ensures.absent _ refl) h.1)) c.leave.ensures.ok
 
 pub loop-depth-preserved : goal.loop-depth-preserved
 loop-depth-preserved c =
     let long = length-map c.args.path.now node_of in
     let i = c.loop-depth.invariant in
-    let s = step_down c.args.self.now c.loop-depth.at c.in-Ok.i c.loop-depth.depth (path_of c.args.path.now) c.children.result.now c.children.ensures i.prefix (omega arith)
+    let s = step_down c.args.self.now c.loop-depth.at c.in-Ok.i c.get-at.result c.loop-depth.depth (path_of c.args.path.now) c.children.result.now c.children.ensures c.get-at.ensures i.prefix (omega arith)
     (c.in-Ok.ensures.found _ (get_or-map node_of c.args.path.now c.loop-depth.depth _ (index 0) (omega arith))) in
-    record { inside = s.1; prefix = s.2 }
+    record { inside = s.0; prefix = s.1 }
 
 pub returns-clause-ok : goal.returns-clause-ok
 returns-clause-ok c =

@@ -5,32 +5,27 @@ use Rattle.sonic_pointer.specs.Nodes.{node_of}
 use Rattle.sonic_pointer.specs.Tries.{prefix_at}
 use Rattle.sonic_pointer.specs.Shapes.{shape_spots, shape_labels}
 use Rattle.sonic_pointer.specs.Views.{View}
+use Rattle.sonic_pointer.proofs.ShapeLemmas.{kid_step, kid_below, kid_node}
 use Rattle.sonic_pointer.proofs.view.TreeView.child.Goals as goal
 
 pub label-node-requires-clause-step : goal.label-node-requires-clause-step
-label-node-requires-clause-step c =
-    let same = ap (λ (v : View). length v.children) c.self.view_is in
-    (_, c.children.ensures.steps c.args.i (omega (arith, c.children.ensures.count)))
+label-node-requires-clause-step c = (_, kid_step c.self.inside.shape c.self.inside.at _ c.args.i c.get-at.result c.children.ensures c.get-at.ensures)
 
 pub invariant_of-below : goal.invariant_of-below
 invariant_of-below c =
-    let same = ap (λ (v : View). length v.children) c.self.view_is in
-    record { shape = c.self.invariant.shape; inside = c.children.ensures.below c.args.i (omega (arith, c.children.ensures.count)) }
+    record { shape = c.self.invariant.shape; inside = kid_below c.self.inside.shape c.self.inside.at _ c.args.i c.get-at.result c.children.ensures c.get-at.ensures }
 
 pub returns-clause-node : goal.returns-clause-node
 returns-clause-node c =
     let view = c.self.inside in
-    let kids = c.children.ensures in
-    let many = kids.count in
+    let many = c.children.ensures.count in
     let same = ap (λ (v : View). length v.children) c.self.view_is in
+    let node = kid_node view.shape view.at _ c.args.i c.get-at.result c.children.ensures c.get-at.ensures (index 0) in
     ap (λ (v : View). slice_get v.children c.args.i) (sym c.self.view_is)
-    ∙ (slice_get-get_or (shape_labels view.shape view.at) c.args.i (index 0) (omega arith) ∙ ap Some (kids.nodes c.args.i (index 0) (omega arith) ∙ sym c.label-node.ensures))
+    ∙ (slice_get-get_or (shape_labels view.shape view.at) c.args.i (index 0) (omega arith) ∙ ap Some (node ∙ sym c.label-node.ensures))
 
 pub returns-clause-prefix : goal.returns-clause-prefix
 returns-clause-prefix c =
     let view = c.self.inside in
-    let kids = c.children.ensures in
-    let many = kids.count in
-    let same = ap (λ (v : View). length v.children) c.self.view_is in
-    (kids.steps c.args.i (omega arith)).is
+    (kid_step view.shape view.at _ c.args.i c.get-at.result c.children.ensures c.get-at.ensures).is
     ∙ (ap (λ n. prefix_at (shape_spots view.shape) view.at ++ n ∷ []) (sym c.label-node.ensures) ∙ ap (λ (v : View). v.prefix ++ node_of c.label-node.result ∷ []) c.self.view_is)

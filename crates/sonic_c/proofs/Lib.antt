@@ -1,0 +1,3 @@
+mod CodeLemmas
+mod ManyLemmas
+mod ToldLemmas

@@ -1,0 +1,60 @@
+// The errors that a caller is told.
+ghost use Rattle.std.specs.Prelude.{◌≡◌};
+ghost use Rattle.sonic_c.specs.Codes.{numbers_of};
+ghost use Rattle.sonic_c.specs.Told.{TellsError};
+
+use crate::code::number;
+use crate::status::{DOCUMENT_ERROR, NO_MEMORY};
+use sonic_error::{Error, ErrorCode};
+
+/// What is wrong and where, in numbers.
+#[repr(C)]
+#[derive(Clone, Copy)]
+pub struct Fault {
+    /// The number of the error's code, of which `sonic_code_text` tells the text, or 0 where the paths
+    /// are wrong.
+    pub code: u32,
+    /// The line, from 1.
+    pub line: usize,
+    /// The column, from 1, in bytes.
+    pub column: usize,
+    /// The offset, from 0, in bytes.
+    pub offset: usize,
+}
+
+impl Fault {
+    // The numbers of an error.
+    pub(crate) fn of(error: &Error) -> Fault
+        ensures { result ≡ numbers_of error.now }
+    {
+        Fault {
+            code: number(error.code()),
+            line: error.line(),
+            column: error.column(),
+            offset: error.offset(),
+        }
+    }
+
+    // A line of the paths, or how many there are.
+    pub(crate) fn at_line(line: usize) -> Fault
+        ensures { result ≡ record { code = 0; line = line; column = 0; offset = 0 } }
+    {
+        Fault {
+            code: 0,
+            line,
+            column: 0,
+            offset: 0,
+        }
+    }
+}
+
+// Tells an error of the library, unless memory ran out, and gives the status.
+pub(crate) fn tell(told: &mut Fault, error: &Error) -> u32
+    ensures { TellsError error.now told.old told.new result }
+{
+    if let ErrorCode::NoMemory = error.code() {
+        return NO_MEMORY;
+    }
+    *told = Fault::of(error);
+    DOCUMENT_ERROR
+}

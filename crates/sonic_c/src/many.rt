@@ -1,0 +1,150 @@
+// What many paths find.
+ghost use Rattle.std.specs.Prelude.{◌≡◌, ℕ, List, length, IfOk, IfErr, OnOk};
+ghost use Rattle.sonic_text.specs.Documents.{StartsWithUtf8Value};
+ghost use Rattle.sonic_c.specs.Told.{IsManyCall, RefusesLines, Say, TellsAll};
+
+use crate::fault::{Fault, tell};
+use crate::span::{Span, fill};
+use crate::status::{BAD_LINES, NO_MEMORY, OK, WRONG_COUNT};
+use sonic_error::Error;
+use sonic_lazy::{find_many, find_many_unchecked};
+use sonic_paths::{Head, read_paths};
+use sonic_pointer::PointerTree;
+use std::alloc::Global;
+
+/// Where the paths lead in the text, in their order: the span of each value, or twice 0 for a path
+/// that lacks its key.
+///
+/// `paths` has a path on each line, a JSON array of keys and indexes, at most 255; no line among them
+/// is blank. There have to be as many spans as paths.
+#[unsafe(no_mangle)]
+pub extern "C" fn sonic_get_many(
+    alloc: Global,
+    json: &[u8],
+    paths: &[u8],
+    spans: &mut [Span],
+    error: &mut Fault,
+) -> u32
+    ensures { IsManyCall json.now paths.now (record { spans = spans.old; error = error.old })
+        (record { spans = spans.new; error = error.new }) result }
+{
+    let tree = match tree_of(alloc, paths, spans.len(), error) {
+        Ok(tree) => tree,
+        Err(status) => return status,
+    };
+    let Ok(mut slots) = vec![in alloc; None; tree.size()] else {
+        return NO_MEMORY;
+    };
+    follow(alloc, json, &tree, &mut slots, spans, error)
+}
+
+/// Where the paths lead in a text that is known to begin with a value in UTF-8, as one that
+/// `sonic_validate` took does: what `sonic_get_many` tells, without a second look at what it passes.
+#[unsafe(no_mangle)]
+pub extern "C" fn sonic_get_many_unchecked(
+    alloc: Global,
+    json: &[u8],
+    paths: &[u8],
+    spans: &mut [Span],
+    error: &mut Fault,
+) -> u32
+    requires { StartsWithUtf8Value json.now }
+    ensures { IsManyCall json.now paths.now (record { spans = spans.old; error = error.old })
+        (record { spans = spans.new; error = error.new }) result }
+{
+    let tree = match tree_of(alloc, paths, spans.len(), error) {
+        Ok(tree) => tree,
+        Err(status) => return status,
+    };
+    let Ok(mut slots) = vec![in alloc; None; tree.size()] else {
+        return NO_MEMORY;
+    };
+    follow_unchecked(json, &tree, &mut slots, spans, error)
+}
+
+// Follows the paths of a tree, of which as many slots and as many spans are there.
+fn follow(
+    alloc: Global,
+    json: &[u8],
+    tree: &PointerTree,
+    slots: &mut [Option<sonic_lazy::Span>],
+    spans: &mut [Span],
+    error: &mut Fault,
+) -> u32
+    requires slots { length slots.old ≡ length tree.now }
+    requires spans { length tree.now ≡ length spans.old }
+    ensures { (lines : List ℕ) → Say lines tree.now → IsManyCall json.now lines
+        (record { spans = spans.old; error = error.old })
+        (record { spans = spans.new; error = error.new }) result }
+{
+    let found = find_many(alloc, json, tree, slots);
+    tell_all(found, slots, spans, error)
+}
+
+// The same in a text that is known to begin with a value in UTF-8.
+fn follow_unchecked(
+    json: &[u8],
+    tree: &PointerTree,
+    slots: &mut [Option<sonic_lazy::Span>],
+    spans: &mut [Span],
+    error: &mut Fault,
+) -> u32
+    requires starts { StartsWithUtf8Value json.now }
+    requires slots { length slots.old ≡ length tree.now }
+    requires spans { length tree.now ≡ length spans.old }
+    ensures { (lines : List ℕ) → Say lines tree.now → IsManyCall json.now lines
+        (record { spans = spans.old; error = error.old })
+        (record { spans = spans.new; error = error.new }) result }
+{
+    let found = find_many_unchecked(json, tree, slots);
+    tell_all(found, slots, spans, error)
+}
+
+// The tree of the paths that the lines say, if there are so many.
+fn tree_of(alloc: Global, lines: &[u8], count: usize, error: &mut Fault) -> Result<PointerTree, u32>
+    ensures says { IfOk result (λ tree. Say lines.now tree) }
+    ensures count { IfOk result (λ tree. length tree ≡ count) }
+    ensures kept { OnOk result (error.new ≡ error.old) }
+    ensures refused { IfErr result (RefusesLines lines.now count error.old error.new) }
+{
+    let Ok(head) = read_paths(alloc, lines) else {
+        return Err(NO_MEMORY);
+    };
+    let (tree, end) = match head {
+        Head::Paths(tree, end) => (tree, end),
+        Head::Bad(line) => {
+            *error = Fault::at_line(line);
+            return Err(BAD_LINES);
+        }
+    };
+    let size = tree.size();
+    if end < lines.len() {
+        *error = Fault::at_line(size + 1);
+        return Err(BAD_LINES);
+    }
+    if size != count {
+        *error = Fault::at_line(size);
+        return Err(WRONG_COUNT);
+    }
+    Ok(tree)
+}
+
+// Tells what was found, or the error.
+fn tell_all(
+    found: Result<(), Error>,
+    slots: &[Option<sonic_lazy::Span>],
+    spans: &mut [Span],
+    error: &mut Fault,
+) -> u32
+    requires { length slots.now ≡ length spans.old }
+    ensures { TellsAll found slots.now (record { spans = spans.old; error = error.old })
+        (record { spans = spans.new; error = error.new }) result }
+{
+    match found {
+        Ok(()) => {
+            fill(spans, slots);
+            OK
+        }
+        Err(reason) => tell(error, &reason),
+    }
+}

@@ -1,0 +1,207 @@
+// Lists of numbers that grow at any position.
+ghost use Rattle.std.specs.Prelude.{◌≡◌, ◌+◌, ◌^◌, ◌<◌, ◌≤◌, [], ◌++◌, OnOk, OnErr, length, map, take, drop, slice_get, slice_index, vec_len};
+ghost use Rattle.std.specs.List.{All, insert};
+ghost use Rattle.sonic_pointer.specs.Pieces.{numbers_of, raised, AreStarts, IsHolder};
+
+use std::alloc::{AllocError, Global};
+use std::marker::Model;
+
+// A piece with so many numbers is split in halves before it grows.
+pub(crate) const FULL: usize = 1024;
+
+// A piece of a list, and how many numbers the pieces before it have.
+#[derive(Debug, Drop)]
+struct Piece {
+    start: usize,
+    numbers: Vec<usize>,
+}
+
+// A list of numbers, seen as that list. It is kept in short pieces, so that one more number at any
+// position moves few others: a first piece, which is all of a short list, and those after it.
+#[derive(Debug, Drop)]
+pub(crate) struct Pieces {
+    first: Vec<usize>,
+    more: Vec<Piece>,
+}
+
+impl Model for Pieces {
+    ghost use Rattle.std.specs.Prelude.{ℕ, List};
+
+    ghost Value = { List ℕ };
+
+    ghost use Rattle.sonic_pointer.specs.Pieces.{all_numbers, ArePieces};
+
+    ghost view = { all_numbers };
+
+    ghost invariant = { ArePieces };
+}
+
+impl Pieces {
+    // The empty list. It takes no memory.
+    pub(crate) fn new(alloc: Global) -> Pieces
+        ensures { result ≡ [] }
+    {
+        Pieces {
+            first: Vec::new(alloc),
+            more: Vec::new(alloc),
+        }
+    }
+
+    pub(crate) fn len(&self) -> usize
+        ensures { result ≡ length self.now }
+    {
+        match self.more.last() {
+            None => self.first.len(),
+            Some(last) => self.first.len() + (last.start + last.numbers.len()),
+        }
+    }
+
+    pub(crate) fn get(&self, i: usize) -> usize
+        requires { i < length self.now }
+        ensures { slice_get self.now i ≡ Some result }
+    {
+        if i < self.first.len() {
+            return self.first[i];
+        }
+        let after = i - self.first.len();
+        let piece = &self.more[holder(&self.more, after)];
+        piece.numbers[after - piece.start]
+    }
+
+    pub(crate) fn first(&self) -> Option<usize>
+        ensures { result ≡ slice_get self.now 0 }
+    {
+        if self.len() == 0 {
+            return None;
+        }
+        Some(self.get(0))
+    }
+
+    // Puts the number at this position; out of memory, nothing changes.
+    pub(crate) fn insert(&mut self, position: usize, number: usize) -> Result<(), AllocError>
+        requires { position ≤ length self.old }
+        ensures ok { OnOk result (self.new ≡ insert self.old position number) }
+        ensures err { OnErr result (self.new ≡ self.old) }
+    {
+        if self.len() == usize::MAX {
+            return Err(AllocError);
+        }
+        halve_first(&mut self.first, &mut self.more)?;
+        if position <= self.first.len() {
+            self.first.insert(position, number)?;
+            return Ok(());
+        }
+        put(&mut self.more, position - self.first.len(), number)
+    }
+}
+
+// The last piece that begins at or before the position.
+fn holder(pieces: &[Piece], position: usize) -> usize
+    requires starts { AreStarts 0 pieces.now }
+    requires some { 0 < length pieces.now }
+    ensures { IsHolder pieces.now position result }
+{
+    let mut low = 0;
+    let mut high = pieces.len();
+    while low + 1 < high {
+        let middle = low + (high - low) / 2;
+        if pieces[middle].start <= position {
+            low = middle;
+        } else {
+            high = middle;
+        }
+    }
+    low
+}
+
+// So many numbers more come before each piece from this one on.
+fn raise(pieces: &mut Vec<Piece>, from: usize, by: usize)
+    requires inside { from ≤ length pieces.old.items }
+    requires fits { All (λ piece. piece.start + by < 2 ^ 64) (drop from pieces.old.items) }
+    ensures { pieces.new.items
+        ≡ take from pieces.old.items ++ map (raised by) (drop from pieces.old.items) }
+{
+    for k in from..pieces.len() {
+        pieces[k].start += by;
+    }
+}
+
+// The first piece, if it is full, leaves its second half to a new one.
+fn halve_first(first: &mut Vec<usize>, more: &mut Vec<Piece>) -> Result<(), AllocError>
+    requires starts { AreStarts 0 more.old.items }
+    requires fits { length first.old.items + length (numbers_of more.old.items) < 2 ^ 64 }
+    ensures starts { AreStarts 0 more.new.items }
+    ensures same { first.new.items ++ numbers_of more.new.items
+        ≡ first.old.items ++ numbers_of more.old.items }
+{
+    if first.len() < FULL {
+        return Ok(());
+    }
+    more.reserve(1)?;
+    let numbers = first.split_off(FULL / 2)?;
+    let len = numbers.len();
+    more.insert(0, Piece { start: 0, numbers })?;
+    raise(more, 1, len);
+    Ok(())
+}
+
+// The piece with this number, if it is full, leaves its second half to a new one.
+fn halve(pieces: &mut Vec<Piece>, k: usize) -> Result<(), AllocError>
+    requires inside { k < length pieces.old.items }
+    requires starts { AreStarts 0 pieces.old.items }
+    requires fits { length (numbers_of pieces.old.items) < 2 ^ 64 }
+    ensures starts { AreStarts 0 pieces.new.items }
+    ensures same { numbers_of pieces.new.items ≡ numbers_of pieces.old.items }
+    ensures grows { length pieces.old.items ≤ length pieces.new.items }
+{
+    if pieces[k].numbers.len() < FULL {
+        return Ok(());
+    }
+    pieces.reserve(1)?;
+    let piece = &mut pieces[k];
+    let half = piece.numbers.len() / 2;
+    let start = piece.start + half;
+    let numbers = piece.numbers.split_off(half)?;
+    pieces.insert(k + 1, Piece { start, numbers })?;
+    Ok(())
+}
+
+// Puts the number at this position, into the piece that is found for it; out of memory, the
+// pieces have the same numbers.
+fn put_at(
+    pieces: &mut Vec<Piece>,
+    k: usize,
+    position: usize,
+    number: usize,
+) -> Result<(), AllocError>
+    requires starts { AreStarts 0 pieces.old.items }
+    requires here { IsHolder pieces.old.items position k }
+    requires inside { position ≤ length (numbers_of pieces.old.items) }
+    requires fits { length (numbers_of pieces.old.items) + 1 < 2 ^ 64 }
+    ensures starts { AreStarts 0 pieces.new.items }
+    ensures ok { OnOk result (numbers_of pieces.new.items
+        ≡ insert (numbers_of pieces.old.items) position number) }
+    ensures err { OnErr result (numbers_of pieces.new.items ≡ numbers_of pieces.old.items) }
+{
+    let piece = &mut pieces[k];
+    piece.numbers.insert(position - piece.start, number)?;
+    raise(pieces, k + 1, 1);
+    Ok(())
+}
+
+// Puts the number at this position; out of memory, the pieces have the same numbers.
+fn put(pieces: &mut Vec<Piece>, position: usize, number: usize) -> Result<(), AllocError>
+    requires some { 0 < length pieces.old.items }
+    requires starts { AreStarts 0 pieces.old.items }
+    requires inside { position ≤ length (numbers_of pieces.old.items) }
+    requires fits { length (numbers_of pieces.old.items) + 1 < 2 ^ 64 }
+    ensures starts { AreStarts 0 pieces.new.items }
+    ensures ok { OnOk result (numbers_of pieces.new.items
+        ≡ insert (numbers_of pieces.old.items) position number) }
+    ensures err { OnErr result (numbers_of pieces.new.items ≡ numbers_of pieces.old.items) }
+{
+    let full = holder(pieces, position);
+    halve(pieces, full)?;
+    let k = holder(pieces, position);
+    put_at(pieces, k, position, number)
+}

@@ -1,0 +1,156 @@
+/* That memory may run out at each allocation of each call: the call says so, leaves what it is given as
+   it was, and gives back all that it took. Where an allocation only serves speed, the call may do
+   without, and answers as ever. It prints a line for each call, which `run` compares with
+   `expected_refused`; `run` also links the allocator's calls to those here. */
+#include "sonic.h"
+
+#include <stdio.h>
+#include <string.h>
+
+void *__real_malloc(size_t size);
+void *__real_realloc(void *block, size_t size);
+void __real_free(void *block);
+void *__wrap_malloc(size_t size);
+void *__wrap_realloc(void *block, size_t size);
+void __wrap_free(void *block);
+
+/* How many allocations there were, which of them is refused, whether all after it are too, and how many
+   blocks are not given back. */
+static unsigned asked, refused;
+static int onwards;
+static long live;
+
+static int is_refused(void) {
+  asked++;
+  return asked == refused || (onwards && asked > refused);
+}
+
+void *__wrap_malloc(size_t size) {
+  void *block = is_refused() ? NULL : __real_malloc(size);
+  if (block != NULL) live++;
+  return block;
+}
+
+void *__wrap_realloc(void *block, size_t size) {
+  void *moved = is_refused() ? NULL : __real_realloc(block, size);
+  if (block == NULL && moved != NULL) live++;
+  return moved;
+}
+
+void __wrap_free(void *block) {
+  if (block != NULL) live--;
+  __real_free(block);
+}
+
+/* What a call may write to. */
+typedef struct cells {
+  sonic_span spans[3];
+  sonic_error error;
+  uint8_t room[64];
+} cells;
+
+static int same(const cells *a, const cells *b) {
+  return memcmp(a->spans, b->spans, sizeof a->spans) == 0 && a->error.code == b->error.code &&
+         a->error.line == b->error.line && a->error.column == b->error.column &&
+         a->error.offset == b->error.offset && memcmp(a->room, b->room, sizeof a->room) == 0;
+}
+
+/* Keys with escapes, brackets in brackets, and the same cut short. */
+static const char json[] =
+    "{\"k\\u0065y\": {\"b\\n\": [[[[[[[[1, {\"x\": \"y\\u0020z\"}]]]]]]]]}, \"list\": [1, \"two\", [3]], \"end\": null}";
+static const char path[] = "[\"key\", \"b\\n\", 0, 0, 0, 0, 0, 0, 0, 1, \"\\u0078\"]";
+static const char paths[] =
+    "[\"key\", \"b\\n\", 0, 0, 0, 0, 0, 0, 0, 1, \"\\u0078\"]\n[\"list\", 2, 0]\n[\"none\"]\n";
+
+static const uint8_t *bytes(const char *text) { return (const uint8_t *)text; }
+
+typedef size_t call(cells *told);
+
+static size_t validate(cells *told) { return sonic_validate(bytes(json), strlen(json), &told->error); }
+
+static size_t validate_cut(cells *told) { return sonic_validate(bytes(json), strlen(json) - 1, &told->error); }
+
+static size_t get(cells *told) {
+  return sonic_get(bytes(json), strlen(json), bytes(path), strlen(path), told->spans, &told->error);
+}
+
+static size_t get_cut(cells *told) {
+  return sonic_get(bytes(json), 40, bytes(path), strlen(path), told->spans, &told->error);
+}
+
+static size_t get_unchecked(cells *told) {
+  return sonic_get_unchecked(bytes(json), strlen(json), bytes(path), strlen(path), told->spans, &told->error);
+}
+
+static size_t get_many(cells *told) {
+  return sonic_get_many(bytes(json), strlen(json), bytes(paths), strlen(paths), told->spans, 3, &told->error);
+}
+
+static size_t get_many_cut(cells *told) {
+  return sonic_get_many(bytes(json), 40, bytes(paths), strlen(paths), told->spans, 3, &told->error);
+}
+
+static size_t get_many_for_two(cells *told) {
+  return sonic_get_many(bytes(json), strlen(json), bytes(paths), strlen(paths), told->spans, 2, &told->error);
+}
+
+static size_t get_many_unchecked(cells *told) {
+  return sonic_get_many_unchecked(bytes(json), strlen(json), bytes(paths), strlen(paths), told->spans, 3,
+                                  &told->error);
+}
+
+static size_t code_text(cells *told) { return sonic_code_text(SONIC_CODE_MISMATCH, told->room, sizeof told->room); }
+
+/* What a call is to answer and to leave, unrefused and refused. */
+typedef struct answers {
+  size_t plain, refused;
+  cells before, after;
+} answers;
+
+/* One run of a call: 0 where it is as it should be and nothing was refused, 1 where it says so, 2 where it
+   did without, and 3 where it is wrong. */
+static int run_once(call *one, const answers *want) {
+  cells now;
+  memcpy(&now, &want->before, sizeof now);
+  asked = 0;
+  size_t told = one(&now);
+  int plain = live == 0 && told == want->plain && same(&now, &want->after);
+  if (asked < refused) return plain ? 0 : 3;
+  if (live == 0 && told == want->refused && same(&now, &want->before)) return 1;
+  return plain && !onwards ? 2 : 3;
+}
+
+/* Refuses each allocation of the call in turn, until there is none to refuse: that one alone, and then all
+   from it on. */
+static int refuse_each(const char *name, call *one, size_t no_memory) {
+  answers want;
+  memset(&want.before, 0xA5, sizeof want.before);
+  memcpy(&want.after, &want.before, sizeof want.after);
+  refused = onwards = 0;
+  want.plain = one(&want.after);
+  want.refused = no_memory;
+  unsigned counts[4] = {0, 0, 0, 0};
+  for (onwards = 0; onwards < 2; onwards++) {
+    int ran;
+    for (refused = 1; (ran = run_once(one, &want)) != 0 && ran != 3; refused++) counts[ran] += !onwards;
+    counts[3] += ran == 3;
+  }
+  if (counts[3] > 0) printf("%s: WRONG\n", name);
+  printf("%s: %zu, takes memory %u times and can do without %u of them\n", name, want.plain, counts[1] + counts[2],
+         counts[2]);
+  return counts[3] > 0;
+}
+
+int main(void) {
+  int wrong = refuse_each("validate", validate, SONIC_NO_MEMORY);
+  wrong |= refuse_each("validate, cut", validate_cut, SONIC_NO_MEMORY);
+  wrong |= refuse_each("get", get, SONIC_NO_MEMORY);
+  wrong |= refuse_each("get, cut", get_cut, SONIC_NO_MEMORY);
+  wrong |= refuse_each("get_unchecked", get_unchecked, SONIC_NO_MEMORY);
+  wrong |= refuse_each("get_many", get_many, SONIC_NO_MEMORY);
+  wrong |= refuse_each("get_many, cut", get_many_cut, SONIC_NO_MEMORY);
+  wrong |= refuse_each("get_many, for two", get_many_for_two, SONIC_NO_MEMORY);
+  wrong |= refuse_each("get_many_unchecked", get_many_unchecked, SONIC_NO_MEMORY);
+  wrong |= refuse_each("code_text", code_text, 0);
+  return wrong;
+}
