@@ -1,5 +1,5 @@
 //! Single calls of serde_json over a text in memory, for a benchmark in C++.
-use serde::de::{DeserializeSeed, Deserializer, Error as _, IgnoredAny, MapAccess, SeqAccess, Visitor};
+use serde::de::{DeserializeSeed, Deserializer, IgnoredAny, MapAccess, SeqAccess, Visitor};
 use serde::Deserialize;
 use serde_json::value::RawValue;
 use serde_json::Value;
@@ -7,7 +7,8 @@ use std::fmt;
 use std::slice;
 use std::str;
 
-/// Follows the steps that are left of a path, and leaves the length of what it leads to.
+/// Follows the steps that are left of a path, and leaves the length of what it leads to. It reads on to
+/// the end: only an error leaves a container early, for which serde_json counts all lines.
 struct Follow<'path> {
     steps: &'path [Value],
     found: &'path mut usize,
@@ -36,24 +37,28 @@ impl<'text> Visitor<'text> for Follow<'_> {
     }
 
     fn visit_map<A: MapAccess<'text>>(self, mut object: A) -> Result<(), A::Error> {
-        let wanted = self.steps[0].as_str();
+        let Follow { steps, found } = self;
+        let mut wanted = steps[0].as_str();
         while let Some(is_wanted) = object.next_key_seed(IsKey(wanted))? {
             if is_wanted {
-                object.next_value_seed(Follow { steps: &self.steps[1..], found: self.found })?;
-                // Only an error leaves a container early.
-                return Err(A::Error::custom("found"));
+                object.next_value_seed(Follow { steps: &steps[1..], found: &mut *found })?;
+                // Of equal keys the first one counts.
+                wanted = None;
+            } else {
+                object.next_value::<IgnoredAny>()?;
             }
-            object.next_value::<IgnoredAny>()?;
         }
         Ok(())
     }
 
     fn visit_seq<A: SeqAccess<'text>>(self, mut array: A) -> Result<(), A::Error> {
-        for _ in 0..self.steps[0].as_u64().unwrap_or(0) {
+        let Follow { steps, found } = self;
+        for _ in 0..steps[0].as_u64().unwrap_or(0) {
             array.next_element::<IgnoredAny>()?;
         }
-        array.next_element_seed(Follow { steps: &self.steps[1..], found: self.found })?;
-        Err(A::Error::custom("found"))
+        array.next_element_seed(Follow { steps: &steps[1..], found: &mut *found })?;
+        while array.next_element::<IgnoredAny>()?.is_some() {}
+        Ok(())
     }
 }
 
@@ -105,7 +110,8 @@ pub unsafe extern "C" fn serde_json_get(json: *const u8, length: usize, path: *c
     };
     let mut found = 0;
     let mut document = serde_json::Deserializer::from_str(text);
-    // What is found is told by an error too.
-    let _ = Follow { steps: &steps, found: &mut found }.deserialize(&mut document);
-    found
+    match (Follow { steps: &steps, found: &mut found }).deserialize(&mut document) {
+        Ok(()) => found,
+        Err(_) => 0,
+    }
 }
