@@ -35,6 +35,12 @@ def simdjson(folder):
     return out
 
 
+def map(folder):
+    out = os.path.join(folder, "map")
+    compiled([tool("c++", "g++", "clang++"), "-std=c++17", *OPTIMIZED, os.path.join(HERE, "peers", "map.cpp"), "-o", out])
+    return out
+
+
 def serde_json(folder):
     cargo = tool("cargo")
     if not os.path.isdir(CRATES):

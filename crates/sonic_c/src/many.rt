@@ -32,10 +32,7 @@ pub extern "C" fn sonic_get_many(
         Ok(tree) => tree,
         Err(status) => return status,
     };
-    let Ok(mut slots) = vec![in alloc; None; tree.size()] else {
-        return NO_MEMORY;
-    };
-    follow(alloc, json, &tree, &mut slots, spans, error)
+    follow(alloc, json, &tree, spans, error)
 }
 
 /// Where the paths lead in a text that is known to begin with a value in UTF-8, as one that
@@ -56,46 +53,48 @@ pub extern "C" fn sonic_get_many_unchecked(
         Ok(tree) => tree,
         Err(status) => return status,
     };
-    let Ok(mut slots) = vec![in alloc; None; tree.size()] else {
-        return NO_MEMORY;
-    };
-    follow_unchecked(json, &tree, &mut slots, spans, error)
+    follow_unchecked(alloc, json, &tree, spans, error)
 }
 
-// Follows the paths of a tree, of which as many slots and as many spans are there.
+// Follows the paths of a tree, of which as many spans are there.
 fn follow(
     alloc: Global,
     json: &[u8],
     tree: &PointerTree,
-    slots: &mut [Option<sonic_lazy::Span>],
     spans: &mut [Span],
     error: &mut Fault,
 ) -> u32
-    requires slots { length slots.old ≡ length tree.now }
-    requires spans { length tree.now ≡ length spans.old }
+    requires { length tree.now ≡ length spans.old }
     ensures { (lines : List ℕ) → Say lines tree.now → IsManyCall json.now lines
         (record { spans = spans.old; error = error.old })
         (record { spans = spans.new; error = error.new }) result }
 {
+    let Ok(mut slots) = vec![in alloc; None; tree.size()] else {
+        return NO_MEMORY;
+    };
+    let slots = slots.as_mut_slice();
     let found = find_many(alloc, json, tree, slots);
     tell_all(found, slots, spans, error)
 }
 
 // The same in a text that is known to begin with a value in UTF-8.
 fn follow_unchecked(
+    alloc: Global,
     json: &[u8],
     tree: &PointerTree,
-    slots: &mut [Option<sonic_lazy::Span>],
     spans: &mut [Span],
     error: &mut Fault,
 ) -> u32
     requires starts { StartsWithUtf8Value json.now }
-    requires slots { length slots.old ≡ length tree.now }
     requires spans { length tree.now ≡ length spans.old }
     ensures { (lines : List ℕ) → Say lines tree.now → IsManyCall json.now lines
         (record { spans = spans.old; error = error.old })
         (record { spans = spans.new; error = error.new }) result }
 {
+    let Ok(mut slots) = vec![in alloc; None; tree.size()] else {
+        return NO_MEMORY;
+    };
+    let slots = slots.as_mut_slice();
     let found = find_many_unchecked(json, tree, slots);
     tell_all(found, slots, spans, error)
 }

@@ -1,5 +1,5 @@
 -- What is said of a record holds of every continuation of the stream.
-use Rattle.std.proofs.Common.{◌≡◌, ◌≢◌, ◌∙◌, inl, inr, ℕ, ◌+◌, ◌-◌, ◌<◌, ◌≤◌, Bool, true, false, List, length, arith, refl, sym, codes}
+use Rattle.std.proofs.Common.{◌≡◌, ◌≢◌, ◌∙◌, ℕ, ◌+◌, ◌-◌, ◌<◌, ◌≤◌, Bool, true, false, List, length, arith, refl, sym}
 use Rattle.std.specs.Prelude.{slice_range, Some, None}
 use Rattle.memchr.specs.Find.{is_byte, IsFirstByte}
 use Rattle.std.proofs.lemmas.Bool.Decides.{nat_tests}
@@ -7,24 +7,21 @@ use Rattle.sonic_error.specs.declared.code.ErrorCode.TheVariants.{EofWhileParsin
 use Rattle.sonic_error.specs.declared.error.Error.{Error}
 use Rattle.sonic_error.specs.Errors.{error_code, error_offset, IsErrorAt}
 use Rattle.sonic_parser.specs.Honest.{stop_of}
-use Rattle.sonic_text.specs.declared.kind.Kind.{Kind}
-use Rattle.sonic_text.specs.declared.kind.Kind.TheVariants.{Array, Object}
 use Rattle.sonic_text.specs.declared.stop.Stop.{Stop}
 use Rattle.sonic_text.specs.Faults.{IsFault}
 use Rattle.sonic_text.specs.Places.{byte, after_space}
 use Rattle.sonic_text.specs.Strings.{strict}
-use Rattle.sonic_text.specs.Values.{opening, IsValue}
-use Rattle.sonic_text.specs.Values.IsValue.{null_literal, true_literal, false_literal, number, string, empty, filled}
+use Rattle.sonic_text.specs.Values.{IsValue}
 use Rattle.sonic_text.proofs.Parts.{part_is, part_length}
-use Rattle.sonic_text.proofs.Same.{Same, same_prefix, same_less, literal_same, number_same, space_before}
-use Rattle.sonic_text.proofs.Same.Alike.{same}
-use Rattle.sonic_text.proofs.SameFaults.{fault_decides_at}
+use Rattle.sonic_text.proofs.Same.{Same, same_prefix, same_byte, agree_at, space_before}
+use Rattle.sonic_text.proofs.SameValues.{value_same}
+use Rattle.sonic_text.proofs.SameFaults.{fault_decides}
 use Rattle.sonic_text.proofs.Stops.{stop_byte, value_stop}
 use Rattle.sonic_text.proofs.Within.{value_within}
-use Rattle.sonic_text.proofs.Values.{items_open, value-longer, value_end_one, value_never_both}
+use Rattle.sonic_text.proofs.Values.{value-longer, value_end_one, value_never_both}
 use Rattle.sonic_parser.specs.Parsers.{Parsing, value_start, IsSkipped}
 use Rattle.sonic_parser.specs.declared.status.ParseStatus.{ParseStatus}
-use Rattle.sonic_examples.specs.Streams.{Stream, start_of, ShowsItsEnd, IsSettled, IsNeverOne, IsLineFeed, NoLineFeed}
+use Rattle.sonic_examples.specs.Streams.{Stream, start_of, IsSettled, IsNeverOne, IsLineFeed, NoLineFeed}
 use Rattle.sonic_examples.specs.Streams.IsSettled.{by_itself, by_space, by_end}
 
 -- a fault that isn't the end of the input is within what is held
@@ -34,24 +31,7 @@ fault_within s f c = (stop_byte (value_stop f) c).1
 -- and no continuation makes it whole
 pub fault_never : (s : Stream) {stop : Stop} → IsFault strict s.held (start_of s) stop → stop.code ≢ EofWhileParsing → IsNeverOne s stop
 fault_never s {stop} f c = λ u is_ended j e x.
-    let (g, h, l) = fault_decides_at f c e in
-    let there : IsFault strict u (after_space u s.next) stop = rw (space_before s.next h (omega arith)) g in
-    value_never_both x.value there
-
--- a bracket that opens a container shows its end
-bracket_shows : {b : ℕ} (kind : Kind) → b ≡ opening kind → ShowsItsEnd b
-bracket_shows Array e = inr (inl e)
-bracket_shows Object e = inr (inr e)
-
--- a number or a literal is in each text that has the same bytes up to its end and the byte there
-value_there : {t u : List ℕ} {i j : ℕ} → Same t u (j + 1) → ¬ ShowsItsEnd (byte t i) → IsValue strict t i j → IsValue strict u i j
-value_there {i = i} {j} h n (null_literal g) = null_literal (literal_same (codes "null") i j (same_less j h (omega arith)) g)
-value_there {i = i} {j} h n (true_literal g) = true_literal (literal_same (codes "true") i j (same_less j h (omega arith)) g)
-value_there {i = i} {j} h n (false_literal g) = false_literal (literal_same (codes "false") i j (same_less j h (omega arith)) g)
-value_there {j = j} h n (number g) = number (number_same (same_less j h (omega arith)) (same (h.bytes j (omega arith))) g)
-value_there h n (string g) = absurd (n (inl g.opens))
-value_there h n (empty kind b c q) = absurd (n (bracket_shows kind b))
-value_there h n (filled {kind} is y x c q) = absurd (n (bracket_shows kind (items_open is)))
+    value_never_both x.value (fault_decides s.next f c u e)
 
 -- what isn't settled at the end of the text has more to come
 pub more_to_come : {t : List ℕ} {i : ℕ} (is_ended : Bool) → ¬ IsSettled t is_ended i (length t) → is_ended ≡ false
@@ -67,11 +47,11 @@ unsettled_never s stop x l n = λ u is_ended j e r.
     let h : Same s.held u (p + 1) = same_prefix s.held u (p + 1) (omega arith) e in
     let o : i < p = value-longer x in
     let from : after_space u s.next ≡ i = space_before s.next h (omega arith) in
-    let there : IsValue strict u i p = value_there h (λ z. n (by_itself z)) x in
+    let there : IsValue strict u i p = value_same (agree_at h p p (omega arith) (omega arith)) (omega arith) x in
     let one : j ≡ p = value_end_one (rw from at r.value) there in
     elim (rw (from, one) at r.settled) [
-      | by_itself z ↦ n (by_itself (rw (h.bytes i (omega arith)) at z))
-      | by_space z ↦ n (by_space (rw (h.bytes p (omega arith)) at z))
+      | by_itself z ↦ n (by_itself (rw (same_byte h i (omega arith)) at z))
+      | by_space z ↦ n (by_space (rw (same_byte h p (omega arith)) at z))
       | by_end z q ↦ let m = h.reach_u in omega arith
     ]
 
@@ -79,8 +59,7 @@ unsettled_never s stop x l n = λ u is_ended j e r.
 rest_byte : (t : List ℕ) (p k : ℕ) → p ≤ k → k < length t → byte (slice_range t p (length t)) (k - p) ≡ byte t k
 rest_byte t p k a b =
     let n = part_length t p (length t) (omega arith) (omega arith) in
-    let e : p + (k - p) ≡ k = omega arith in
-    (part_is t p (length t) (omega arith) (omega arith)).bytes (k - p) (omega arith) ∙ (rw e refl)
+    (part_is t p (length t) (omega arith) (omega arith)).bytes k (k - p) (omega arith) (omega arith)
 
 -- the first line feed of the rest is the first from its place on
 pub line_feed_there : (t : List ℕ) (p n : ℕ) → p ≤ length t → IsFirstByte (is_byte 10) (slice_range t p (length t)) (Some n) → IsLineFeed t p (p + n)

@@ -291,9 +291,9 @@ const PIECES: [&str; 4] = [
     "2\n[{\"ts\"",
 ];
 
-// Prints a record.
-fn show_record(rt: &impl Print, bytes: &[u8]) -> io::Result<()> {
-    match str::from_utf8(bytes) {
+// Prints a record, which is held from one place to another.
+fn show_record(rt: &impl Print, held: &[u8], start: usize, end: usize) -> io::Result<()> {
+    match str::from_utf8(held.get(start..end).unwrap_or(b"")) {
         Ok(text) => println!(rt; "{text}"),
         Err(_) => println!(rt; "no text"),
     }
@@ -303,10 +303,7 @@ fn show_record(rt: &impl Print, bytes: &[u8]) -> io::Result<()> {
 fn show_next(rt: &impl Print, alloc: Global, records: &mut RecordStream) -> io::Result<()> {
     for _ in 0..=records.held().len() {
         match records.next(alloc)? {
-            Next::Record { start, end } => {
-                let record = records.held().get(start..end).unwrap_or(b"");
-                show_record(rt, record)?;
-            }
+            Next::Record { start, end } => show_record(rt, records.held(), start, end)?,
             Next::Wrong { place, code } => println!(rt; "dropped at {place}: {code}")?,
             Next::Cut => println!(rt; "the last record is cut")?,
             Next::NeedsMore | Next::End => return Ok(()),

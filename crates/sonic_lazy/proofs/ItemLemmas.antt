@@ -22,7 +22,8 @@ use Rattle.sonic_text.proofs.Insides.{item_whole, item_before_end}
 use Rattle.sonic_text.proofs.Stops.{fault_within}
 use Rattle.sonic_text.proofs.Parts.{part_is, part_length}
 use Rattle.sonic_text.proofs.StringTexts.{string_utf8}
-use Rattle.sonic_text.proofs.ValueParts.{key_part}
+use Rattle.sonic_text.proofs.SameValues.{key_same}
+use Rattle.sonic_text.proofs.ValueParts.{item_agrees}
 use Rattle.sonic_text.proofs.Values.{value-longer, head-later}
 use Rattle.sonic_text.proofs.Within.{after_space_within, value_within, items_within}
 use Rattle.sonic_text.specs.Documents.{StartsWithUtf8Value}
@@ -159,7 +160,7 @@ key_utf8 : {t : List ℕ} {h v e : ℕ} {b : List ℕ} → IsUtf8To t e → IsKe
 key_utf8 {t} {h} {v} {b = b} u x l =
     let later = u.later in
     let size = part_length t 0 u.end (omega arith) u.within in
-    let own : IsKey strict (slice_range t 0 u.end) h v b = key_part (part_is t 0 u.end (omega arith) u.within) h v (omega arith) (omega arith) (omega arith) x in
+    let own : IsKey strict (slice_range t 0 u.end) h v b = key_same (item_agrees (part_is t 0 u.end (omega arith) u.within) (omega arith) (omega arith)) (omega arith) x in
     let long : u.end - 0 ≡ u.end = omega arith in
     let same : slice_range t 0 u.end ≡ take u.end t = rw long refl in
     let text : IsUtf8 (slice_range t 0 u.end) = rw same u.utf8 in

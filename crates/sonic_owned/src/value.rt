@@ -26,6 +26,8 @@ mod copy;
 mod kind;
 // Parts that are lent.
 mod lend;
+// Levels that are lent.
+mod lend_level;
 // The levels that are opened.
 mod level;
 // The first level opened.

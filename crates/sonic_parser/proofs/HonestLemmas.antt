@@ -1,51 +1,19 @@
 -- The error of a fault is honest, and so is one that says nothing of the value.
-use Rattle.std.proofs.Common.{◌≡◌, ◌≢◌, ◌∙◌, ℕ, ◌+◌, ◌≤◌, Bool, true, false, List, ◌++◌, length, append-nil, arith, refl, sym}
+use Rattle.std.proofs.Common.{◌≡◌, ◌≢◌, ◌∙◌, ℕ, ◌+◌, ◌≤◌, Bool, List, ◌++◌, length, arith, refl, sym}
 use Rattle.std.proofs.lemmas.Bool.Decides.{nat_tests}
 use Rattle.std.proofs.lemmas.List.{take-append-le}
 use Rattle.sonic_error.specs.declared.code.ErrorCode.TheVariants.{EofWhileParsing, NoMemory}
 use Rattle.sonic_error.specs.declared.error.Error.{Error}
 use Rattle.sonic_error.specs.Errors.{error_code, error_offset, IsErrorAt, IsPlainError}
 use Rattle.sonic_text.specs.declared.stop.Stop.{Stop}
-use Rattle.sonic_text.specs.Places.{byte, after_space, is_space}
+use Rattle.sonic_text.specs.Places.{after_space}
 use Rattle.sonic_text.specs.Values.{IsValue}
 use Rattle.sonic_text.specs.Faults.{IsFault}
-use Rattle.sonic_text.specs.Faults.IsFault.{no_value}
-use Rattle.sonic_text.proofs.Same.{NoSpace, same_longer, space_before, space_same}
-use Rattle.sonic_text.proofs.Same.Alike.{other}
-use Rattle.sonic_text.proofs.SameFaults.{fault_decides_at}
+use Rattle.sonic_text.proofs.SameFaults.{fault_decides}
 use Rattle.sonic_text.proofs.Stops.{stop_byte, value_stop}
-use Rattle.sonic_text.proofs.ValueCompletions.{value_completes}
-use Rattle.sonic_text.proofs.Values.{space_begins_none, value_fault_one, value_never_both}
-use Rattle.sonic_text.proofs.Within.{after_space_within}
-use Rattle.sonic_parser.specs.Honest.{MayGoOnFrom, IsFinalFrom, IsOfValue, stop_of, IsHonest}
-
--- where a value begins there is no white space, as the test says
-no_space : {m : Bool} {t : List ℕ} {i j : ℕ} (is : Bool) → is_space (byte t i) ≡ is → IsValue m t i j → NoSpace (byte t i)
-no_space {t = t} {i} true e x = absurd (value_never_both x (no_value (space_begins_none (byte t i) e) refl))
-no_space false e x = e
-
--- a value in a longer text begins after the same white space
-same_start : {m : Bool} {j : ℕ} (t w : List ℕ) (p i : ℕ) → i ≡ after_space t p → i ≤ length t → IsValue m (t ++ w) i j
-    → IsValue m (t ++ w) (after_space (t ++ w) p) j
-same_start t w p i e l x =
-    let q : i ≡ after_space (t ++ w) p = space_same p i (same_longer t w i l) (other (no_space (is_space (byte (t ++ w) i)) refl x)) e in
-    rw q at x
-
--- a fault that is the end of the input may go on
-may_go_on : {m : Bool} {t : List ℕ} {p : ℕ} {s : Stop} → p ≤ length t → IsFault m t (after_space t p) s → s.code ≡ EofWhileParsing → MayGoOnFrom m t p
-may_go_on {t = t} {p} l f c =
-    let within = after_space_within t p l in
-    let h = value_completes within f c in (
-      h.missing,
-      (λ z. value_never_both (rw (z, append-nil) at h.complete) f),
-      same_start t h.missing p (after_space t p) refl within h.complete,
-    )
-
--- another one is final
-final : {m : Bool} {t : List ℕ} {s : Stop} (p : ℕ) → IsFault m t (after_space t p) s → s.code ≢ EofWhileParsing → IsFinalFrom m t p s
-final p f c = λ u e.
-    let (g, h, l) = fault_decides_at f c e in
-    rw (space_before p h (omega arith)) g
+use Rattle.sonic_text.proofs.ValueCompletions.{may_go_on}
+use Rattle.sonic_text.proofs.Values.{value_fault_one, value_never_both}
+use Rattle.sonic_parser.specs.Honest.{IsFinalFrom, IsOfValue, stop_of, IsHonest}
 
 -- the error that reports a fault which isn't the end shows its stop
 shows_stop : {m : Bool} {t : List ℕ} {i : ℕ} {s : Stop} {e : Error} → IsFault m t i s → s.code ≢ EofWhileParsing → IsErrorAt e s.code t s.place → stop_of e ≡ s
@@ -69,7 +37,7 @@ honest_of_fault {m} {t} {p} {s} {e} l f x = record {
   goes_on = λ c. may_go_on l f (sym x.code ∙ c);
   is_final = λ of.
       let c : s.code ≢ EofWhileParsing = λ z. of_value_goes e of (x.code ∙ z) in
-      of_shown (IsFinalFrom m t p) (shows_stop f c x) (final p f c);
+      of_shown (IsFinalFrom m t p) (shows_stop f c x) (fault_decides p f c);
 }
 
 -- so is one that is neither the end of the input nor a syntax error of the value
@@ -86,7 +54,7 @@ pub end_is_fault : {m : Bool} {t : List ℕ} {s : Stop} {e : Error} (p : ℕ) �
 end_is_fault {t = t} {s} p f h d c =
     let (w, some, x) = h.goes_on c in
     let within = stop_byte (value_stop f) d in
-    value_never_both x (final p f d (t ++ w) (take-append-le (s.place + 1) t w (omega arith)))
+    value_never_both x (fault_decides p f d (t ++ w) (take-append-le (s.place + 1) t w (omega arith)))
 
 -- and a syntax error of the value is the fault
 pub shown_is_fault : {m : Bool} {t : List ℕ} {s : Stop} {e : Error} (p : ℕ) → IsFault m t (after_space t p) s → IsHonest m t p e → IsOfValue (error_code e)

@@ -23,6 +23,14 @@ struct Known {
     in_escape: u64,
 }
 
+// A block, and what it shows.
+#[derive(Clone, Copy, Drop)]
+struct Block {
+    // Where it begins.
+    place: usize,
+    masks: Masks,
+}
+
 // The kind of the container that begins with a block.
 fn first_kind(masks: &Masks) -> Kind
     ensures { (t : List ℕ) (p : ℕ) (kind : Kind) → AreMasks t p masks.now → byte t p ≡ opening kind → result ≡ kind }
@@ -44,38 +52,37 @@ fn brackets_of(masks: &Masks, kind: Kind) -> (u64, u64)
     }
 }
 
-// Where the container ends, if it ends in the block at `place`.
+// Where the container ends, if it ends in this block.
 //
 // `tape` and `start` are for the contract alone.
 #[inline(always)]
 fn end_in(
     tape: &Tape<'_>,
     start: usize,
-    place: usize,
-    masks: &Masks,
+    block: &Block,
     kind: Kind,
     known: &mut Known,
 ) -> Option<usize>
-    requires masks { AreMasks tape.now place masks.now }
-    requires known { AreKnown kind tape.now start place known.old }
+    requires masks { AreMasks tape.now block.now.place block.now.masks }
+    requires known { AreKnown kind tape.now start block.now.place known.old }
     requires begins { byte tape.now start ≡ opening kind }
-    requires closes { (j : ℕ) × Closes kind tape.now start j × (place < j) }
-    requires room { place < 2 ^ 63 }
+    requires closes { (j : ℕ) × Closes kind tape.now start j × (block.now.place < j) }
+    requires room { block.now.place < 2 ^ 63 }
     ensures { MatchOption result
-        (AreKnown kind tape.now start (place + 64) known.new
-        × ((j : ℕ) → Closes kind tape.now start j → place < j → place + 64 < j))
-        (λ end. (j : ℕ) → Closes kind tape.now start j → place < j → end ≡ j) }
+        (AreKnown kind tape.now start (block.now.place + 64) known.new
+        × ((j : ℕ) → Closes kind tape.now start j → block.now.place < j → block.now.place + 64 < j))
+        (λ end. (j : ℕ) → Closes kind tape.now start j → block.now.place < j → end ≡ j) }
 {
     let inside = get_string_bits(
-        masks.backslash,
-        masks.quote,
+        block.masks.backslash,
+        block.masks.quote,
         &mut known.in_string,
         &mut known.in_escape,
     );
-    let (opens, closes) = brackets_of(masks, kind);
+    let (opens, closes) = brackets_of(&block.masks, kind);
     let (opens, closes) = (opens & !inside, closes & !inside);
     if let Some(bit) = closing_bit(opens, closes, known.depth) {
-        return Some(place + bit as usize + 1);
+        return Some(block.place + bit as usize + 1);
     }
     known.depth = known.depth + opens.count_ones() as usize - closes.count_ones() as usize;
     None
@@ -87,7 +94,7 @@ fn end_in(
 fn end_of_kind<L: Ledger>(
     tape: &Tape<'_>,
     start: usize,
-    mut masks: Masks,
+    masks: Masks,
     kind: Kind,
     steps: &mut Steps<L>,
 ) -> usize
@@ -103,13 +110,16 @@ fn end_of_kind<L: Ledger>(
         in_string: 0,
         in_escape: 0,
     };
-    let mut place = start;
-    while place < len {
-        if let Some(end) = end_in(tape, start, place, &masks, kind, &mut known) {
+    let mut block = Block {
+        place: start,
+        masks,
+    };
+    while block.place < len {
+        if let Some(end) = end_in(tape, start, &block, kind, &mut known) {
             return end;
         }
-        place += 64;
-        masks = tape.masks_at(place, steps);
+        block.place += 64;
+        block.masks = tape.masks_at(block.place, steps);
     }
     unreachable!()
 }

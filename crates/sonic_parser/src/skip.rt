@@ -86,9 +86,42 @@ pub(crate) fn leave(text: &[u8], kinds: &[Kind], depth: usize, ended: usize) -> 
     }
 }
 
+// Passes the item that is expected at `place`, and the ends of containers after it, or enters the
+// container that is its value: how far the items of the open containers fit then.
+//
+// `root` is for the contract alone.
+#[inline]
+#[tactic(auto, using(crate::proofs::SkippingLemmas::steps))]
+fn advance(
+    text: &[u8],
+    root: usize,
+    opened: &mut Vec<Kind>,
+    place: usize,
+    lossy: bool,
+) -> Result<Reached, Fault>
+    requires { IsReached lossy text.now root opened.old.items (Reached.Expected place) }
+    ensures further { IfOk result (λ reached. (h : ℕ) → reached ≡ Reached.Expected h → place < h) }
+    ensures within { IfOk result (λ reached. place_of reached ≤ length text.now) }
+    ensures some { IfOk result (IsOngoing (length opened.new.items)) }
+    ensures ok { IfOk result (IsReached lossy text.now root opened.new.items) }
+    ensures err { IfErr result (IsStopFor (λ s. IsFault lossy text.now root s)) }
+{
+    let value = item_value(text, place, opened[opened.len() - 1], lossy)?;
+    match begin(text, value, lossy)? {
+        Begun::Complete(skipped) => {
+            let extent = leave(text, opened, opened.len(), skipped.end);
+            opened.truncate(extent.depth);
+            Ok(extent.reached)
+        }
+        Begun::Inside(inner, first) => {
+            opened.push(inner)?;
+            Ok(Reached::Expected(first))
+        }
+    }
+}
+
 // The end of the container that begins at `root`, an item of which is expected at `first`, item by
 // item.
-#[tactic(auto, using(crate::proofs::SkippingLemmas::steps))]
 fn close_slowly(
     text: &[u8],
     root: usize,
@@ -103,18 +136,7 @@ fn close_slowly(
 {
     let mut place = first;
     'items: loop {
-        let value = item_value(text, place, opened[opened.len() - 1], lossy)?;
-        let ended = match begin(text, value, lossy)? {
-            Begun::Complete(skipped) => skipped.end,
-            Begun::Inside(inner, first) => {
-                opened.push(inner)?;
-                place = first;
-                continue 'items;
-            }
-        };
-        let extent = leave(text, opened, opened.len(), ended);
-        opened.truncate(extent.depth);
-        match extent.reached {
+        match advance(text, root, opened, place, lossy)? {
             Reached::Expected(next) => place = next,
             Reached::Ended(end) => return Err(Fault::At(separator_stop(text, end, opened))),
             Reached::Closed(end) => return Ok(end),

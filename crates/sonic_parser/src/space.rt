@@ -49,13 +49,14 @@ pub(crate) fn words_from(text: &[u8], place: usize, kept: &mut Option<SpaceBlock
     ensures kept { IsKept text.now kept.new }
 {
     let mut at = place;
-    if let Some(block) = *kept {
-        if block.start <= at && at - block.start < 64 {
-            if let Some(word) = word_in(text, block, at) {
-                return word;
-            }
-            at = block.start + 64;
+    if let Some(block) = *kept
+        && block.start <= at
+        && at - block.start < 64
+    {
+        if let Some(word) = word_in(text, block, at) {
+            return word;
         }
+        at = block.start + 64;
     }
     while let Some(block) = block_at(text, at) {
         *kept = Some(block);

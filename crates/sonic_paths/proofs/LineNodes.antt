@@ -12,16 +12,14 @@ use Rattle.sonic_text.specs.Paths.{Node, key, index, Path}
 use Rattle.sonic_text.specs.Places.{byte, is_space, after_space, IsDigit}
 use Rattle.sonic_text.specs.Strings.{strict, IsString}
 use Rattle.sonic_text.specs.Trees.{Tree, numeral, text, container, Items, Means, means_number, means_string, means_empty, means_filled, last_item, more_items}
-use Rattle.sonic_text.specs.Values.{ItemHead, no_head, IsValue, number, string}
+use Rattle.sonic_text.specs.Values.{ItemHead, no_head, IsValue, string}
 use Rattle.sonic_text.proofs.Items.{head_one}
 use Rattle.sonic_text.proofs.TreeLemmas.{value_of, means_one}
-use Rattle.sonic_text.proofs.NumberParts.{number_part}
-use Rattle.sonic_text.proofs.Numbers.{number_begins, number_longer}
-use Rattle.sonic_text.proofs.Parts.{part_is, part_length}
+use Rattle.sonic_text.proofs.Numbers.{number_begins}
+use Rattle.sonic_text.proofs.ValueParts.{number_of_part}
 use Rattle.sonic_text.proofs.Places.{byte_within}
 use Rattle.sonic_text.proofs.Strings.{string_some}
 use Rattle.sonic_text.proofs.Values.{value_end_one, value_never_both}
-use Rattle.sonic_text.proofs.Within.{value_within}
 use Rattle.sonic_paths.specs.Lines.{SaysNode, says_key, says_index, SayNodes, no_node, one_more_node, IsIndex, IsNodeArray, IsNodeLine}
 use Rattle.sonic_paths.specs.Reading.{IsNodeAt, AreNodesAt, LeadsTo}
 
@@ -164,11 +162,7 @@ number_here t i begins =
 
 -- a number cut out of its text is a number
 pub cut_number : {t word : List ℕ} {i j : ℕ} → IsNumber t i j → word ≡ slice_range t i j → IsNumber word 0 (length word)
-cut_number {t} {word} {i} {j} n e =
-    let l = number_longer n in
-    let k = value_within {m = strict} (number n) in
-    let long = part_length t i j (omega arith) k in
-    rw e (number_part (part_is t i j (omega arith) k) 0 (length (slice_range t i j)) (omega arith) (omega (arith, long)) (omega arith) n)
+cut_number n e = rw e (number_of_part n)
 
 -- a number that is an index says it
 pub index_node : {t word : List ℕ} {i j n : ℕ} → IsNumber t i j → word ≡ slice_range t i j → IsIndex word → n ≡ digits_value 10 word → IsNodeAt t i j (index n)

@@ -1,5 +1,5 @@
 // Lists of numbers that grow at any position.
-ghost use Rattle.std.specs.Prelude.{◌≡◌, ◌+◌, ◌^◌, ◌<◌, ◌≤◌, [], ◌++◌, OnOk, OnErr, length, map, take, drop, slice_get, slice_index, vec_len};
+ghost use Rattle.std.specs.Prelude.{◌≡◌, ◌+◌, ◌^◌, ◌<◌, ◌≤◌, [], ◌++◌, OnOk, OnErr, length, map, take, drop, slice_get};
 ghost use Rattle.std.specs.List.{All, insert};
 ghost use Rattle.sonic_pointer.specs.Pieces.{numbers_of, raised, AreStarts, IsHolder};
 
@@ -7,7 +7,7 @@ use std::alloc::{AllocError, Global};
 use std::marker::Model;
 
 // A piece with so many numbers is split in halves before it grows.
-pub(crate) const FULL: usize = 1024;
+pub(crate) const FULL: usize = 4096;
 
 // A piece of a list, and how many numbers the pieces before it have.
 #[derive(Debug, Drop)]

@@ -312,13 +312,28 @@ fn keeps_lists_in_pieces(rt: HostRuntime) -> Result<(), AllocError> {
     Ok(())
 }
 
+const HALF: usize = FULL / 2;
+
 // After so many numbers in rising order the first piece is full, or the second, or the last of
 // four.
 #[test]
 fn splits_full_pieces(rt: HostRuntime) -> Result<(), AllocError> {
-    for count in [FULL, FULL + FULL / 2, 5 * FULL / 2] {
+    for count in [2 * HALF, 3 * HALF, 5 * HALF] {
         for position in [
-            0, 1, 511, 512, 513, 1023, 1024, 1025, 1535, 1536, 2047, 2048, 2559, 2560,
+            0,
+            1,
+            HALF - 1,
+            HALF,
+            HALF + 1,
+            2 * HALF - 1,
+            2 * HALF,
+            2 * HALF + 1,
+            3 * HALF - 1,
+            3 * HALF,
+            4 * HALF - 1,
+            4 * HALF,
+            5 * HALF - 1,
+            5 * HALF,
         ] {
             let mut pieces = Pieces::new(rt.alloc());
             let mut plain = Vec::new(rt.alloc());
@@ -334,14 +349,14 @@ fn splits_full_pieces(rt: HostRuntime) -> Result<(), AllocError> {
 
 // The sibling that comes at this place of an order.
 fn sibling(order: Order, i: usize) -> usize
-    requires { i < 3000 }
-    ensures { result < 3000 }
+    requires { i < 10_000 }
+    ensures { result < 10_000 }
 {
     match order {
         Order::Rising => i,
-        Order::Falling => 2999 - i,
-        Order::Halving => i * 1501 % 3000,
-        Order::Shuffled => i * 1237 % 3000,
+        Order::Falling => 9999 - i,
+        Order::Halving => i * 5001 % 10_000,
+        Order::Shuffled => i * 1237 % 10_000,
     }
 }
 
@@ -349,8 +364,8 @@ fn sibling(order: Order, i: usize) -> usize
 fn sorts_siblings(rt: HostRuntime) -> Result<(), AllocError> {
     for order in ORDERS {
         let mut tree = PointerTree::new(rt.alloc());
-        for i in 0..3000usize {
-            let key = format!(in rt.alloc(); "key{}", 10000 + sibling(order, i))?;
+        for i in 0..10_000usize {
+            let key = format!(in rt.alloc(); "key{}", 10_000 + sibling(order, i))?;
             add(&rt, rt.alloc(), &mut tree, &pointer!["all", &key]);
         }
         match child(&tree.view(), 0) {
@@ -363,9 +378,9 @@ fn sorts_siblings(rt: HostRuntime) -> Result<(), AllocError> {
 
 // The keys are in order, and each is found.
 fn check_siblings(rt: &impl Abort, alloc: Global, all: &TreeView<'_>) -> Result<(), AllocError> {
-    assert_eq!(rt; all.count(), 3000);
-    for i in 0..3000usize {
-        let key = format!(in alloc; "key{}", 10000 + i)?;
+    assert_eq!(rt; all.count(), 10_000);
+    for i in 0..10_000usize {
+        let key = format!(in alloc; "key{}", 10_000 + i)?;
         let text = format!(in alloc; "\"{key}\"")?;
         match child(all, i) {
             Some((node, _)) => assert_eq!(rt; node, PointerNode::Key(key.as_str())),

@@ -22,9 +22,8 @@ use Rattle.sonic_text.proofs.EscapeLemmas.{char_never, escape_some}
 use Rattle.sonic_text.proofs.StringReadingLemmas.{escape_within}
 use Rattle.sonic_text.proofs.Stops.{bad_end, escape_known}
 use Rattle.sonic_text.proofs.Within.{char_within, chars_within}
-use Rattle.sonic_text.proofs.Same.{Same, same_less, same_back, same_longer, same_whole, minus_same, int_same, fraction_same}
-use Rattle.sonic_text.proofs.Same.Alike.{same}
-use Rattle.sonic_text.proofs.SameStrings.{escape_same_at, no_new_low, char_same, chars_same, chars_then, escape_fault_same}
+use Rattle.sonic_text.proofs.Same.{same_back, same_longer, same_whole, same_byte, agree_at, int_same, fraction_same}
+use Rattle.sonic_text.proofs.SameStrings.{NoNewLow, escape_same, no_new_low, char_same, chars_same, chars_then, escape_fault_same}
 
 -- some more bytes complete what ends at the end of the text
 pub record Completes (E : List ℕ → ℕ → Type 0) (t : List ℕ) : Type 0 where
@@ -89,8 +88,9 @@ char_new : {m : Bool} {t : List ℕ} {k q : ℕ} {s : Stop} {b : List ℕ} (w : 
 char_new {m} {t} {k} {q} w b f c = elim (cases_lt (length t) q) [
   | inl l ↦ l
   | inr l ↦
-      let h : Same (t ++ w) t q = same_back (same_longer t w q l) in
-      absurd (char_never b (char_same h (λ r z. (z.0, escape_same_at q (q + 6) z.0 (same_longer t w (q + 6) (escape_within t q z.0 z.1)) (omega arith) z.1, z.2)) c) f)
+      let h = same_back (same_longer t w q l) in
+      let low : NoNewLow m (t ++ w) t q q = λ r z. (z.0, escape_same (same_longer t w (q + 6) (escape_within t q z.0 z.1)) q q z.0 (omega arith) (omega arith) z.1, z.2) in
+      absurd (char_never b (char_same h (omega arith) (omega arith) low c) f)
 ]
 
 -- an escape that ends too early is completed byte by byte
@@ -104,7 +104,7 @@ escape_completes m (suc fuel) t k s f l b o =
     let g = f.after in
     let a = pushed_length t (filler n) in
     let r : Right m u k (n + 1) = right_longer m t k n (omega arith) (omega arith) (omega arith) (λ d x z. f.right d x (omega arith)) in
-    let z : byte u k ≡ 92 = (same_whole t (filler n ∷ [])).bytes k y ∙ b in
+    let z : byte u k ≡ 92 = same_byte (same_whole t (filler n ∷ [])) k y ∙ b in
     elim (escape_some m u k z) [
       | inl (q, (d, c)) ↦
           let i : length t < q = char_new (filler n ∷ []) b f c in
@@ -135,8 +135,8 @@ close_string m t i o (b, cs) =
     let e : byte u (length t) ≡ 34 = pushed t 34 (length t) refl in
     let s : IsString m u i (length u) b = record {
       close = length t;
-      opens = h.bytes i (byte_within t i (λ z. omega arith)) ∙ o;
-      chars = chars_same h (no_new_low m t u (length t) (λ z. omega arith)) cs;
+      opens = same_byte h i (byte_within t i (λ z. omega arith)) ∙ o;
+      chars = chars_same h (omega arith) (omega arith) (no_new_low m t u _ (length t) (λ z. omega arith)) cs;
       closes = e;
       end = pushed_length t 34;
     } in
@@ -163,7 +163,7 @@ string_completes {m} {t} {i} {s} o (in_escape {k} {b} cs g f) c =
     let x = escape_completes m 12 t k s f n g (omega arith) in
     let u = t ++ x.missing in
     let y = chars_then (same_longer t x.missing k (omega arith)) cs x.complete.1 in
-    complete_more (StringFrom m i) t x.missing (close_string m u i ((same_whole t x.missing).bytes i l ∙ o) y)
+    complete_more (StringFrom m i) t x.missing (close_string m u i (same_byte (same_whole t x.missing) i l ∙ o) y)
 
 -- a number from i on
 abbrev pub NumberFrom : ℕ → List ℕ → ℕ → Type 0
@@ -202,7 +202,7 @@ module _ (t : List ℕ) where
   -- a sign that ends at the end of the text does so before the 0
   zero_sign : (i : ℕ) → i ≤ length t → length t ≤ after_sign t i → (length t ≡ after_sign t i) × (after_sign zeroed i ≡ length t)
   zero_sign i l o = elim (cases_lt i (length t)) [
-    | inl g ↦ let b = (same_whole t (48 ∷ [])).bytes i g in (grind (arith, nat_tests), grind (arith, nat_tests))
+    | inl g ↦ let b = same_byte (same_whole t (48 ∷ [])) i g in (grind (arith, nat_tests), grind (arith, nat_tests))
     | inr g ↦ let b = byte_after t i g in let c = pushed t 48 i (omega arith) in (grind (arith, nat_tests), grind (arith, nat_tests))
   ]
 
@@ -210,7 +210,7 @@ module _ (t : List ℕ) where
   zero_completes : (i w v : ℕ) → i < length t → IsInt zeroed (after_minus t i) w → IsFraction zeroed w v → IsExponent zeroed v (length zeroed)
       → Completes (NumberFrom i) t
   zero_completes i w v l n f e =
-      let q : after_minus zeroed i ≡ after_minus t i = minus_same t zeroed i ((same_whole t (48 ∷ [])).bytes i l) in
+      let q : after_minus zeroed i ≡ after_minus t i = rw (same_byte (same_whole t (48 ∷ [])) i l) refl in
       record { missing = 48 ∷ []; complete = record { int_end = w; fraction_end = v; int = rw q n; fraction = f; exponent = e } }
 
 -- a number begins within the text
@@ -236,9 +236,9 @@ number_completes {t} {i} {s} b (in_fraction {w} d f) c =
     let y = f.0 in
     let o : w < length t = byte_within t w (λ z. omega arith) in
     let n : length t ≤ w + 1 = bad_end t (w + 1) _ s f.2 c (λ z. cc) in
-    let g : IsInt u (after_minus t i) w = int_same (after_minus t i) w (same_less w h (omega arith)) (same (h.bytes w o)) d in
+    let g : IsInt u (after_minus t i) w = int_same _ _ (omega arith) (agree_at h w w (omega arith) o) d in
     let (k, q) = zero_digit t (w + 1) (omega arith) in
-    zero_completes t i w (length u) (number_starts_within t i b) g (inl (h.bytes w o ∙ y, k, q)) (no_exponent u)
+    zero_completes t i w (length u) (number_starts_within t i b) g (inl (same_byte h w o ∙ y, k, q)) (no_exponent u)
 number_completes {t} {i} {s} b (in_exponent {w} {f = v} d a f) c =
     let u = zeroed t in
     let h = same_whole t (48 ∷ []) in
@@ -246,9 +246,9 @@ number_completes {t} {i} {s} b (in_exponent {w} {f = v} d a f) c =
     let n : length t ≤ after_sign t (v + 1) = bad_end t _ _ s f.2 c (λ z. cc) in
     let (y, z) = zero_sign t (v + 1) (omega arith) n in
     let m = fraction_later t w v a in
-    let g : IsInt u (after_minus t i) w = int_same (after_minus t i) w (same_less w h (omega arith)) (same (h.bytes w (omega arith))) d in
-    let j : IsFraction u w v = fraction_same w v (same_less v h (omega arith)) (same (h.bytes v o)) a in
-    let starts : IsE (byte u v) = rw (h.bytes v o) f.0 in
+    let g : IsInt u (after_minus t i) w = int_same _ _ (omega arith) (agree_at h w w (omega arith) (omega arith)) d in
+    let j : IsFraction u w v = fraction_same w w (omega arith) (agree_at h v v (omega arith) o) a in
+    let starts : IsE (byte u v) = rw (same_byte h v o) f.0 in
     let (k, q) = zero_digit t (length t) refl in
     zero_completes t i w v (number_starts_within t i b) g j (inl (starts, rw z k, rw z q))
 
@@ -266,7 +266,7 @@ literal_completes {word} {t} {i} {s} f c =
     let o = f.shorter in
     let e : length u ≡ i + length word = omega (arith, length-append t rest, length-drop f.n word) in
     let letter : (k : ℕ) → k < length word → byte u (i + k) ≡ byte word k = λ k z. elim (cases_lt k f.n) [
-      | inl g ↦ (same_whole t rest).bytes (i + k) (omega arith) ∙ f.letters.1 k g
+      | inl g ↦ same_byte (same_whole t rest) (i + k) (omega arith) ∙ f.letters.1 k g
       | inr g ↦
           let a = get_or-append_right t rest (i + f.n) (i + k) 0 (omega arith) (omega arith) in
           let q : f.n + (i + k - (i + f.n)) ≡ k = omega arith in

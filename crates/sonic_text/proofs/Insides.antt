@@ -17,6 +17,14 @@ use Rattle.sonic_text.proofs.Within.{value_within, items_within, head_within}
 use Rattle.sonic_text.proofs.Stops.{bad_from, key_fault_from, fault_from}
 use Rattle.sonic_text.proofs.Values.{ContainerOutcome, no_item, at_last, container_outcome}
 
+-- the values of items that are as many begin at one place
+item_start_one : {m : Bool} {t : List ℕ} {kind : Kind} {i n p h g v w : ℕ} {l k : Option (List ℕ)} → n ≡ p → ItemsFit m t kind i n h → ItemHead m t kind h v l
+    → ItemsFit m t kind i p g → ItemHead m t kind g w k → w ≡ v
+item_start_one {m} {t} {kind} {i} {n} {h = h} {g} {w = w} {k = k} j is y fs z =
+    let gs : ItemsFit m t kind i n g = rw j fs in
+    let head : ItemHead m t kind h w k = rw (items_one gs is) at z in
+    (head_one head y).0
+
 -- after a key that isn't there no further item fits
 pub not_past_key : {m : Bool} {t : List ℕ} {kind : Kind} {i n p h g : ℕ} {s : Stop} → kind ≡ Object → ItemsFit m t kind i n h → n < p → IsKeyFault m t h s
     → ¬ ItemsFit m t kind i p g
@@ -29,9 +37,7 @@ pub comma_after : {m : Bool} {t : List ℕ} {kind : Kind} {i n p h g v : ℕ} {l
     → ItemsFit m t kind i p g → (e : ℕ) × IsValue m t v e × (byte t (after_space t e) ≡ 44)
 comma_after {m} {t} {kind} {h = h} {v = v} is l y fs =
     let x = items_before fs l in
-    let head : ItemHead m t kind h x.v x.key = rw (items_one x.before is) at x.head in
-    let value_start : x.v ≡ v = (head_one head y).0 in
-    let value : IsValue m t v x.e = rw value_start at x.value in
+    let value : IsValue m t v x.e = rw (item_start_one refl is y x.before x.head) at x.value in
     (x.e, value, x.comma)
 
 -- nor after the fault of an item's value
@@ -50,10 +56,7 @@ pub items_after : {m : Bool} {t : List ℕ} {kind : Kind} {i n p h g v e : ℕ} 
 items_after is y x (first_item b q d o) l = absurd (omega arith)
 items_after {m} {t} {kind} {i} {n = n} {h = h} {v = v} is y x (next_item {p = k} {u = a} {v = w} {e = f} {l = c} fs z r d q o) l = elim (cases_order n k) [
   | inl j ↦
-      let gs : ItemsFit m t kind i n a = rw j fs in
-      let head : ItemHead m t kind h w c = rw (items_one gs is) at z in
-      let value_start : w ≡ v = (head_one head y).0 in
-      let s : IsValue m t v f = rw value_start at r in
+      let s : IsValue m t v f = rw (item_start_one j is y fs z) at r in
       let u = value_end_one x s in
       omega (arith, after_space_later t f, after_space_later t (after_space t f + 1))
   | inr (inl less) ↦
@@ -69,9 +72,7 @@ ends_by : {m : Bool} {t : List ℕ} {kind : Kind} {i n p h g v w e f : ℕ} {l k
     → IsValue m t v e → ItemsFit m t kind i p g → ItemHead m t kind g w k → IsValue m t w f → byte t (after_space t f) ≢ 44 → e ≤ f
 ends_by {m} {t} {kind} {i} {n = n} {p} {h = h} {g} {v = v} {w} {f = f} {k = k} is y x fs z r c = elim (cases_order n p) [
   | inl j ↦
-      let gs : ItemsFit m t kind i n g = rw j fs in
-      let head : ItemHead m t kind h w k = rw (items_one gs is) at z in
-      let s : IsValue m t v f = rw (head_one head y).0 at r in
+      let s : IsValue m t v f = rw (item_start_one j is y fs z) at r in
       let u = value_end_one x s in
       omega arith
   | inr (inl o) ↦ (let a = items_after is y x fs o in let b = head-later z in let d = value-longer r in omega arith)
@@ -92,9 +93,7 @@ item_before {m} {t} {kind} {i} {n} {v = v} {l = l} is y x (at_last {n = p} {h = 
 ])
 item_before {m} {t} {kind} {i} {n} {h} {v} is y x (at_last {n = p} {h = g} fs (at_value {v = w} {l = k} (Err s) z d q)) = rw q (elim (cases_order n p) [
   | inl j ↦
-      let gs : ItemsFit m t kind i n g = rw j fs in
-      let head : ItemHead m t kind h w k = rw (items_one gs is) at z in
-      let u : IsFault m t v s = rw (head_one head y).0 at d in
+      let u : IsFault m t v s = rw (item_start_one j is y fs z) at d in
       absurd (value_never_both x u)
   | inr (inl o) ↦ omega (arith, items_after is y x fs o, head-later z, fault_from d (head_within z (items_within fs)))
   | inr (inr o) ↦ absurd (not_past_value fs o z d is)

@@ -34,20 +34,8 @@ pub record AreBrackets (kind : Kind) : Type 0 where
   pub apart : opening kind ≢ closing kind
 
 pub brackets : (kind : Kind) → AreBrackets kind
-brackets Array = record {
-  opening_quote = λ e. omega arith;
-  opening_slash = λ e. omega arith;
-  closing_quote = λ e. omega arith;
-  closing_slash = λ e. omega arith;
-  apart = λ e. omega arith;
-}
-brackets Object = record {
-  opening_quote = λ e. omega arith;
-  opening_slash = λ e. omega arith;
-  closing_quote = λ e. omega arith;
-  closing_slash = λ e. omega arith;
-  apart = λ e. omega arith;
-}
+brackets Array = record { opening_quote = λ e. omega arith; opening_slash = λ e. omega arith; closing_quote = λ e. omega arith; closing_slash = λ e. omega arith; apart = λ e. omega arith }
+brackets Object = record { opening_quote = λ e. omega arith; opening_slash = λ e. omega arith; closing_quote = λ e. omega arith; closing_slash = λ e. omega arith; apart = λ e. omega arith }
 
 -- what a bracket of the kind `other` counts
 abbrev pub weight : Kind → Kind → ℕ

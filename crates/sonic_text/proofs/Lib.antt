@@ -12,7 +12,6 @@ pub mod Items
 mod KeyLemmas
 pub mod LevelLemmas
 pub mod LiteralLemmas
-pub mod NumberParts
 pub mod Numbers
 mod OrdinaryLemmas
 pub mod Outcomes
@@ -23,13 +22,12 @@ pub mod PlainStrings
 pub mod Same
 pub mod SameFaults
 mod SameStrings
-mod SameValues
+pub mod SameValues
 pub mod Stops
 pub mod QuotedLemmas
 mod QuotedTextLemmas
 mod QuoteLemmas
 mod ReadingLemmas
-mod StringPartLemmas
 mod StringReadingLemmas
 pub mod StringTexts
 pub mod Strings

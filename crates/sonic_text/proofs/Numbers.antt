@@ -32,20 +32,23 @@ Tail t Starts d i j = Starts × IsDigit (byte t d) × (j ≡ digits_end t d) ⊎
 abbrev TailFault : List ℕ → Type 0 → ℕ → Stop → Type 0
 TailFault t Starts d s = Starts × ¬ IsDigit (byte t d) × (s ≡ bad t d InvalidNumber)
 
+-- an end and a fault that are each the only one, and never both, are one outcome
+pub match_one : (P : ℕ → Type 0) (F : Stop → Type 0) (r q : Result ℕ Stop) → ((j k : ℕ) → P j → P k → j ≡ k) → ((s z : Stop) → F s → F z → s ≡ z)
+    → ((j : ℕ) (s : Stop) → P j → F s → ⊥) → MatchResult r P F → MatchResult q P F → r ≡ q
+match_one P F (Ok j) (Ok k) ends faults never h g = rw (ends j k h g)
+match_one P F (Ok j) (Err s) ends faults never h g = absurd (never j s h g)
+match_one P F (Err s) (Ok j) ends faults never h g = absurd (never j s g h)
+match_one P F (Err s) (Err z) ends faults never h g = rw (faults s z h g)
+
 -- an integer has one outcome
 int_one : (t : List ℕ) (i : ℕ) (r q : Result ℕ Stop) → MatchResult r (IsInt t i) (IsIntFault t i) → MatchResult q (IsInt t i) (IsIntFault t i) → r ≡ q
-int_one t i (Ok j) (Ok k) h g = let e : j ≡ k = grind arith in cc
-int_one t i (Ok j) (Err s) h g = absurd (grind arith)
-int_one t i (Err s) (Ok j) h g = absurd (grind arith)
-int_one t i (Err s) (Err z) h g = let e : s ≡ z = grind arith in cc
+int_one t i r q = match_one (IsInt t i) (IsIntFault t i) r q (λ j k h g. grind arith) (λ s z h g. grind arith) (λ j s h g. grind arith)
 
 -- so has what comes after it
 tail_one : (t : List ℕ) (Starts : Type 0) (d i : ℕ) (r q : Result ℕ Stop) → MatchResult r (Tail t Starts d i) (TailFault t Starts d)
     → MatchResult q (Tail t Starts d i) (TailFault t Starts d) → r ≡ q
-tail_one t Starts d i (Ok j) (Ok k) h g = let e : j ≡ k = grind arith in cc
-tail_one t Starts d i (Ok j) (Err s) h g = absurd (grind arith)
-tail_one t Starts d i (Err s) (Ok j) h g = absurd (grind arith)
-tail_one t Starts d i (Err s) (Err z) h g = let e : s ≡ z = grind arith in cc
+tail_one t Starts d i r q =
+    match_one (Tail t Starts d i) (TailFault t Starts d) r q (λ j k h g. grind arith) (λ s z h g. grind arith) (λ j s h g. grind arith)
 
 -- the outcome of two parts, of which the second begins where the first ends
 abbrev Then : (Result ℕ Stop → Type 0) → (ℕ → Result ℕ Stop → Type 0) → Result ℕ Stop → Type 0

@@ -9,9 +9,11 @@ use Rattle.sonic_text.specs.Values.IsValue.{empty}
 use Rattle.sonic_text.specs.Faults.{in_key}
 use Rattle.sonic_text.proofs.Insides.{item_whole, item_before_end, not_past_byte}
 use Rattle.sonic_text.proofs.Items.{LastItem, at_key, at_value, head_one, head_some, head-later, closing_no_comma}
-use Rattle.sonic_text.proofs.Parts.{IsPart, byte_part}
+use Rattle.sonic_text.proofs.Parts.{IsPart}
 use Rattle.sonic_text.proofs.Places.{after_space_later}
-use Rattle.sonic_text.proofs.ValueParts.{after_part, head_part, items_part, value_part}
+use Rattle.sonic_text.proofs.Same.{after_same}
+use Rattle.sonic_text.proofs.SameValues.{value_same, items_same, head_same}
+use Rattle.sonic_text.proofs.ValueParts.{number_agrees, item_agrees}
 use Rattle.sonic_text.proofs.Values.{ContainerOutcome, no_item, at_last, container_outcome, items-later, items_before, items_not_empty, items_one, items_open, value-longer, value_end_one, value_never_both}
 
 -- the part u of t begins at d, and from its place x on it has a whole value of the text
@@ -26,7 +28,7 @@ module _ {m : Bool} {t u : List ℕ} {d x : ℕ} (has : IsInPart m t u d x) wher
   pub value_down : IsValue m u x (has.end - d)
   value_down =
       let l = value-longer has.value in
-      value_part has.part x (has.end - d) refl (omega arith) (omega (arith, has.within)) has.value
+      value_same (number_agrees has.part (omega arith) (omega (arith, has.within))) refl has.value
 
   -- an item of it has a whole value
   pub item_in_part : {kind : Kind} {n h v : ℕ} {l : Option (List ℕ)} (y : ℕ) → v ≡ d + y → ItemsFit m t kind (d + x) n h → ItemHead m t kind h v l
@@ -45,12 +47,12 @@ module _ {m : Bool} {t u : List ℕ} {d x : ℕ} (has : IsInPart m t u d x) wher
 
   -- items of the text are in the part
   pub items_down : {kind : Kind} {n h v : ℕ} {l : Option (List ℕ)} → ItemsFit m t kind (d + x) n h → ItemHead m t kind h v l → ItemsFit m u kind x n (h - d)
-  items_down {h = h} is z = let l = item_later is z in items_part has.part x (h - d) refl (omega arith) (omega arith) is
+  items_down {h = h} is z = let l = item_later is z in items_same (item_agrees has.part (omega arith) (omega arith)) refl is
 
   -- and so is what comes before the value of one
   pub head_down : {kind : Kind} {n h v : ℕ} {l : Option (List ℕ)} → ItemsFit m t kind (d + x) n h → ItemHead m t kind h v l
       → ItemHead m u kind (h - d) (v - d) l
-  head_down {h = h} {v} is z = let l = item_later is z in head_part has.part (h - d) (v - d) (omega arith) (omega arith) (omega arith) z
+  head_down {h = h} {v} is z = let l = item_later is z in head_same (item_agrees has.part (omega arith) (omega arith)) (omega arith) z
 
   -- items that are as many are at one place
   placed : {kind : Kind} {n h g v : ℕ} {l : Option (List ℕ)} → ItemsFit m u kind x n h → ItemsFit m t kind (d + x) n g → ItemHead m t kind g v l
@@ -63,7 +65,7 @@ module _ {m : Bool} {t u : List ℕ} {d x : ℕ} (has : IsInPart m t u d x) wher
 
   -- its first byte is the same
   pub first_byte : byte u x ≡ byte t (d + x)
-  first_byte = let l = value-longer has.value in byte_part has.part (d + x) x refl (omega (arith, has.within))
+  first_byte = let l = value-longer has.value in has.part.bytes (d + x) x refl (omega (arith, has.within))
 
   -- so is the bracket of a container
   pub opens : (kind : Kind) → byte u x ≡ opening kind → byte t (d + x) ≡ opening kind
@@ -74,8 +76,7 @@ module _ {m : Bool} {t u : List ℕ} {d x : ℕ} (has : IsInPart m t u d x) wher
       → byte u (after_space u (x + 1)) ≡ closing kind
   empty_down kind b c =
       let one = value_end_one (empty kind b c refl) has.value in
-      let g = after_part has.part (closing kind) (d + x + 1) (x + 1) has.end (omega arith) (omega arith) has.within c in
-      g.1
+      (after_same (d + x + 1) (x + 1) (omega arith) (closing kind) has.part (omega (arith, has.within)) c).1
 
   -- and one with items has items there
   pub filled_down : {kind : Kind} {n h : ℕ} → ItemsFit m t kind (d + x) n h → LastItem m t kind h (Ok has.end)
@@ -98,8 +99,8 @@ module _ {m : Bool} {t u : List ℕ} {d x : ℕ} (has : IsInPart m t u d x) wher
         let o = value-longer y in
         let ends : has.end ≡ after_space t e + 1 = (let f = q.1 in cc) in
         let a = after_space_later t e in
-        let b = after_part has.part (closing kind) e (e - d) has.end (omega arith) (omega arith) has.within q.0 in
-        let w = value_part has.part (v - d) (e - d) (omega arith) (omega arith) (omega (arith, has.within)) y in
+        let b = after_same e (e - d) (omega arith) (closing kind) has.part (omega (arith, has.within)) q.0 in
+        let w : IsValue m u (v - d) (e - d) = value_same (number_agrees has.part (omega arith) (omega (arith, has.within))) (omega arith) y in
         absurd (not_past_byte (items_down fs z) more (head_down fs z) w (λ c. closing_no_comma kind (sym b.1 ∙ c)) is)
   ]
 

@@ -64,6 +64,12 @@ past_plain {m} {t} {i} {p} {q} later within plain s =
     let chars = plain_chars (q - p) (λ k from to. plain k from (omega arith)) (s.bytes, s.chars) in
     record { opens = s.opens; later = omega (arith, s.later); within = within; bytes = chars.0; chars = subst (λ k. AreChars m t (i + 1) k chars.0) back chars.1 }
 
+-- past those before the next special byte of a block
+pub past_special : {m : Bool} {t : List ℕ} {i p word n k : ℕ} → AreSpecial t p word → IsNextBit word n k → IsInString m t i (p + n) → IsInString m t i (p + k)
+past_special special next s =
+    let few = special.few _ next.here in
+    past_plain (omega (arith, next.later)) (omega (arith, special.within, few)) (plain_to_special special next) s
+
 -- past a char
 pub past_char : {m : Bool} {t : List ℕ} {i p q : ℕ} {b : List ℕ} → p < q → q ≤ length t → IsChar m t p q b → IsInString m t i p → IsInString m t i q
 past_char later within char s = record { opens = s.opens; later = omega (arith, s.later); within = within; bytes = _; chars = one_more s.chars char refl }

@@ -1,5 +1,5 @@
--- Two texts that hold the same bytes before a place: white space, words and numbers that end there are in both.
-use Rattle.std.proofs.Common.{◌≡◌, ◌≢◌, ◌∙◌, ℕ, ◌+◌, ◌<◌, ◌≤◌, Bool, true, false, inl, inr, List, ◌++◌, length, take, drop, get_or, arith, refl, sym}
+-- A text that holds the bytes of another one from a place on: white space, words and numbers that end there are in both.
+use Rattle.std.proofs.Common.{◌≡◌, ◌≢◌, ◌⊎◌, ◌∙◌, ℕ, ◌+◌, ◌-◌, ◌<◌, ◌≤◌, Bool, true, false, inl, inr, List, ◌++◌, length, take, drop, get_or, zero-add, arith, refl, sym}
 use Rattle.std.proofs.lemmas.Bool.{cases_lt}
 use Rattle.std.proofs.lemmas.Bool.Decides.{nat_tests}
 use Rattle.std.proofs.lemmas.List.{get_or-drop, get_or-take, get_or_append_left, get_or_past, length-take, length-drop, length-append}
@@ -9,105 +9,105 @@ use Rattle.std.specs.Char.{is_ascii_digit}
 use Rattle.sonic_text.specs.Places.{byte, is_space, after_space, digits_end, IsDigit}
 use Rattle.sonic_text.specs.Literals.{IsLiteral}
 use Rattle.sonic_text.specs.Numbers.{after_minus, after_sign, IsInt, IsFraction, IsE, IsExponent, IsNumber}
-use Rattle.sonic_text.proofs.Places.{digits_end_later, digit_passes}
+use Rattle.sonic_text.proofs.Places.{digits_end_later}
 use Rattle.sonic_text.proofs.Numbers.{Tail, int_longer, after_minus_later, after_sign_later, fraction_later, exponent_later}
 
--- both texts reach to n, and hold the same bytes before it
-pub record Same (t u : List ℕ) (n : ℕ) : Type 0 where
-  pub reach_t : n ≤ length t
+-- u holds before its place n the bytes that t holds from d on
+pub record Shared (t u : List ℕ) (d n : ℕ) : Type 0 where
+  pub reach_t : d + n ≤ length t
   pub reach_u : n ≤ length u
-  pub bytes : (k : ℕ) → k < n → byte u k ≡ byte t k
+  pub bytes : (p q : ℕ) → p ≡ d + q → q < n → byte u q ≡ byte t p
 
--- so they do before an earlier place
-pub same_less : {t u : List ℕ} {n : ℕ} (k : ℕ) → Same t u n → k ≤ n → Same t u k
+-- both texts hold the same bytes before n
+abbrev pub Same : List ℕ → List ℕ → ℕ → Type 0
+Same t u n = Shared t u 0 n
+
+pub same_byte : {t u : List ℕ} {n : ℕ} → Same t u n → (k : ℕ) → k < n → byte u k ≡ byte t k
+same_byte h k l = h.bytes k k (omega arith) l
+
+-- they share those before an earlier place
+pub same_less : {t u : List ℕ} {d n : ℕ} (k : ℕ) → Shared t u d n → k ≤ n → Shared t u d k
 same_less k h l =
     let a = h.reach_t in
     let b = h.reach_u in
-    record { reach_t = omega arith; reach_u = omega arith; bytes = λ p o. h.bytes p (omega arith) }
+    record { reach_t = omega arith; reach_u = omega arith; bytes = λ p q e o. h.bytes p q e (omega arith) }
 
 -- the other way round
 pub same_back : {t u : List ℕ} {n : ℕ} → Same t u n → Same u t n
-same_back h = record { reach_t = h.reach_u; reach_u = h.reach_t; bytes = λ p o. sym (h.bytes p o) }
+same_back h =
+    let a = h.reach_t in
+    let b = h.reach_u in
+    record { reach_t = omega arith; reach_u = omega arith; bytes = λ p q e o. sym (h.bytes q p (omega arith) (omega arith)) }
 
 -- texts that begin with the same bytes
 pub same_prefix : (t u : List ℕ) (n : ℕ) → n ≤ length t → take n u ≡ take n t → Same t u n
 same_prefix t u n l e =
     let f : length (take n u) ≡ length (take n t) = rw e refl in
     record {
-      reach_t = l;
+      reach_t = omega arith;
       reach_u = omega (arith, length-take n u, length-take n t);
-      bytes = λ k o. sym (get_or-take n u k 0 o) ∙ (rw e (get_or-take n t k 0 o));
+      bytes = λ p q z o. rw z (sym (get_or-take n u q 0 o) ∙ (rw (e, zero-add) (get_or-take n t q 0 o)));
     }
 
 -- a text and a longer one
 pub same_longer : (t w : List ℕ) (n : ℕ) → n ≤ length t → Same t (t ++ w) n
 same_longer t w n l = record {
-  reach_t = l;
+  reach_t = omega arith;
   reach_u = omega (arith, length-append t w);
-  bytes = λ k o. get_or_append_left t w 0 k (omega arith);
+  bytes = λ p q z o. rw (z, zero-add) (get_or_append_left t w 0 q (omega arith));
 }
 
 -- the whole of a text in a longer one
 pub same_whole : (t w : List ℕ) → Same t (t ++ w) (length t)
 same_whole t w = same_longer t w (length t) (omega arith)
 
--- at n is the same byte, or one of these
-pub data Alike (P : ℕ → Type 0) (t u : List ℕ) (n : ℕ) : Type 0 where
-  same : byte u n ≡ byte t n → Alike P t u n
-  other : P (byte u n) → Alike P t u n
+-- u holds before its place k what t holds from d up to j, and there the byte of t, or one of these
+pub record Agrees (P : ℕ → Type 0) (t u : List ℕ) (d j k : ℕ) : Type 0 where
+  pub place : j ≡ d + k
+  pub before : Shared t u d k
+  pub next : (byte u k ≡ byte t j) ⊎ P (byte u k)
 
--- or one of more
-pub alike_more : {P Q : ℕ → Type 0} {t u : List ℕ} {n : ℕ} → ((b : ℕ) → P b → Q b) → Alike P t u n → Alike Q t u n
-alike_more f (same e) = same e
-alike_more f (other h) = other (f _ h)
+-- so it is at each place of what they share
+pub agree_at : {P : ℕ → Type 0} {t u : List ℕ} {d n : ℕ} → Shared t u d n → (j k : ℕ) → j ≡ d + k → k < n → Agrees P t u d j k
+agree_at h j k e l = record { place = e; before = same_less k h (omega arith); next = inl (h.bytes j k e l) }
 
--- before n is the same byte
-pub alike_at : {P : ℕ → Type 0} {t u : List ℕ} {n : ℕ} (k : ℕ) → Same t u n → Alike P t u n → k ≤ n → Alike P t u k
-alike_at {P} {t} {u} {n} k h a l = elim (cases_lt k n) [
-  | inl o ↦ same (h.bytes k o)
-  | inr o ↦ let e : n ≡ k = omega arith in rw e at a
-]
+-- and at its end, where one of these is
+pub agree_other : {P : ℕ → Type 0} {t u : List ℕ} {n : ℕ} → Same t u n → P (byte u n) → Agrees P t u 0 n n
+agree_other h o = record { place = omega arith; before = h; next = inr o }
 
--- what holds of the byte of t holds of the byte of u
-pub alike_keeps : {P : ℕ → Type 0} {t u : List ℕ} {n : ℕ} → Alike P t u n → P (byte t n) → P (byte u n)
-alike_keeps (same e) h = rw e h
-alike_keeps (other g) h = g
+module _ {P : ℕ → Type 0} {t u : List ℕ} {d j k : ℕ} (h : Agrees P t u d j k) where
+  -- they agree up to each place that isn't later
+  pub up_to : (p q : ℕ) → p ≡ d + q → p ≤ j → Agrees P t u d p q
+  up_to p q e l = elim (cases_lt p j) [
+    | inl o ↦ (let f = h.place in agree_at h.before p q e (omega arith))
+    | inr o ↦
+        let f = h.place in
+        let a : p ≡ j = omega arith in
+        let b : q ≡ k = omega arith in
+        rw (a, b) h
+  ]
+
+  -- what holds of the byte of t holds of the byte of u
+  pub keeps : {Q : ℕ → Type 0} → ((b : ℕ) → P b → Q b) → Q (byte t j) → Q (byte u k)
+  keeps f g = elim h.next [ inl e ↦ rw e g | inr o ↦ f _ o ]
+
+  -- one of more bytes may be there
+  pub weaker : {Q : ℕ → Type 0} → ((b : ℕ) → P b → Q b) → Agrees Q t u d j k
+  weaker f = record { place = h.place; before = h.before; next = elim h.next [ inl e ↦ inl e | inr o ↦ inr (f _ o) ] }
 
 -- a run ends where the test fails
-run_stops : (f : ℕ → Bool) (t : List ℕ) (i n : ℕ) → f 0 ≡ false → i + prefix_len f (drop i t) ≡ n → f (byte t n) ≡ false
+run_stops : (f : ℕ → Bool) (t : List ℕ) (i n : ℕ) → f 0 ≡ false → n ≡ i + prefix_len f (drop i t) → f (byte t n) ≡ false
 run_stops f t i n z e =
     let r = prefix_len f (drop i t) in
-    let g : byte t n ≡ get_or (drop i t) r 0 = rw (← e) (sym (get_or-drop i t r 0)) in
+    let g : byte t n ≡ get_or (drop i t) r 0 = rw e (sym (get_or-drop i t r 0)) in
     elim (cases_lt r (length (drop i t))) [
       | inl l ↦ rw g (prefix_len_stops f (drop i t) 0 l)
       | inr l ↦ rw (g, get_or_past (drop i t) r 0 l) z
     ]
 
--- a run that ends at n does so in both texts, where the test fails there
-run_same : (f : ℕ → Bool) {t u : List ℕ} (i n : ℕ) → Same t u n → f (byte u n) ≡ false → i + prefix_len f (drop i t) ≡ n → i + prefix_len f (drop i u) ≡ n
-run_same f {t} {u} i n h s e =
-    let r = prefix_len f (drop i t) in
-    let a = h.reach_u in
-    let l : r ≤ length (drop i u) = omega (arith, length-drop i u) in
-    let passes : (k : ℕ) → k < r → f (get_or (drop i u) k 0) ≡ true = λ k o.
-    let q : get_or (drop i u) k 0 ≡ get_or (drop i t) k 0 = get_or-drop i u k 0 ∙ h.bytes (i + k) (omega arith) ∙ sym (get_or-drop i t k 0) in
-    rw q (prefix_len_passes f (drop i t) k 0 o) in
-    let stops : r < length (drop i u) → f (get_or (drop i u) r 0) ≡ false = λ o. rw (get_or-drop i u r 0, e) s in
-    let g : prefix_len f (drop i u) ≡ r = prefix_len_is f (drop i u) r 0 l passes stops in
-    rw g e
-
 -- no white space
 abbrev pub NoSpace : ℕ → Type 0
 NoSpace b = is_space b ≡ false
-
--- white space that ends at n does so in both
-pub space_same : {t u : List ℕ} (i n : ℕ) → Same t u n → Alike NoSpace t u n → n ≡ after_space t i → n ≡ after_space u i
-space_same {t} {u} i n h a e = sym (run_same is_space i n h (alike_keeps a (run_stops is_space t i n refl (sym e))) (sym e))
-
--- white space that ends before n
-pub space_before : {t u : List ℕ} {n : ℕ} (i : ℕ) → Same t u n → after_space t i < n → after_space u i ≡ after_space t i
-space_before {t} i h l =
-    sym (space_same i (after_space t i) (same_less (after_space t i) h (omega arith)) (same (h.bytes (after_space t i) l)) refl)
 
 -- no digit
 abbrev pub NoDigit : ℕ → Type 0
@@ -116,86 +116,132 @@ NoDigit b = ¬ IsDigit b
 no_digit_fails : (b : ℕ) → NoDigit b → is_ascii_digit b ≡ false
 no_digit_fails b h = grind (arith, nat_tests)
 
-fails_no_digit : (b : ℕ) → is_ascii_digit b ≡ false → NoDigit b
-fails_no_digit b e h = let g = digit_passes b h in absurd (cc)
-
--- digits that end at n do so in both
-pub digits_same : {t u : List ℕ} (i n : ℕ) → Same t u n → Alike NoDigit t u n → n ≡ digits_end t i → n ≡ digits_end u i
-digits_same {t} {u} i n h a e =
-    let s = alike_keeps a (fails_no_digit _ (run_stops is_ascii_digit t i n refl (sym e))) in
-    sym (run_same is_ascii_digit i n h (no_digit_fails _ s) (sym e))
-
 -- a byte that ends a number
 abbrev pub NoMore : ℕ → Type 0
 NoMore b = NoDigit b × (b ≢ 46) × ¬ IsE b
 
--- a minus sign
-pub minus_same : (t u : List ℕ) (i : ℕ) → byte u i ≡ byte t i → after_minus u i ≡ after_minus t i
-minus_same t u i e = rw e refl
+module _ {t u : List ℕ} {d j k : ℕ} (i x : ℕ) (e : i ≡ d + x) where
+  -- a run that ends at j does so in both texts
+  run_same : (f : ℕ → Bool) → f 0 ≡ false → Agrees (λ b. f b ≡ false) t u d j k → j ≡ i + prefix_len f (drop i t) → k ≡ x + prefix_len f (drop x u)
+  run_same f z h q =
+      let r = prefix_len f (drop i t) in
+      let p = h.place in
+      let a = h.before.reach_u in
+      let y : k ≡ x + r = omega arith in
+      let s : f (byte u k) ≡ false = keeps h (λ b o. o) (run_stops f t i j z q) in
+      let l : r ≤ length (drop x u) = omega (arith, length-drop x u) in
+      let passes : (n : ℕ) → n < r → f (get_or (drop x u) n 0) ≡ true = λ n o.
+      let g : get_or (drop x u) n 0 ≡ get_or (drop i t) n 0 =
+      get_or-drop x u n 0 ∙ h.before.bytes (i + n) (x + n) (omega arith) (omega arith) ∙ sym (get_or-drop i t n 0) in
+      rw g (prefix_len_passes f (drop i t) n 0 o) in
+      let stops : r < length (drop x u) → f (get_or (drop x u) r 0) ≡ false = λ o. rw (get_or-drop x u r 0) (rw y at s) in
+      let g : prefix_len f (drop x u) ≡ r = prefix_len_is f (drop x u) r 0 l passes stops in
+      rw g y
 
--- a sign
-pub sign_same : (t u : List ℕ) (i : ℕ) → byte u i ≡ byte t i → after_sign u i ≡ after_sign t i
-sign_same t u i e = rw e refl
+  -- white space that ends at j does so in both
+  pub space_same : Agrees NoSpace t u d j k → j ≡ after_space t i → k ≡ after_space u x
+  space_same h q = run_same is_space refl h q
 
--- an integer
-pub int_same : {t u : List ℕ} (i j : ℕ) → Same t u j → Alike NoMore t u j → IsInt t i j → IsInt u i j
-int_same {t} {u} i j h a (inl g) =
-    let e : i + 1 ≡ j = omega (arith, g.2) in
-    let n : NoDigit (byte t j) = rw e at g.1 in
-    let o : NoDigit (byte u j) = alike_keeps (alike_more (λ b h. h.0) a) n in
-    inl (h.bytes i (omega arith) ∙ g.0, rw e o, g.2)
-int_same {t} {u} i j h a (inr g) =
-    let b : byte u i ≡ byte t i = h.bytes i (int_longer t i j (inr g)) in
-    inr (rw b g.0, rw b g.1, digits_same i j h (alike_more (λ b h. h.0) a) g.2)
+  -- digits that end at j do so in both
+  pub digits_same : Agrees NoDigit t u d j k → j ≡ digits_end t i → k ≡ digits_end u x
+  digits_same h q = run_same is_ascii_digit refl (weaker h no_digit_fails) q
 
--- what begins by this byte, with digits after it, or nothing where another byte is
-tail_same : {t u : List ℕ} (Starts : ℕ → Type 0) (d c i j : ℕ) → i < d → (d < j → c ≡ d) → Same t u j → Alike NoDigit t u j → Alike (λ b. ¬ Starts b) t u j
-    → Tail t (Starts (byte t i)) d i j → Tail u (Starts (byte u i)) c i j
-tail_same {t} {u} Starts d c i j o e h a n (inl g) =
-    let l : d < j = rw g.2 (digits_end_later t d g.1) in
-    let b : byte u i ≡ byte t i = h.bytes i (omega arith) in
-    let f : byte u d ≡ byte t d = h.bytes d l in
-    let k : IsDigit (byte u d) = rw f g.1 in
-    inl (rw b g.0, rw (e l) k, rw (e l) (digits_same d j h a g.2))
-tail_same {t} {u} Starts d c i j o e h a n (inr g) =
-    let f : ¬ Starts (byte t j) = rw g.1 g.0 in
-    let k : ¬ Starts (byte u j) = alike_keeps n f in
-    inr (rw (← g.1) k, g.1)
+module _ {t u : List ℕ} {d : ℕ} (i x : ℕ) (e : i ≡ d + x) where
+  -- white space that ends before n
+  pub space_there : {n : ℕ} → Shared t u d n → after_space t i < d + n → after_space t i ≡ d + after_space u x
+  space_there h l =
+      let p = after_space t i in
+      let q = p - d in
+      let a : p ≡ d + q = omega arith in
+      let s : q ≡ after_space u x = space_same i x e (agree_at h p q a (omega arith)) refl in
+      rw (← s) a
 
--- a fraction
-pub fraction_same : {t u : List ℕ} (i j : ℕ) → Same t u j → Alike NoMore t u j → IsFraction t i j → IsFraction u i j
-fraction_same i j h a =
-    tail_same (λ b. b ≡ 46) (i + 1) (i + 1) i j (omega arith) (λ l. refl) h (alike_more (λ b h. h.0) a) (alike_more (λ b h. h.1) a)
+  -- and the byte after it
+  pub after_same : {n : ℕ} (b : ℕ) → Shared t u d n → after_space t i < d + n → byte t (after_space t i) ≡ b
+      → (after_space t i ≡ d + after_space u x) × (byte u (after_space u x) ≡ b)
+  after_same b h l f = let a = space_there h l in (a, h.bytes (after_space t i) (after_space u x) a (omega arith) ∙ f)
 
--- an exponent
-pub exponent_same : {t u : List ℕ} (i j : ℕ) → Same t u j → Alike NoMore t u j → IsExponent t i j → IsExponent u i j
-exponent_same {t} {u} i j h a =
-    let l = after_sign_later t (i + 1) in
-    tail_same IsE (after_sign t (i + 1)) (after_sign u (i + 1)) i j (omega arith) (λ o. sign_same t u (i + 1) (h.bytes (i + 1) (omega arith))) h
-    (alike_more (λ b h. h.0) a) (alike_more (λ b h. h.2) a)
+  -- a minus sign
+  minus_same : {n : ℕ} → Shared t u d n → x < n → after_minus t i ≡ d + after_minus u x
+  minus_same h l = let b = h.bytes i x e l in grind (arith, nat_tests)
 
--- a number
-pub number_same : {t u : List ℕ} {i j : ℕ} → Same t u j → Alike NoMore t u j → IsNumber t i j → IsNumber u i j
-number_same {t} {u} {i} {j} h a g =
-    let s = after_minus t i in
-    let m : i ≤ s = after_minus_later t i in
-    let n : s < g.int_end = int_longer t s g.int_end g.int in
-    let o : g.int_end ≤ g.fraction_end = fraction_later t g.int_end g.fraction_end g.fraction in
-    let r : g.fraction_end ≤ j = exponent_later t g.fraction_end j g.exponent in
-    let e : after_minus u i ≡ s = minus_same t u i (h.bytes i (omega arith)) in
-    let w = g.int_end in
-    let f = g.fraction_end in
-    record {
-      int_end = w;
-      fraction_end = f;
-      int = rw e (int_same s w (same_less w h (omega arith)) (alike_at w h a (omega arith)) g.int);
-      fraction = fraction_same w f (same_less f h r) (alike_at f h a r) g.fraction;
-      exponent = exponent_same f j h a g.exponent;
-    }
+  -- a sign
+  sign_same : {n : ℕ} → Shared t u d n → x < n → after_sign t i ≡ d + after_sign u x
+  sign_same h l = let b = h.bytes i x e l in grind (arith, nat_tests)
 
--- a word
-pub literal_same : (word : List ℕ) {t u : List ℕ} (i j : ℕ) → Same t u j → IsLiteral word t i j → IsLiteral word u i j
-literal_same word {t} {u} i j h g =
-    let e = g.1 in
-    let a = h.reach_u in
-    ((omega arith, λ k o. h.bytes (i + k) (omega arith) ∙ g.0.1 k o), e)
+-- in texts that begin alike white space before n ends at one place
+pub space_before : {t u : List ℕ} {n : ℕ} (i : ℕ) → Same t u n → after_space t i < n → after_space u i ≡ after_space t i
+space_before i h l = omega (arith, space_there i i (omega arith) h (omega arith))
+
+module _ {t u : List ℕ} {d j k : ℕ} (i x : ℕ) (e : i ≡ d + x) where
+  -- an integer
+  pub int_same : Agrees NoMore t u d j k → IsInt t i j → IsInt u x k
+  int_same h (inl g) =
+      let p = h.place in
+      let a : j ≡ i + 1 = g.2 in
+      let y : k ≡ x + 1 = omega arith in
+      let n : NoDigit (byte u k) = keeps h (λ b o. o.0) (rw a g.1) in
+      inl (h.before.bytes i x e (omega arith) ∙ g.0, rw y at n, y)
+  int_same h (inr g) =
+      let p = h.place in
+      let l : i < j = int_longer t i j (inr g) in
+      let b : byte u x ≡ byte t i = h.before.bytes i x e (omega arith) in
+      inr (rw b g.0, rw b g.1, digits_same i x e (weaker h (λ b o. o.0)) g.2)
+
+  -- what begins by this byte, with digits after it, or nothing where another byte is
+  tail_same : (Starts : ℕ → Type 0) (a c : ℕ) → i < a → (a < j → a ≡ d + c) → ((b : ℕ) → NoMore b → ¬ Starts b) → Agrees NoMore t u d j k
+      → Tail t (Starts (byte t i)) a i j → Tail u (Starts (byte u x)) c x k
+  tail_same Starts a c o f n h (inl g) =
+      let p = h.place in
+      let l : a < j = rw g.2 (digits_end_later t a g.1) in
+      let y = f l in
+      let b : byte u x ≡ byte t i = h.before.bytes i x e (omega arith) in
+      let z : byte u c ≡ byte t a = h.before.bytes a c y (omega arith) in
+      inl (rw b g.0, rw z g.1, digits_same a c y (weaker h (λ b o. o.0)) g.2)
+  tail_same Starts a c o f n h (inr g) =
+      let p = h.place in
+      let y : k ≡ x = omega (arith, g.1) in
+      let z : ¬ Starts (byte u k) = keeps h n (rw g.1 g.0) in
+      inr (rw y at z, y)
+
+  -- a fraction
+  pub fraction_same : Agrees NoMore t u d j k → IsFraction t i j → IsFraction u x k
+  fraction_same = tail_same (λ b. b ≡ 46) (i + 1) (x + 1) (omega arith) (λ l. omega arith) (λ b o. o.1)
+
+  -- an exponent
+  exponent_same : Agrees NoMore t u d j k → IsExponent t i j → IsExponent u x k
+  exponent_same h =
+      let l = after_sign_later t (i + 1) in
+      let p = h.place in
+      tail_same IsE (after_sign t (i + 1)) (after_sign u (x + 1)) (omega arith)
+      (λ o. sign_same (i + 1) (x + 1) (omega arith) h.before (omega arith)) (λ b o. o.2) h
+
+module _ {t u : List ℕ} {d j k : ℕ} (i x : ℕ) (e : i ≡ d + x) where
+  -- a number
+  pub number_same : Agrees NoMore t u d j k → IsNumber t i j → IsNumber u x k
+  number_same h g =
+      let s = after_minus t i in
+      let p = h.place in
+      let m : i ≤ s = after_minus_later t i in
+      let n : s < g.int_end = int_longer t s g.int_end g.int in
+      let o : g.int_end ≤ g.fraction_end = fraction_later t g.int_end g.fraction_end g.fraction in
+      let r : g.fraction_end ≤ j = exponent_later t g.fraction_end j g.exponent in
+      let a : s ≡ d + after_minus u x = minus_same i x e h.before (omega arith) in
+      let v = g.int_end - d in
+      let w = g.fraction_end - d in
+      let f : g.fraction_end ≡ d + w = omega arith in
+      let to_w = up_to h g.fraction_end w f r in
+      record {
+        int_end = v;
+        fraction_end = w;
+        int = int_same s (after_minus u x) a (up_to h g.int_end v (omega arith) (omega arith)) g.int;
+        fraction = fraction_same g.int_end v (omega arith) to_w g.fraction;
+        exponent = exponent_same g.fraction_end w f h g.exponent;
+      }
+
+  -- a word
+  pub literal_same : (word : List ℕ) → j ≡ d + k → Shared t u d k → IsLiteral word t i j → IsLiteral word u x k
+  literal_same word f h g =
+      let a = h.reach_u in
+      let b : k ≡ x + length word = omega (arith, g.1) in
+      ((omega arith, λ n o. h.bytes (i + n) (x + n) (omega arith) (omega arith) ∙ g.0.1 n o), b)

@@ -1,5 +1,5 @@
--- Two texts that hold the same bytes before a place: strings that end there are in both, and so are wrong bytes of escapes.
-use Rattle.std.proofs.Common.{◌≡◌, ◌≢◌, ◌⊎◌, ◌∙◌, ℕ, ◌+◌, ◌<◌, ◌≤◌, Bool, inl, inr, List, arith, refl, sym}
+-- A text that holds the bytes of another one from a place on: strings that end there are in both, and so are wrong bytes of escapes.
+use Rattle.std.proofs.Common.{◌≡◌, ◌≢◌, ◌⊎◌, ◌∙◌, ℕ, ◌+◌, ◌-◌, ◌<◌, ◌≤◌, Bool, inl, inr, List, arith, refl, sym}
 use Rattle.std.proofs.lemmas.Bool.{cases_lt}
 use Rattle.std.proofs.lemmas.Bool.Decides.{nat_tests}
 use Rattle.sonic_text.specs.Places.{byte}
@@ -11,26 +11,34 @@ use Rattle.sonic_text.proofs.EscapeLemmas.{unicode_longer, char_longer, char_one
 use Rattle.sonic_text.proofs.HexDigitLemmas.{low_all, low_right}
 use Rattle.sonic_text.proofs.EscapeFaultLemmas.{escaped_letter}
 use Rattle.sonic_text.proofs.Strings.{chars_later}
-use Rattle.sonic_text.proofs.StringPartLemmas.{escape_same}
-use Rattle.sonic_text.proofs.Same.{Same, same_less, same_back}
+use Rattle.sonic_text.proofs.Same.{Shared, Same, same_byte, same_less}
 
--- an escape
-pub escape_same_at : {t u : List ℕ} (p q n : ℕ) → Same t u q → p + 6 ≤ q → IsEscape t p n → IsEscape u p n
-escape_same_at {t} {u} p q n h l e = escape_same t p u p n (λ x y k s f g. let o : y ≡ x = omega arith in rw o (h.bytes x (omega arith))) e
+-- where six bytes are the same, so is the escape
+escape_as : (t : List ℕ) (p : ℕ) (u : List ℕ) (q n : ℕ) → ((x y k : ℕ) → k < 6 → x ≡ p + k → y ≡ q + k → byte u y ≡ byte t x) → IsEscape t p n → IsEscape u q n
+escape_as t p u q n same h =
+    let g = h.2 in (
+      same p q 0 (omega arith) (omega arith) (omega arith) ∙ h.0,
+      same (p + 1) (q + 1) 1 (omega arith) refl refl ∙ h.1,
+      record {
+        a = g.a;
+        b = g.b;
+        c = g.c;
+        d = g.d;
+        first = rw (same (p + 2) (q + 2) 2 (omega arith) refl refl) g.first;
+        second = rw (same (p + 2 + 1) (q + 2 + 1) 3 (omega arith) (omega arith) (omega arith)) g.second;
+        third = rw (same (p + 2 + 2) (q + 2 + 2) 4 (omega arith) (omega arith) (omega arith)) g.third;
+        fourth = rw (same (p + 2 + 3) (q + 2 + 3) 5 (omega arith) (omega arith) (omega arith)) g.fourth;
+        number = g.number;
+      },
+    )
 
 -- where a lossy reader looks on for a second half, u has none that t doesn't have
-abbrev pub NoNewLow : Bool → List ℕ → List ℕ → ℕ → Type 0
-NoNewLow m t u k = m ≡ lossy → IsLowEscape u k → IsLowEscape t k
+abbrev pub NoNewLow : Bool → List ℕ → List ℕ → ℕ → ℕ → Type 0
+NoNewLow m t u j k = m ≡ lossy → IsLowEscape u k → IsLowEscape t j
 
 -- there is none where no backslash is
-pub no_new_low : (m : Bool) (t u : List ℕ) (k : ℕ) → byte u k ≢ 92 → NoNewLow m t u k
-no_new_low m t u k n e z = absurd (n z.1.0)
-
--- nor a new one where a whole char of t is
-low_before : {m : Bool} {t u : List ℕ} {p k : ℕ} {c : List ℕ} → Same t u k → IsChar m t p k c → NoNewLow m t u p
-low_before {p = p} h (unescaped g e f) r z = absurd (g.2 (sym (h.bytes p (omega arith)) ∙ z.1.0))
-low_before {t = t} {p = p} h (short_escape g o e f) r z = absurd ((escaped_letter _ _ o).1 (sym (h.bytes (p + 1) (omega arith)) ∙ z.1.1))
-low_before {p = p} {k} h (unicode_escape g o) r z = (z.0, escape_same_at p k z.0 (same_back h) (unicode_longer o) z.1, z.2)
+pub no_new_low : (m : Bool) (t u : List ℕ) (j k : ℕ) → byte u k ≢ 92 → NoNewLow m t u j k
+no_new_low m t u j k n e z = absurd (n z.1.0)
 
 -- a second half is at a place, or none is
 low_or_not : (t : List ℕ) (p : ℕ) → IsLowEscape t p ⊎ ¬ IsLowEscape t p
@@ -39,53 +47,78 @@ low_or_not t p = elim (first_false (λ d. is_low_byte d (byte t (p + d))) 6) [
   | inr (j, l, w, e) ↦ inr (λ (x, y, z). (let v = low_right t p y z j l in absurd (cc)))
 ]
 
--- the first half at p is alone in t, and in u a second half follows
-record IsPaired (m : Bool) (t u : List ℕ) (p q : ℕ) : Type 0 where
+-- the first half at x is alone in t, and in u a second half follows
+record IsPaired (m : Bool) (t u : List ℕ) (j x k : ℕ) : Type 0 where
   n : ℕ
   reads : m ≡ lossy
-  escape : IsEscape u p n
+  escape : IsEscape u x n
   high : IsHigh n
-  end : q ≡ p + 6
-  low : IsLowEscape u q
-  alone : ¬ IsLowEscape t q
+  end : k ≡ x + 6
+  low : IsLowEscape u k
+  alone : ¬ IsLowEscape t j
 
--- an escape's char
-unicode_same : {m : Bool} {t u : List ℕ} {p n q : ℕ} {b : List ℕ} → Same t u q → IsEscape t p n → IsUnicodeChar m t p n q b → IsChar m u p q b ⊎ IsPaired m t u p q
-unicode_same {p = p} {n} {q} h x (scalar g s e o) = inl (unicode_escape (escape_same_at p q n h (omega arith) x) (scalar g s e o))
-unicode_same {p = p} {n} {q} h x (pair {l = w} g y s e o) =
-    inl (unicode_escape (escape_same_at p q n h (omega arith) x) (pair {l = w} g (escape_same_at (p + 6) q w h (omega arith) y) s e o))
-unicode_same {u = u} {p} {n} {q} h x (lone_high r g s e o) = elim (low_or_not u q) [
-  | inl z ↦ inr (record { n = n; reads = r; escape = escape_same_at p q n h (omega arith) x; high = g; end = e; low = z; alone = rw e s })
-  | inr z ↦ inl (unicode_escape (escape_same_at p q n h (omega arith) x) (lone_high r g (rw e at z) e o))
-]
-unicode_same {p = p} {n} {q} h x (lone_low r g e o) = inl (unicode_escape (escape_same_at p q n h (omega arith) x) (lone_low r g e o))
+module _ {t u : List ℕ} {d k : ℕ} (h : Shared t u d k) where
+  -- an escape
+  pub escape_same : (p x n : ℕ) → p ≡ d + x → x + 6 ≤ k → IsEscape t p n → IsEscape u x n
+  escape_same p x n a l e = escape_as t p u x n (λ y z i s f g. h.bytes y z (omega arith) (omega arith)) e
 
--- a char, or the first half of a pair
-char_or_pair : {m : Bool} {t u : List ℕ} {p q : ℕ} {b : List ℕ} → Same t u q → IsChar m t p q b → IsChar m u p q b ⊎ IsPaired m t u p q
-char_or_pair {t = t} {u} {p} h (unescaped g e o) = let b : byte u p ≡ byte t p = h.bytes p (omega arith) in inl (unescaped (rw b g) e (rw b o))
-char_or_pair {t = t} {u} {p} h (short_escape {c = c} g f e o) =
-    let b : byte u (p + 1) ≡ byte t (p + 1) = h.bytes (p + 1) (omega arith) in
-    inl (short_escape {c = c} (h.bytes p (omega arith) ∙ g) (rw b f) e o)
-char_or_pair h (unicode_escape g o) = unicode_same h g o
+  -- an escape of u is one of t
+  pub escape_back : (p x n : ℕ) → p ≡ d + x → x + 6 ≤ k → IsEscape u x n → IsEscape t p n
+  escape_back p x n a l e = escape_as u x t p n (λ z y i s f g. sym (h.bytes y z (omega arith) (omega arith))) e
 
--- a char
-pub char_same : {m : Bool} {t u : List ℕ} {p q : ℕ} {b : List ℕ} → Same t u q → NoNewLow m t u q → IsChar m t p q b → IsChar m u p q b
-char_same h low c = elim (char_or_pair h c) [ inl x ↦ x | inr g ↦ absurd (g.alone (low g.reads g.low)) ]
+  -- where a whole char of t is, there is no new second half
+  low_before : {m : Bool} {p j : ℕ} {c : List ℕ} (x : ℕ) → p ≡ d + x → j ≡ d + k → IsChar m t p j c → NoNewLow m t u p x
+  low_before {p = p} x a s (unescaped g e f) r z = absurd (g.2 (sym (h.bytes p x a (omega arith)) ∙ z.1.0))
+  low_before {p = p} x a s (short_escape g o e f) r z =
+      absurd ((escaped_letter _ _ o).1 (sym (h.bytes (p + 1) (x + 1) (omega arith) (omega arith)) ∙ z.1.1))
+  low_before {p = p} x a s (unicode_escape g o) r z = (z.0, escape_back p x z.0 a (omega (arith, unicode_longer o)) z.1, z.2)
+
+  -- an escape's char
+  unicode_same : {m : Bool} {p n x j : ℕ} {b : List ℕ} → p ≡ d + x → j ≡ d + k → IsEscape t p n → IsUnicodeChar m t p n j b
+      → IsChar m u x k b ⊎ IsPaired m t u j x k
+  unicode_same {p = p} {n} {x} a s y (scalar g f e o) = inl (unicode_escape (escape_same p x n a (omega arith) y) (scalar g f (omega arith) o))
+  unicode_same {p = p} {n} {x} a s y (pair {l = w} g z f e o) =
+      inl (unicode_escape (escape_same p x n a (omega arith) y) (pair {l = w} g (escape_same (p + 6) (x + 6) w (omega arith) (omega arith) z) f (omega arith) o))
+  unicode_same {p = p} {n} {x} a s y (lone_high r g f e o) =
+      let q : k ≡ x + 6 = omega arith in
+      let v : IsEscape u x n = escape_same p x n a (omega arith) y in
+      elim (low_or_not u k) [
+        | inl z ↦ inr (record { n = n; reads = r; escape = v; high = g; end = q; low = z; alone = rw e f })
+        | inr z ↦ inl (unicode_escape v (lone_high r g (rw q at z) q o))
+      ]
+  unicode_same {p = p} {n} {x} a s y (lone_low r g e o) = inl (unicode_escape (escape_same p x n a (omega arith) y) (lone_low r g (omega arith) o))
+
+  -- a char, or the first half of a pair
+  char_or_pair : {m : Bool} {p x j : ℕ} {b : List ℕ} → p ≡ d + x → j ≡ d + k → IsChar m t p j b → IsChar m u x k b ⊎ IsPaired m t u j x k
+  char_or_pair {p = p} {x} a s (unescaped g e o) =
+      let b : byte u x ≡ byte t p = h.bytes p x a (omega arith) in
+      inl (unescaped (rw b g) (omega arith) (rw b o))
+  char_or_pair {p = p} {x} a s (short_escape {c = c} g f e o) =
+      let b : byte u (x + 1) ≡ byte t (p + 1) = h.bytes (p + 1) (x + 1) (omega arith) (omega arith) in
+      inl (short_escape {c = c} (h.bytes p x a (omega arith) ∙ g) (rw b f) (omega arith) o)
+  char_or_pair a s (unicode_escape g o) = unicode_same a s g o
+
+  -- a char
+  pub char_same : {m : Bool} {p x j : ℕ} {b : List ℕ} → p ≡ d + x → j ≡ d + k → NoNewLow m t u j k → IsChar m t p j b → IsChar m u x k b
+  char_same a s low c = elim (char_or_pair a s c) [ inl y ↦ y | inr g ↦ absurd (g.alone (low g.reads g.low)) ]
 
 -- chars
-pub chars_same : {m : Bool} {t u : List ℕ} {i k : ℕ} {b : List ℕ} → Same t u k → NoNewLow m t u k → AreChars m t i k b → AreChars m u i k b
-chars_same h low (no_char e o) = no_char e o
-chars_same h low (one_more {p = p} us c o) =
+pub chars_same : {m : Bool} {t u : List ℕ} {d i x j k : ℕ} {b : List ℕ} → Shared t u d k → i ≡ d + x → j ≡ d + k → NoNewLow m t u j k → AreChars m t i j b
+    → AreChars m u x k b
+chars_same h a s low (no_char e o) = no_char (omega arith) o
+chars_same {d = d} h a s low (one_more {p = p} us c o) =
+    let n = chars_later us in
     let l = char_longer c in
-    one_more (chars_same (same_less p h (omega arith)) (low_before h c) us) (char_same h low c) o
+    let e : p ≡ d + (p - d) = omega arith in
+    one_more (chars_same (same_less (p - d) h (omega arith)) a e (low_before h (p - d) e s c) us) (char_same h e s low c) o
 
 -- chars, and one more that is in u after them
 pub chars_then : {m : Bool} {t u : List ℕ} {i k q : ℕ} {b c : List ℕ} → Same t u k → AreChars m t i k b → IsChar m u k q c → (d : List ℕ) × AreChars m u i q d
 chars_then h (no_char e o) c = (_, one_more (no_char e o) c refl)
-chars_then {m} {t} {u} {i} {k} {q} h (one_more {p = p} us v o) c =
+chars_then {m} {t} {u} {i} {k} {q} h (one_more {p = p} {b = b} us v o) c =
     let l = char_longer v in
-    let vs = chars_same (same_less p h (omega arith)) (low_before h v) us in
-    elim (char_or_pair h v) [
+    let vs : AreChars m u i p b = chars_same (same_less p h (omega arith)) (omega arith) (omega arith) (low_before h p (omega arith) (omega arith) v) us in
+    elim (char_or_pair h (omega arith) (omega arith) v) [
       | inl x ↦ (_, one_more (one_more vs x refl) c refl)
       | inr g ↦
           let (n, y, z) = g.low in
@@ -96,27 +129,28 @@ chars_then {m} {t} {u} {i} {k} {q} h (one_more {p = p} us v o) c =
     ]
 
 -- a string
-pub string_same : {m : Bool} {t u : List ℕ} {i j : ℕ} {b : List ℕ} → Same t u j → IsString m t i j b → IsString m u i j b
-string_same {m} {t} {u} {i} {j} h g =
-    let k = g.close in
+pub string_same : {m : Bool} {t u : List ℕ} {d i x j k : ℕ} {b : List ℕ} → Shared t u d k → i ≡ d + x → j ≡ d + k → IsString m t i j b → IsString m u x k b
+string_same {m} {t} {u} {d} {i} {x} h a s g =
     let l = chars_later g.chars in
     let e = g.end in
-    let c : byte u k ≡ 34 = h.bytes k (omega arith) ∙ g.closes in
+    let z = g.close - d in
+    let f : g.close ≡ d + z = omega arith in
+    let c : byte u z ≡ 34 = h.bytes g.close z f (omega arith) ∙ g.closes in
     record {
-      close = k;
-      opens = h.bytes i (omega arith) ∙ g.opens;
-      chars = chars_same (same_less k h (omega arith)) (no_new_low m t u k (λ z. omega arith)) g.chars;
+      close = z;
+      opens = h.bytes i x a (omega arith) ∙ g.opens;
+      chars = chars_same (same_less z h (omega arith)) (omega arith) f (no_new_low m t u g.close z (λ y. omega arith)) g.chars;
       closes = c;
-      end = e;
+      end = omega arith;
     }
 
 -- what is wrong n places after a backslash
 pub escape_fault_same : (m : Bool) {t u : List ℕ} (k n : ℕ) → 0 < n → Same t u (k + n + 1) → escape_fault m u k n ≡ escape_fault m t k n
 unfolding escape_fault
 escape_fault_same m {t} {u} k n l h =
-    let b : byte u (k + 1) ≡ byte t (k + 1) = h.bytes (k + 1) (omega arith) in
-    let z : byte u (k + n) ≡ byte t (k + n) = h.bytes (k + n) (omega arith) in
+    let b : byte u (k + 1) ≡ byte t (k + 1) = same_byte h (k + 1) (omega arith) in
+    let z : byte u (k + n) ≡ byte t (k + n) = same_byte h (k + n) (omega arith) in
     elim (cases_lt n 3) [
       | inl o ↦ grind (arith, nat_tests)
-      | inr o ↦ rw (b, h.bytes (k + 2) (omega arith), h.bytes (k + 3) (omega arith), z) refl
+      | inr o ↦ rw (b, same_byte h (k + 2) (omega arith), same_byte h (k + 3) (omega arith), z) refl
     ]

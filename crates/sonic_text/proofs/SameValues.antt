@@ -1,5 +1,5 @@
--- Two texts that hold the same bytes before a place: values, items and keys that end there are in both.
-use Rattle.std.proofs.Common.{◌≡◌, ◌≢◌, ◌∙◌, ℕ, ◌+◌, ◌<◌, Bool, List, arith, codes}
+-- A text that holds the bytes of another one from a place on: values, items and keys that end there are in both.
+use Rattle.std.proofs.Common.{◌≡◌, ◌≢◌, ◌∙◌, ℕ, ◌+◌, ◌-◌, ◌<◌, Bool, List, arith, codes}
 use Rattle.std.specs.Prelude.{Option}
 use Rattle.sonic_text.specs.declared.kind.Kind.{Kind}
 use Rattle.sonic_text.specs.Places.{byte, after_space}
@@ -10,86 +10,86 @@ use Rattle.sonic_text.specs.Values.ItemsFit.{first_item, next_item}
 use Rattle.sonic_text.proofs.Places.{after_space_later}
 use Rattle.sonic_text.proofs.Strings.{string_longer}
 use Rattle.sonic_text.proofs.Values.{head-later, value-longer, items-later}
-use Rattle.sonic_text.proofs.Same.{Same, same_less, Alike, alike_at, alike_more, alike_keeps, NoSpace, NoMore, space_same, space_before, number_same, literal_same}
-use Rattle.sonic_text.proofs.Same.Alike.{same}
+use Rattle.sonic_text.proofs.Same.{Agrees, NoSpace, NoMore, agree_at, up_to, keeps, weaker, same_less, after_same, space_same, number_same, literal_same}
 use Rattle.sonic_text.proofs.SameStrings.{string_same}
 
 -- a byte that may begin an item: no white space, and no bracket that closes a container
 abbrev pub StartsItem : ℕ → Type 0
 StartsItem b = NoSpace b × ((kind : Kind) → b ≢ closing kind)
 
--- the byte after white space
-pub after_same : {t u : List ℕ} {n : ℕ} (b i : ℕ) → Same t u n → after_space t i < n → byte t (after_space t i) ≡ b → byte u (after_space u i) ≡ b
-after_same {t} b i h l e = rw (space_before i h l) (h.bytes (after_space t i) l ∙ e)
+module _ {t u : List ℕ} {d v y : ℕ} (h : Agrees StartsItem t u d v y) where
+  -- what is expected after a byte and white space
+  next_same : (e z : ℕ) → e ≡ d + z → v ≡ after_space t (e + 1) → y ≡ after_space u (z + 1)
+  next_same e z f q = space_same (e + 1) (z + 1) (omega arith) (weaker h (λ b o. o.0)) q
 
--- what is expected after this byte and white space
-next_same : {t u : List ℕ} (e v : ℕ) → Same t u v → Alike StartsItem t u v → v ≡ after_space t (after_space t e + 1) → v ≡ after_space u (after_space u e + 1)
-next_same {t} e v h a q =
-    let l = after_space_later t (after_space t e + 1) in
-    rw (space_before e h (omega arith)) (space_same (after_space t e + 1) v h (alike_more (λ b h. h.0) a) q)
+  -- a key
+  pub key_same : {m : Bool} {k x : ℕ} {b : List ℕ} → k ≡ d + x → IsKey m t k v b → IsKey m u x y b
+  key_same {k = k} f g =
+      let n : k < g.end = string_longer g.string in
+      let l = after_space_later t g.end in
+      let o = after_space_later t (after_space t g.end + 1) in
+      let p = h.place in
+      let q = g.value_start in
+      let z = g.end - d in
+      let e : g.end ≡ d + z = omega arith in
+      let c = after_same g.end z e 58 h.before (omega arith) g.colon in
+      record {
+        end = z;
+        string = string_same (same_less z h.before (omega arith)) f e g.string;
+        colon = c.1;
+        value_start = next_same (after_space t g.end) (after_space u z) c.0 q;
+      }
 
--- a key
-pub key_same : {m : Bool} {t u : List ℕ} {k v : ℕ} {b : List ℕ} → Same t u v → Alike StartsItem t u v → IsKey m t k v b → IsKey m u k v b
-key_same {t = t} {k = k} {v} h a g =
-    let n : k < g.end = string_longer g.string in
-    let l = after_space_later t g.end in
-    let o = after_space_later t (after_space t g.end + 1) in
-    let d = g.value_start in
-    record {
-      end = g.end;
-      string = string_same (same_less g.end h (omega arith)) g.string;
-      colon = after_same 58 g.end h (omega arith) g.colon;
-      value_start = next_same g.end v h a d;
-    }
-
--- what comes before an item's value
-head_same : {m : Bool} {t u : List ℕ} {kind : Kind} {i v : ℕ} {l : Option (List ℕ)} → Same t u v → Alike StartsItem t u v → ItemHead m t kind i v l → ItemHead m u kind i v l
-head_same h a (no_head e) = no_head e
-head_same h a (key_head y) = key_head (key_same h a y)
+  -- what comes before an item's value
+  pub head_same : {m : Bool} {kind : Kind} {k x : ℕ} {l : Option (List ℕ)} → k ≡ d + x → ItemHead m t kind k v l → ItemHead m u kind x y l
+  head_same e (no_head f) = let p = h.place in no_head (omega arith)
+  head_same e (key_head g) = key_head (key_same e g)
 
 mutual
   -- a value
-  pub value_same : {m : Bool} {t u : List ℕ} {i j : ℕ} → Same t u j → Alike NoMore t u j → IsValue m t i j → IsValue m u i j
-  value_same {i = i} {j} h a (null_literal g) = null_literal (literal_same (codes "null") i j h g)
-  value_same {i = i} {j} h a (true_literal g) = true_literal (literal_same (codes "true") i j h g)
-  value_same {i = i} {j} h a (false_literal g) = false_literal (literal_same (codes "false") i j h g)
-  value_same h a (number g) = number (number_same h a g)
-  value_same h a (string g) = string (string_same h g)
-  value_same {t = t} {u} {i} {j} h a (empty kind b c q) =
+  pub value_same : {m : Bool} {t u : List ℕ} {d i x j k : ℕ} → Agrees NoMore t u d j k → i ≡ d + x → IsValue m t i j → IsValue m u x k
+  value_same {i = i} {x} h f (null_literal g) = null_literal (literal_same i x f (codes "null") h.place h.before g)
+  value_same {i = i} {x} h f (true_literal g) = true_literal (literal_same i x f (codes "true") h.place h.before g)
+  value_same {i = i} {x} h f (false_literal g) = false_literal (literal_same i x f (codes "false") h.place h.before g)
+  value_same {i = i} {x} h f (number g) = number (number_same i x f h g)
+  value_same h f (string g) = string (string_same h.before f h.place g)
+  value_same {t = t} {i = i} {x} h f (empty kind b c q) =
+      let p = h.place in
       let l = after_space_later t (i + 1) in
-      let s : after_space u (i + 1) ≡ after_space t (i + 1) = space_before (i + 1) h (omega arith) in
-      empty kind (h.bytes i (omega arith) ∙ b) (after_same (closing kind) (i + 1) h (omega arith) c) (rw s q)
-  value_same {t = t} {u} {i} {j} h a (filled {kind} {h = k} {v = v} {e = e} is y x c q) =
+      let (s, z) = after_same (i + 1) (x + 1) (omega arith) (closing kind) h.before (omega arith) c in
+      empty kind (h.before.bytes i x f (omega arith) ∙ b) z (omega arith)
+  value_same {m} {t} {u} {d} h f (filled {kind} {h = n} {v = v} {e = e} {l = b} is y g c q) =
+      let p = h.place in
       let l = items-later is in
       let r = head-later y in
-      let n = value-longer x in
-      let o = after_space_later t e in
-      let s : after_space u e ≡ after_space t e = space_before e h (omega arith) in
-      let fs = items_same (same_less k h (omega arith)) (same (h.bytes k (omega arith))) is in
-      let z = head_same (same_less v h (omega arith)) (same (h.bytes v (omega arith))) y in
-      let w = value_same (same_less e h (omega arith)) (same (h.bytes e (omega arith))) x in
-      filled fs z w (after_same (closing kind) e h (omega arith) c) (rw s q)
+      let o = value-longer g in
+      let a = after_space_later t e in
+      let (s, z) = after_same e (e - d) (omega arith) (closing kind) h.before (omega arith) c in
+      let fs = items_same (agree_at h.before n (n - d) (omega arith) (omega arith)) f is in
+      let w : ItemHead m u kind (n - d) (v - d) b = head_same (agree_at h.before v (v - d) (omega arith) (omega arith)) (omega arith) y in
+      filled fs w (value_same (agree_at h.before e (e - d) (omega arith) (omega arith)) (omega arith) g) z (omega arith)
 
   -- items
-  pub items_same : {m : Bool} {t u : List ℕ} {kind : Kind} {i n h : ℕ} → Same t u h → Alike StartsItem t u h → ItemsFit m t kind i n h → ItemsFit m u kind i n h
-  items_same {t = t} {u} {kind} {i} {h = k} h a (first_item b q d p) =
+  pub items_same : {m : Bool} {t u : List ℕ} {kind : Kind} {d i x n j k : ℕ} → Agrees StartsItem t u d j k → i ≡ d + x → ItemsFit m t kind i n j
+      → ItemsFit m u kind x n k
+  items_same {t = t} {kind = kind} {i = i} {x} {j = j} h f (first_item b q o s) =
+      let p = h.place in
       let l = after_space_later t (i + 1) in
-      let o : byte t k ≢ closing kind = d in
-      first_item (h.bytes i (omega arith) ∙ b) (space_same (i + 1) k h (alike_more (λ b h. h.0) a) q) (alike_keeps (alike_more (λ b h. h.1 kind) a) o) p
-  items_same {t = t} {h = k} h a (next_item {u = w} {v = v} {e = e} is y x c q p) =
+      let a : byte t j ≢ closing kind = o in
+      first_item (h.before.bytes i x f (omega arith) ∙ b) (next_same h i x f q) (keeps h (λ z y. y.1 kind) a) s
+  items_same {m} {t} {u} {kind} {d} h f (next_item {u = w} {v = v} {e = e} {l = k} is y g c q s) =
+      let p = h.place in
       let l = items-later is in
-      let s = head-later y in
-      let r = value-longer x in
-      let o = after_space_later t e in
-      let z = after_space_later t (after_space t e + 1) in
-      let fs = items_same (same_less w h (omega arith)) (same (h.bytes w (omega arith))) is in
-      let f = head_same (same_less v h (omega arith)) (same (h.bytes v (omega arith))) y in
-      let g = value_same (same_less e h (omega arith)) (same (h.bytes e (omega arith))) x in
-      next_item fs f g (after_same 44 e h (omega arith) c) (next_same e k h a q) p
+      let r = head-later y in
+      let o = value-longer g in
+      let a = after_space_later t e in
+      let b = after_space_later t (after_space t e + 1) in
+      let (n, z) = after_same e (e - d) (omega arith) 44 h.before (omega arith) c in
+      let fs = items_same (agree_at h.before w (w - d) (omega arith) (omega arith)) f is in
+      let head : ItemHead m u kind (w - d) (v - d) k = head_same (agree_at h.before v (v - d) (omega arith) (omega arith)) (omega arith) y in
+      next_item fs head (value_same (agree_at h.before e (e - d) (omega arith) (omega arith)) (omega arith) g) z (next_same h (after_space t e) _ n q) s
 
--- items, and what comes before the value of the next one
-pub item_same : {m : Bool} {t u : List ℕ} {kind : Kind} {i n h v : ℕ} {l : Option (List ℕ)} → Same t u v → Alike StartsItem t u v
-    → ItemsFit m t kind i n h → ItemHead m t kind h v l → ItemsFit m u kind i n h × ItemHead m u kind h v l
-item_same {h = k} h a is y =
-    let l = head-later y in
-    (items_same (same_less k h l) (alike_at k h a l) is, head_same h a y)
+-- in texts that begin alike, items and what comes before the value of the next one
+pub item_same : {m : Bool} {t u : List ℕ} {kind : Kind} {i n h v : ℕ} {l : Option (List ℕ)} → Agrees StartsItem t u 0 v v → ItemsFit m t kind i n h
+    → ItemHead m t kind h v l → ItemsFit m u kind i n h × ItemHead m u kind h v l
+item_same {h = k} h is y = let l = head-later y in (items_same (up_to h k k (omega arith) l) (omega arith) is, head_same h (omega arith) y)

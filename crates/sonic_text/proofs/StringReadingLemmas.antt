@@ -1,5 +1,5 @@
 -- The chars of a string are read one by one, from the first on: which char is at a place that was reached, and what was read at the end.
-use Rattle.std.proofs.Common.{◌≡◌, ◌≢◌, ◌⊎◌, ℕ, zero, suc, ◌+◌, ◌-◌, ◌<◌, ◌≤◌, Bool, inl, inr, List, [], ◌∷◌, ◌++◌, length, arith, refl, sym, ◌∙◌}
+use Rattle.std.proofs.Common.{◌≡◌, ◌≢◌, ℕ, zero, suc, ◌+◌, ◌-◌, ◌<◌, ◌≤◌, Bool, inl, inr, List, [], ◌∷◌, ◌++◌, length, arith, refl, sym, ◌∙◌}
 use Rattle.std.proofs.lemmas.Bool.{cases_lt}
 use Rattle.std.proofs.lemmas.List.{append_assoc, append-nil}
 use Rattle.std.proofs.lemmas.List.Edits.{between_none, between_more}
@@ -13,26 +13,8 @@ use Rattle.sonic_text.proofs.HexDigitLemmas.{hex4_within}
 use Rattle.sonic_text.proofs.CodepointLemmas.{one_byte}
 use Rattle.sonic_text.proofs.EscapeFaultLemmas.{escaped_letter}
 use Rattle.sonic_text.proofs.EscapeLemmas.{char_longer}
-use Rattle.sonic_text.proofs.Strings.{chars_later}
-
--- the first of some chars, and those after it
-record IsFirst (m : Bool) (t : List ℕ) (i k : ℕ) (b : List ℕ) : Type 0 where
-  q : ℕ
-  d : List ℕ
-  e : List ℕ
-  char : IsChar m t i q d
-  rest : AreChars m t q k e
-  both : b ≡ d ++ e
-
--- chars are none, or there is a first one
-chars_first : {m : Bool} {t : List ℕ} {i k : ℕ} {b : List ℕ} → AreChars m t i k b → ((k ≡ i) × (b ≡ [])) ⊎ IsFirst m t i k b
-chars_first (AreChars.no_char e x) = inl (e, x)
-chars_first {m} {t} {i} {k} {b} (AreChars.one_more {p = p} {b = f} {c = g} us u x) = elim (chars_first us) [
-  | inl none ↦
-      let v : IsChar m t i k g = rw none.0 at u in
-      inr (record { q = k; d = g; e = []; char = v; rest = AreChars.no_char refl refl; both = x ∙ (rw none.1 (sym (append-nil g))) })
-  | inr h ↦ inr (record { q = h.q; d = h.d; e = h.e ++ g; char = h.char; rest = AreChars.one_more h.rest u refl; both = x ∙ (rw h.both (append_assoc h.d h.e g)) })
-]
+use Rattle.sonic_text.proofs.Strings.{Chain, chain_of, chain_later}
+use Rattle.sonic_text.proofs.Strings.Chain.{done, more}
 
 -- in the string from start to end, which denotes b, the chars before p denote c
 pub record IsReached (m : Bool) (t : List ℕ) (start end p : ℕ) (b c : List ℕ) : Type 0 where
@@ -40,20 +22,20 @@ pub record IsReached (m : Bool) (t : List ℕ) (start end p : ℕ) (b c : List �
   pub rest : List ℕ
   pub opens : byte t start ≡ 34
   pub read : AreChars m t (start + 1) p c
-  pub left : AreChars m t p close rest
+  pub left : Chain m t p close rest
   pub both : b ≡ c ++ rest
   pub closes : byte t close ≡ 34
   pub ends : end ≡ close + 1
 
 -- after the opening quote
 pub reached_start : {m : Bool} {t : List ℕ} {start end : ℕ} {b : List ℕ} → IsString m t start end b → IsReached m t start end (start + 1) b []
-reached_start {b = b} s = record { close = s.close; rest = b; opens = s.opens; read = AreChars.no_char refl refl; left = s.chars; both = refl; closes = s.closes; ends = s.end }
+reached_start {b = b} s = record { close = s.close; rest = b; opens = s.opens; read = AreChars.no_char refl refl; left = chain_of s.chars; both = refl; closes = s.closes; ends = s.end }
 
 -- the closing quote is at p or after it, and before the end of the text
 pub reached_before : {m : Bool} {t : List ℕ} {start end p : ℕ} {b c : List ℕ} → IsReached m t start end p b c → (p < end) × (end ≤ length t)
 reached_before {t = t} r =
     let l : r.close < length t = byte_within t r.close (λ e. cc (e, r.closes)) in
-    (omega (arith, chars_later r.left, r.ends), omega (arith, r.ends))
+    (omega (arith, chain_later r.left, r.ends), omega (arith, r.ends))
 
 -- the char at a place that was reached, and the place after it
 pub record IsNext (m : Bool) (t : List ℕ) (start end p : ℕ) (b c : List ℕ) : Type 0 where
@@ -64,19 +46,19 @@ pub record IsNext (m : Bool) (t : List ℕ) (start end p : ℕ) (b c : List ℕ)
 
 -- before the closing quote a char is at each place that was reached
 pub reached_char : {m : Bool} {t : List ℕ} {start end p : ℕ} {b c : List ℕ} → IsReached m t start end p b c → p + 1 ≢ end → IsNext m t start end p b c
-reached_char {c = c} r n = elim (chars_first r.left) [
-  | inl none ↦ absurd (n (omega (arith, none.0, r.ends)))
-  | inr f ↦ record {
-    q = f.q;
-    d = f.d;
-    char = f.char;
+reached_char {c = c} r n = elim r.left [
+  | done e x ↦ absurd (n (omega (arith, r.ends)))
+  | more {b = d} {c = f} char left x ↦ record {
+    q = _;
+    d = d;
+    char = char;
     next = record {
       close = r.close;
-      rest = f.e;
+      rest = f;
       opens = r.opens;
-      read = AreChars.one_more r.read f.char refl;
-      left = f.rest;
-      both = r.both ∙ (rw f.both (sym (append_assoc c f.d f.e)));
+      read = AreChars.one_more r.read char refl;
+      left = left;
+      both = r.both ∙ (rw x (sym (append_assoc c d f)));
       closes = r.closes;
       ends = r.ends;
     };
@@ -85,9 +67,9 @@ reached_char {c = c} r n = elim (chars_first r.left) [
 
 -- at the closing quote all is read
 pub reached_all : {m : Bool} {t : List ℕ} {start end p : ℕ} {b c : List ℕ} → IsReached m t start end p b c → p + 1 ≡ end → c ≡ b
-reached_all {c = c} r n = elim (chars_first r.left) [
-  | inl none ↦ sym (r.both ∙ (rw none.1 (append-nil c)))
-  | inr f ↦ absurd (omega (arith, chars_later f.rest, char_longer f.char, r.ends))
+reached_all {c = c} r n = elim r.left [
+  | done e x ↦ sym (r.both ∙ (rw x (append-nil c)))
+  | more char left x ↦ absurd (omega (arith, chain_later left, char_longer char, r.ends))
 ]
 
 -- and the string denotes that

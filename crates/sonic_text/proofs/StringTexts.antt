@@ -11,11 +11,11 @@ use Rattle.sonic_text.specs.Strings.{hex_digit, strict, IsHigh, IsLow, IsEscape,
 use Rattle.sonic_text.specs.Strings.IsChar.{unescaped, short_escape, unicode_escape}
 use Rattle.sonic_text.specs.Strings.IsUnicodeChar.{scalar, pair, lone_high, lone_low}
 use Rattle.sonic_text.specs.Strings.AreChars.{no_char, one_more}
-use Rattle.sonic_text.proofs.Places.{byte_within}
+use Rattle.sonic_text.proofs.Places.{byte_after, byte_within}
 use Rattle.sonic_text.proofs.EscapeFaultLemmas.{escaped_letter}
 use Rattle.sonic_text.proofs.HexDigitLemmas.{hex_small}
 use Rattle.sonic_text.proofs.Parts.{part_is, part_length}
-use Rattle.sonic_text.proofs.StringPartLemmas.{chars_part}
+use Rattle.sonic_text.proofs.SameStrings.{no_new_low, chars_same}
 use Rattle.sonic_text.proofs.StringReadingLemmas.{escape_within}
 use Rattle.sonic_text.proofs.Strings.{chars_later}
 
@@ -141,7 +141,8 @@ contents_text {t} {i} {j} {b} s within utf8 =
     let u = slice_range t (i + 1) (j - 1) in
     let part = part_is t (i + 1) (j - 1) (omega arith) (omega arith) in
     let long = part_length t (i + 1) (j - 1) (omega arith) (omega arith) in
-    let own : AreChars strict u 0 (length u) b = chars_part part 0 (length u) (omega arith) (omega arith) (omega arith) s.chars in
+    let low = no_new_low strict t u s.close (length u) (λ e. omega (arith, e, byte_after u (length u) (omega arith))) in
+    let own : AreChars strict u 0 (length u) b = chars_same part (omega arith) (omega arith) low s.chars in
     cut_here utf8 (chars_cut utf8 (IsCharBoundary-start u utf8) own) (IsCharBoundary-end u)
 
 -- the contents of a string of a text that is UTF-8

@@ -12,7 +12,7 @@ use Rattle.sonic_text.proofs.Places.{byte_after}
 use Rattle.sonic_text.proofs.EscapeLemmas.{char_one, char_longer, char_never, escape_fault_one, escape_some}
 
 -- chars, read from the left
-data Chain (m : Bool) (t : List ℕ) : ℕ → ℕ → List ℕ → Type 0 where
+pub data Chain (m : Bool) (t : List ℕ) : ℕ → ℕ → List ℕ → Type 0 where
   done : {i k : ℕ} {b : List ℕ} → k ≡ i → b ≡ [] → Chain m t i k b
   more : {i p k : ℕ} {b c d : List ℕ} → IsChar m t i p b → Chain m t p k c → d ≡ b ++ c → Chain m t i k d
 
@@ -22,7 +22,7 @@ snoc {c = c} {d} (done e f) h g = let q : d ≡ c ++ [] = rw (g, f, append-nil) 
 snoc (more x y z) h g = more x (snoc y h refl) (rw (g, z, append_assoc) refl)
 
 -- chars are chars read from the left
-chain_of : {m : Bool} {t : List ℕ} {i k : ℕ} {b : List ℕ} → AreChars m t i k b → Chain m t i k b
+pub chain_of : {m : Bool} {t : List ℕ} {i k : ℕ} {b : List ℕ} → AreChars m t i k b → Chain m t i k b
 chain_of (no_char e f) = done e f
 chain_of (one_more h c e) = snoc (chain_of h) c e
 
@@ -57,9 +57,12 @@ stuck_escape : {m : Bool} {t : List ℕ} {k : ℕ} {s : Stop} → byte t k ≡ 9
 stuck_escape o f q b h = char_never o h f
 
 -- chars lead on, or there is none
+pub chain_later : {m : Bool} {t : List ℕ} {i k : ℕ} {b : List ℕ} → Chain m t i k b → i ≤ k
+chain_later (done e f) = omega arith
+chain_later (more h g e) = let l = chain_later g in let n = char_longer h in omega arith
+
 pub chars_later : {m : Bool} {t : List ℕ} {i k : ℕ} {b : List ℕ} → AreChars m t i k b → i ≤ k
-chars_later (no_char e f) = omega arith
-chars_later (one_more h c e) = let l = chars_later h in let n = char_longer c in omega arith
+chars_later h = chain_later (chain_of h)
 
 -- a string leads on
 pub string_longer : {m : Bool} {t : List ℕ} {i j : ℕ} {b : List ℕ} → IsString m t i j b → i < j

@@ -16,13 +16,11 @@ use Rattle.sonic_text.specs.Values.IsValue.{null_literal, true_literal, false_li
 use Rattle.sonic_text.specs.Faults.{BeginsNone, IsKeyFault, IsFault}
 use Rattle.sonic_text.specs.Faults.IsKeyFault.{no_quote, key_fault, no_colon}
 use Rattle.sonic_text.specs.Faults.IsFault.{no_value, null_fault, true_fault, false_fault, number_fault, string_fault, in_key, in_value, after_item}
-use Rattle.sonic_text.specs.Laws.{MayGoOn}
 use Rattle.sonic_text.proofs.Places.{after_space_later}
 use Rattle.sonic_text.proofs.Stops.{bad_end, after_known}
 use Rattle.sonic_text.proofs.Values.{value-longer, space_begins_none, value_never_both}
 use Rattle.sonic_text.proofs.Within.{after_space_within, value_within, items_within, head_within}
-use Rattle.sonic_text.proofs.Same.{same_less, same_longer, same_whole, alike_at, NoMore, NoSpace, space_same}
-use Rattle.sonic_text.proofs.Same.Alike.{same, other}
+use Rattle.sonic_text.proofs.Same.{same_less, same_longer, same_whole, NoMore, NoSpace, agree_at, agree_other, up_to, space_same}
 use Rattle.sonic_text.proofs.SameStrings.{string_same}
 use Rattle.sonic_text.proofs.SameValues.{StartsItem, value_same, items_same, item_same}
 use Rattle.sonic_text.proofs.Completions.{Completes, complete_more, complete_as, pushed, pushed_length, StringFrom, quotes, string_completes, number_completes, literal_completes}
@@ -71,9 +69,9 @@ close_item {m} {t} {kind} {v = v} {e} is y x q =
     let (no_more, none) = closing_ends kind (byte u n) b in
     let l = value-longer x in
     let o = after_space_later t e in
-    let w : IsValue m u v e = value_same (same_less e s (omega arith)) (alike_at e s (other no_more) (omega arith)) x in
-    let (fs, z) = item_same (same_less v s (omega arith)) (same (s.bytes v (omega arith))) is y in
-    let f : n ≡ after_space u e = space_same e n s (other none) q in
+    let w : IsValue m u v e = value_same (up_to (agree_other s no_more) e e (omega arith) (omega arith)) (omega arith) x in
+    let (fs, z) = item_same (agree_at s v v (omega arith) (omega arith)) is y in
+    let f : n ≡ after_space u e = space_same e e (omega arith) (agree_other s none) q in
     let g : byte u (after_space u e) ≡ bracket = rw f at b in
     record { missing = bracket ∷ []; complete = filled fs z w g (pushed_length t bracket ∙ rw f refl) }
 
@@ -83,7 +81,7 @@ item_completes : {m : Bool} {t : List ℕ} {kind : Kind} {i n h v : ℕ} {l : Op
 item_completes {m} {t} {i = i} {v = v} is y x =
     let u = t ++ x.missing in
     let w : IsValue m u v (length u) = x.complete in
-    let (fs, z) = item_same (same_longer t x.missing v (head_within y (items_within is))) (other (value_starts_item w)) is y in
+    let (fs, z) = item_same (agree_other (same_longer t x.missing v (head_within y (items_within is))) (value_starts_item w)) is y in
     complete_more (ValueFrom m i) t x.missing (close_item fs z w (end_space u))
 
 -- two quotes are a value
@@ -98,11 +96,11 @@ close_key {m} {t} {k} {e} {b} x q =
     let h = same_whole t (58 ∷ []) in
     let c : byte u n ≡ 58 = pushed t 58 n refl in
     let o = after_space_later t e in
-    let s : n ≡ after_space u e = space_same e n h (other (rw c refl)) q in
+    let s : n ≡ after_space u e = space_same e e (omega arith) (agree_other h (rw c refl)) q in
     let p : length u ≡ after_space u e + 1 = pushed_length t 58 ∙ rw s refl in
     let y : IsKey m u k (length u) b = record {
       end = e;
-      string = string_same (same_less e h (omega arith)) x;
+      string = string_same (same_less e h (omega arith)) (omega arith) (omega arith) x;
       colon = rw s at c;
       value_start = end_space u ∙ rw p refl;
     } in
@@ -130,7 +128,7 @@ object_completes : {m : Bool} {t : List ℕ} {i n k : ℕ} → ItemsFit m t Obje
 object_completes {m} {t} {i} {k = k} is x =
     let u = t ++ x.missing in
     let y = x.complete.1 in
-    let fs = items_same (same_longer t x.missing k (items_within is)) (other (value_starts_item (string y.string))) is in
+    let fs = items_same (agree_other (same_longer t x.missing k (items_within is)) (value_starts_item (string y.string))) (omega arith) is in
     complete_more (ValueFrom m i) t x.missing (item_completes fs (key_head y) (quotes_value m u))
 
 -- a value that ends too early is completed
@@ -149,17 +147,18 @@ value_completes {t = t} {s = s} l (after_item {kind} {e = e} is y x f q) c =
     close_item is y x (space_ends t e _ s (value_within x) q c (after_known kind).1)
 
 -- a value in a longer text begins after the same white space
-same_start : (m : Bool) (t w : List ℕ) (i j : ℕ) → i ≡ after_space t 0 → i ≤ length t → IsValue m (t ++ w) i j → IsValue m (t ++ w) (after_space (t ++ w) 0) j
-same_start m t w i j e l x =
-    let q : i ≡ after_space (t ++ w) 0 = space_same 0 i (same_longer t w i l) (other (value_starts_item x).0) e in
+same_start : {m : Bool} {j : ℕ} (t w : List ℕ) (p i : ℕ) → i ≡ after_space t p → i ≤ length t → IsValue m (t ++ w) i j → IsValue m (t ++ w) (after_space (t ++ w) p) j
+same_start t w p i e l x =
+    let q : i ≡ after_space (t ++ w) p = space_same p p (omega arith) (agree_other (same_longer t w i l) (value_starts_item x).0) e in
     rw q at x
 
--- a text that ends too early begins a longer one that is a value
-pub value_completes_text : (m : Bool) (t : List ℕ) (s : Stop) → IsFault m t (after_space t 0) s → s.code ≡ EofWhileParsing → MayGoOn m t
-value_completes_text m t s f c =
-    let l : after_space t 0 ≤ length t = after_space_within t 0 (omega arith) in
-    let h = value_completes l f c in (
+-- a text that ends too early begins a longer one that is a value from a place on
+pub may_go_on : {m : Bool} {t : List ℕ} {p : ℕ} {s : Stop} → p ≤ length t → IsFault m t (after_space t p) s → s.code ≡ EofWhileParsing
+    → (w : List ℕ) × (w ≢ []) × IsValue m (t ++ w) (after_space (t ++ w) p) (length (t ++ w))
+may_go_on {t = t} {p} l f c =
+    let within = after_space_within t p l in
+    let h = value_completes within f c in (
       h.missing,
       (λ z. value_never_both (rw (z, append-nil) at h.complete) f),
-      same_start m t h.missing (after_space t 0) (length (t ++ h.missing)) refl l h.complete,
+      same_start t h.missing p (after_space t p) refl within h.complete,
     )

@@ -21,7 +21,7 @@ use Rattle.sonic_text.proofs.FirstByteLemmas.{Sort, none, a_null, a_true, a_fals
 use Rattle.sonic_text.proofs.Items.{Outcome, OneAt, OneAfter, LastItem, at_key, at_value, last_one, last_no_comma, opening_not_end, opening_one}
 use Rattle.sonic_text.proofs.Places.{after_space_later, byte_within}
 use Rattle.sonic_text.proofs.LiteralLemmas.{literal_never_both, literal_fault_one}
-use Rattle.sonic_text.proofs.Numbers.{number_longer, number_begins, number_outcome_one}
+use Rattle.sonic_text.proofs.Numbers.{match_one, number_longer, number_begins, number_outcome_one}
 use Rattle.sonic_text.proofs.Strings.{string_longer, string_one, string_never_both, string_fault_one}
 use Rattle.sonic_text.proofs.Within.{value_within}
 pub use Rattle.sonic_text.proofs.Items.{key-longer, key_one, head-later, head_one}
@@ -167,14 +167,6 @@ outcome_view m t i (Err s) (string_fault b f) = record { sort = a_string; begins
 outcome_view m t i (Err s) (in_key is f) = container_view is (at_key refl f refl)
 outcome_view m t i (Err s) (in_value is y f) = container_view is (at_value (Err s) y f refl)
 outcome_view m t i (Err s) (after_item {e = e} is y x c q) = container_view is (at_value (Ok e) y x (inr (c, rw q)))
-
--- an end and a fault that are each the only one, and never both, are one outcome
-match_one : (P : ℕ → Type 0) (F : Stop → Type 0) (r q : Result ℕ Stop) → ((j k : ℕ) → P j → P k → j ≡ k) → ((s z : Stop) → F s → F z → s ≡ z)
-    → ((j : ℕ) (s : Stop) → P j → F s → ⊥) → MatchResult r P F → MatchResult q P F → r ≡ q
-match_one P F (Ok j) (Ok k) ends faults never h g = rw (ends j k h g)
-match_one P F (Ok j) (Err s) ends faults never h g = absurd (never j s h g)
-match_one P F (Err s) (Ok j) ends faults never h g = absurd (never j s g h)
-match_one P F (Err s) (Err z) ends faults never h g = rw (faults s z h g)
 
 -- a word has one outcome
 word_one : (word t : List ℕ) (i : ℕ) (r q : Result ℕ Stop) → MatchResult r (IsLiteral word t i) (IsLiteralFault word t i)

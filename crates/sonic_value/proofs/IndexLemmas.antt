@@ -9,6 +9,9 @@ use Rattle.sonic_error.specs.Errors.{IsPlainError}
 use Rattle.sonic_error.specs.declared.error.Error.{Error}
 use Rattle.sonic_error.specs.declared.code.ErrorCode.TheVariants.{GetIndexOutOfArray, NoMemory, UnexpectedVisitType}
 use Rattle.sonic_owned.specs.TreeEdits.{append_item}
+use Rattle.sonic_pointer.specs.Nodes.{node_of}
+use Rattle.sonic_pointer.specs.declared.node.PointerNode.{PointerNode}
+use Rattle.sonic_pointer.specs.declared.node.PointerNode.TheVariants.{Key, Index}
 use Rattle.sonic_text.specs.Paths.{Node, key, index}
 use Rattle.sonic_text.specs.TreePaths.{child, member_of}
 use Rattle.sonic_text.specs.Trees.Items.{no_item, item}
@@ -21,6 +24,11 @@ use Rattle.sonic_value.specs.Views.{tree, value_step, members_of, level_object, 
 use Rattle.sonic_value.specs.declared.value.Value.TheOpen.{Value-F}
 use Rattle.sonic_value.specs.declared.value.Value.TheViews.{out-roll-Value}
 use Rattle.sonic_value.specs.declared.value.Value.{Value, Null, Array, Object, roll-Value, ind-Value, fold-roll-Value}
+
+-- a node that is no key is an index
+pub not_key : (node : PointerNode) → ((text : Bor (List ℕ)) → node ≢ Key text) → (n : ℕ) × (node_of node ≡ index n)
+not_key (Key text) other = absurd (other text refl)
+not_key (Index n) other = (n, refl)
 
 -- what a node names is there, or it isn't
 there : (node : Node) (x y : Tree) → child node x ≡ Some y → IsInserted node x x

@@ -1,17 +1,11 @@
 -- Numbers, and those of a tree that a text means.
-use Rattle.std.proofs.Common.{◌≡◌, inl, inr, ℕ, ◌+◌, ◌<◌, ◌≤◌, List, length, arith, refl}
-use Rattle.std.specs.Prelude.{slice_range}
-use Rattle.sonic_text.proofs.NumberParts.{number_part}
-use Rattle.sonic_text.proofs.Numbers.{number_longer}
+use Rattle.std.proofs.Common.{inl, inr, ℕ, List, length, arith, refl}
 use Rattle.sonic_text.proofs.Places.{byte_after}
-use Rattle.sonic_text.proofs.Parts.{part_is, part_length}
-use Rattle.sonic_text.proofs.Within.{value_within}
+use Rattle.sonic_text.proofs.ValueParts.{number_of_part}
 use Rattle.sonic_text.specs.Numbers.{IsNumber, IsWholeText}
-use Rattle.sonic_text.specs.Strings.{strict}
 use Rattle.sonic_text.specs.Trees.ItemsMean.{last_item, more_items}
 use Rattle.sonic_text.specs.Trees.Means.{means_null, means_true, means_false, means_number, means_string, means_empty, means_filled}
 use Rattle.sonic_text.specs.Trees.{Tree, Items, Means, ItemsMean}
-use Rattle.sonic_text.specs.Values.IsValue.{number}
 use Rattle.sonic_text.specs.declared.kind.Kind.{Kind}
 use Rattle.sonic_value.specs.CompactTexts.{HasNumbers, HaveNumbers}
 
@@ -27,20 +21,12 @@ whole_is_number t int =
       exponent = inr (λ e. elim e [ inl a ↦ omega (arith, a, past) | inr a ↦ omega (arith, a, past) ], refl);
     }
 
--- a number is one alone, too
-number_alone : {t : List ℕ} {i j : ℕ} → IsNumber t i j → IsNumber (slice_range t i j) 0 (length (slice_range t i j))
-number_alone {t} {i} {j} n =
-    let less : i < j = number_longer n in
-    let within : j ≤ length t = value_within {m = strict} (number n) in
-    let size : i + length (slice_range t i j) ≡ j = part_length t i j (omega arith) within in
-    number_part (part_is t i j (omega arith) within) 0 (length (slice_range t i j)) (omega arith) (omega arith) (omega arith) n
-
 mutual
   pub means_numbers : {t : List ℕ} {i j : ℕ} {x : Tree} → Means t i j x → HasNumbers x
   means_numbers (means_null h) = tt
   means_numbers (means_true h) = tt
   means_numbers (means_false h) = tt
-  means_numbers (means_number n is) = rw is (number_alone n)
+  means_numbers (means_number n is) = rw is (number_of_part n)
   means_numbers (means_string h) = tt
   means_numbers (means_empty b c e) = tt
   means_numbers (means_filled b h c xs) = items_mean_numbers xs

@@ -127,7 +127,7 @@ container_begins s kind room i true b first close = let x = first refl in first_
 container_begins s kind room i false b first close = empty_read kind room b (close refl)
 
 -- after an item it goes on with another one, or ends
-pub container_goes_on : {s : Source} {kind : Kind} {room i h v e g : ℕ} {xs : List (Option (List ℕ) × Tree)} {l : Option (List ℕ)} {x : Tree} (more : Bool)
+container_goes_on : {s : Source} {kind : Kind} {room i h v e g : ℕ} {xs : List (Option (List ℕ) × Tree)} {l : Option (List ℕ)} {x : Tree} (more : Bool)
     → AreItemsRead s kind room i h xs → IsHeadRead s kind h v l → IsValueRead s room v e x → (more ≡ true → IsSeparated s.text e g)
     → (more ≡ false → IsEnd s.text kind e g)
     → IsContainerRead s kind room i g (xs ++ (l, x) ∷ []) more
@@ -135,7 +135,7 @@ container_goes_on true read head value comma close = item_read read head value (
 container_goes_on false read head value comma close = last_read read head value (close refl)
 
 -- and less of the text is left
-pub less_left : {s : Source} {kind : Kind} {room i h v e g : ℕ} {xs : List (Option (List ℕ) × Tree)} {l : Option (List ℕ)} {x : Tree} (more : Bool)
+less_left : {s : Source} {kind : Kind} {room i h v e g : ℕ} {xs : List (Option (List ℕ) × Tree)} {l : Option (List ℕ)} {x : Tree} (more : Bool)
     → AreItemsRead s kind room i h xs → IsHeadRead s kind h v l → IsValueRead s room v e x → (more ≡ true → IsSeparated s.text e g)
     → (more ≡ false → IsEnd s.text kind e g)
     → length s.text - g < length s.text - h
@@ -147,3 +147,38 @@ less_left {s} {e = e} false read head value comma close =
     let c = close refl in
     let within = value_within (value_read (last_read read head value c)) in
     omega (arith, within, c.1, after_space_later s.text e, head-later head.head, value-longer (value_read value))
+
+-- the same by the cursors that an item is passed with: at its head, at its value, at its end, and where the next item is expected
+module _ {s : Source} {kind : Kind} {room i : ℕ} {h : Cursor} {xs : List (Option (List ℕ) × Tree)} (at_head : h ≡ record { source = s; place = h.place })
+    (read : AreItemsRead s kind room i h.place xs) where
+  pub key_stops : {stop : Stop} → kind ≡ Object → IsKeyFault strict h.source.text h.place stop → IsUnreadValue s.text (room + 1) i stop
+  key_stops k f = key_unread read k (rw (same_source at_head) at f)
+
+  module _ {v : Cursor} {l : Option (List ℕ)} (at_value : v ≡ record { source = h.source; place = v.place }) (head : IsHeadRead h.source kind h.place v.place l) where
+    head_in : IsHeadRead s kind h.place v.place l
+    head_in = rw (same_source at_head) at head
+
+    value_in : v.source ≡ s
+    value_in = same_source at_value ∙ same_source at_head
+
+    pub value_stops : {stop : Stop} → IsUnreadValue v.source.text room v.place stop → IsUnreadValue s.text (room + 1) i stop
+    value_stops f = value_unread read head_in (rw value_in at f)
+
+    module _ {e : Cursor} {x : Tree} (at_end : e ≡ record { source = v.source; place = e.place }) (value : IsValueRead v.source room v.place e.place x) where
+      end_in : e.source ≡ s
+      end_in = same_source at_end ∙ value_in
+
+      pub separator_stops : {stop : Stop} → IsSeparatorFault e.source.text kind e.place stop → IsUnreadValue s.text (room + 1) i stop
+      separator_stops f = separator_unread read head_in (rw value_in at value) (rw end_in at f)
+
+      module _ {g : Cursor} (at_next : g ≡ record { source = e.source; place = g.place }) (more : Bool) (comma : more ≡ true → IsSeparated e.source.text e.place g.place)
+          (close : more ≡ false → IsEnd e.source.text kind e.place g.place) where
+        pub item_kept : g ≡ record { source = s; place = g.place }
+        item_kept = rw end_in at at_next
+
+        pub item_goes_on : IsContainerRead s kind room i g.place (xs ++ (l, x) ∷ []) more
+        item_goes_on = container_goes_on more read head_in (rw value_in at value) (rw end_in at comma) (rw end_in at close)
+
+        pub item_leaves_less : length g.source.text - g.place < length h.source.text - h.place
+        item_leaves_less =
+            rw (same_source at_next ∙ end_in, same_source at_head) (less_left more read head_in (rw value_in at value) (rw end_in at comma) (rw end_in at close))

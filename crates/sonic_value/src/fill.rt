@@ -33,18 +33,16 @@ pub(crate) fn fill_value(
     if !reader.at_object() {
         return read_value(reader, room);
     }
-    match schema {
-        Value::Object(members) => {
-            if members.is_empty() {
-                return read_value(reader, room);
-            }
-            if levels == 0 {
-                return Err(Fault::OutOfMemory);
-            }
-            Ok(Value::Object(fill_members(reader, members, room, levels - 1)?))
-        }
-        _ => read_value(reader, room),
+    let Value::Object(members) = schema else {
+        return read_value(reader, room);
+    };
+    if members.is_empty() {
+        return read_value(reader, room);
     }
+    if levels == 0 {
+        return Err(Fault::OutOfMemory);
+    }
+    Ok(Value::Object(fill_members(reader, members, room, levels - 1)?))
 }
 
 // Fills the members of a schema, one or more, from those of the object at the cursor.

@@ -190,25 +190,23 @@ impl Inserts for Value {
         if self.get(node).is_some() {
             return Ok(());
         }
-        match node {
-            PointerNode::Index(_) => match self {
+        let PointerNode::Key(name) = node else {
+            return match self {
                 Value::Array(_) => Err(Error::plain(ErrorCode::GetIndexOutOfArray)),
                 _ => Err(Error::plain(ErrorCode::UnexpectedVisitType)),
-            },
-            PointerNode::Key(name) => match self.as_object_mut() {
-                Some(members) => append_null(members, alloc, name),
-                None => match self {
-                    Value::Null => {
-                        let mut members = Vec::new(alloc);
-                        if let Err(error) = append_null(&mut members, alloc, name) {
-                            return Err(error);
-                        }
-                        *self = Value::Object(members);
-                        Ok(())
-                    }
-                    _ => Err(Error::plain(ErrorCode::UnexpectedVisitType)),
-                },
-            },
+            };
+        };
+        if let Some(members) = self.as_object_mut() {
+            return append_null(members, alloc, name);
+        }
+        match self {
+            Value::Null => {
+                let mut members = Vec::new(alloc);
+                append_null(&mut members, alloc, name)?;
+                *self = Value::Object(members);
+                Ok(())
+            }
+            _ => Err(Error::plain(ErrorCode::UnexpectedVisitType)),
         }
     }
 }

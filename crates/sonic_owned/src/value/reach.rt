@@ -75,24 +75,28 @@ impl OwnedLazyValue {
             return Ok(None);
         }
         self.load(alloc)?;
-        match *node {
-            PointerNode::Index(i) => match self.array_level() {
-                Some(array) => match array.at_mut(i) {
-                    Some(element) => element.reach(alloc, rest, f),
-                    None => Ok(None),
-                },
-                None => Ok(None),
-            },
-            PointerNode::Key(key) => match self.object_level() {
-                Some(object) => match object.first_of_key(key) {
-                    Some(i) => match object.at_mut(i) {
-                        Some(value) => value.reach(alloc, rest, f),
-                        None => Ok(None),
-                    },
-                    None => Ok(None),
-                },
-                None => Ok(None),
-            },
+        if let PointerNode::Index(i) = *node {
+            let Some(array) = self.array_level() else {
+                return Ok(None);
+            };
+            let Some(element) = array.at_mut(i) else {
+                return Ok(None);
+            };
+            return element.reach(alloc, rest, f);
         }
+        let PointerNode::Key(key) = *node else {
+            // A node is an index or a key, so this never comes.
+            return Ok(None);
+        };
+        let Some(object) = self.object_level() else {
+            return Ok(None);
+        };
+        let Some(i) = object.first_of_key(key) else {
+            return Ok(None);
+        };
+        let Some(value) = object.at_mut(i) else {
+            return Ok(None);
+        };
+        value.reach(alloc, rest, f)
     }
 }

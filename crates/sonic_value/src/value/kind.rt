@@ -34,27 +34,23 @@ impl JsonValueTrait for Value {
     }
 
     fn as_i64(&self) -> Option<i64> {
-        match self {
-            Value::Number(text) => {
-                if !is_number(text) {
-                    return None;
-                }
-                whole_i64(text)
-            }
-            _ => None,
+        let Value::Number(text) = self else {
+            return None;
+        };
+        if !is_number(text) {
+            return None;
         }
+        whole_i64(text)
     }
 
     fn as_u64(&self) -> Option<u64> {
-        match self {
-            Value::Number(text) => {
-                if !is_number(text) {
-                    return None;
-                }
-                whole_u64(text)
-            }
-            _ => None,
+        let Value::Number(text) = self else {
+            return None;
+        };
+        if !is_number(text) {
+            return None;
         }
+        whole_u64(text)
     }
 }
 

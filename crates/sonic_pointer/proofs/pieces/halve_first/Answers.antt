@@ -24,4 +24,4 @@ returns-clause-same c =
     ap (λ l. c.split_off.new.self.items ++ numbers_of l) (c.raise.ensures ∙ same)
     ∙ (ap (λ l. c.split_off.new.self.items ++ (c.in_ok-numbers.numbers.items ++ l)) rest
     ∙ (ap (λ l. l ++ (c.in_ok-numbers.numbers.items ++ numbers_of c.args.more.now.items)) c.in_ok-numbers.ensures.items
-    ∙ (ap (λ l. take 512 c.args.first.now.items ++ (l ++ numbers_of c.args.more.now.items)) c.in_ok-numbers.ensures.tail ∙ joined c.args.first.now.items (numbers_of c.args.more.now.items) 512)))
+    ∙ (ap (λ l. take 2048 c.args.first.now.items ++ (l ++ numbers_of c.args.more.now.items)) c.in_ok-numbers.ensures.tail ∙ joined c.args.first.now.items (numbers_of c.args.more.now.items) 2048)))

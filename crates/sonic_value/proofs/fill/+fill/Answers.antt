@@ -116,19 +116,19 @@ fill_value-returns-then-is_empty-clause-err t c =
     let none : ¬ HasMembers (tree c.args.schema) = rw (ap tree c.in-Object.is ∙ tree_object c.in-Object.members) (has_none c.in-Object.members.items (omega (arith, c.in-Object.members.ok.0, eqb-true _ 0 (sym c.if-is_empty.ensures)))) in
     IfErr-weaker c.read_value-then-is_empty.result _ _ (λ fault h. stop_weaker fault (λ s f. replaced_stopped c.args.reader.now.source c.args.room s f (λ w e. no_members (lacks_members c.args.reader.now.source.is_utf8 w none e))) h) c.read_value-then-is_empty.ensures.err
 
-pub fill_value-returns-in-Object-clause-ok : goal.fill_value-returns-in-Object-clause-ok
-fill_value-returns-in-Object-clause-ok t c =
+pub fill_value-returns-clause-ok : goal.fill_value-returns-clause-ok
+fill_value-returns-clause-ok t c =
     let tree_is = ap tree c.in-Object.is ∙ tree_object c.in-Object.members in
-    rw (tree_is, tree_object c.in_ok-fill_members-in-Object.field-0) (object_read c.args.reader.now.source c.args.room c.in_ok-fill_members-in-Object.ensures.ok)
+    rw (tree_is, tree_object c.in_ok-fill_members.field-0) (object_read c.args.reader.now.source c.args.room c.in_ok-fill_members.ensures.ok)
 
-pub fill_value-returns-in_err-fill_members-in-Object-clause-err : goal.fill_value-returns-in_err-fill_members-in-Object-clause-err
-fill_value-returns-in_err-fill_members-in-Object-clause-err t c =
+pub fill_value-returns-in_err-fill_members-clause-err : goal.fill_value-returns-in_err-fill_members-clause-err
+fill_value-returns-in_err-fill_members-clause-err t c =
     let p = err_from_is_err_and c.from_residual.result c.from_residual.ensures.1 in
     let tree_is = ap tree c.in-Object.is ∙ tree_object c.in-Object.members in
-    rw (p.1, p.2, tree_is) (stop_weaker c.in_err-fill_members-in-Object.field-0.0 (object_stopped c.args.reader.now.source c.args.room) c.in_err-fill_members-in-Object.ensures.err)
+    rw (p.1, p.2, tree_is) (stop_weaker c.in_err-fill_members.field-0.0 (object_stopped c.args.reader.now.source c.args.room) c.in_err-fill_members.ensures.err)
 
-pub fill_value-returns : goal.fill_value-returns
-fill_value-returns t c =
+pub fill_value-returns-in_default : goal.fill_value-returns-in_default
+fill_value-returns-in_default t c =
     let none = other_value c.args.schema c.in_default.not-Object in
     let source = c.args.reader.now.source in
     record {

@@ -1,11 +1,11 @@
-use Rattle.std.proofs.Common.{◌≡◌, ◌∙◌, ◌+◌, ◌-◌, ◌∷◌, [], arith, refl}
+use Rattle.std.proofs.Common.{◌≡◌, ◌+◌, ◌-◌, ◌∷◌, [], arith, refl}
 use Rattle.std.proofs.lemmas.List.{map-append}
 use Rattle.std.proofs.lemmas.Result.{err_from_is_err_and, IfOk-weaker, IfErr-weaker}
 use Rattle.sonic_parser.proofs.FaultLemmas.{stop_weaker}
 use Rattle.sonic_text.specs.declared.kind.Kind.TheVariants.{Array, Object}
 use Rattle.sonic_value.proofs.DepthLemmas.{too_deep_here}
 use Rattle.sonic_value.proofs.Folds.{element, member, array_items, object_items}
-use Rattle.sonic_value.proofs.ReaderLemmas.{same_source, no_label, container_begins, container_goes_on, less_left, key_unread, value_unread, separator_unread}
+use Rattle.sonic_value.proofs.ReaderLemmas.{no_label, container_begins, key_stops, value_stops, separator_stops, item_kept, item_goes_on, item_leaves_less}
 use Rattle.sonic_value.specs.Readers.{too_deep}
 use Rattle.sonic_value.proofs.read.+read.Goals as goal
 
@@ -17,27 +17,19 @@ read_array-loop-more-init t c = record {
 
 pub read_array-loop-more-preserved : goal.read_array-loop-more-preserved
 read_array-loop-more-preserved t c =
-    let source : c.loop-more.reader.source ≡ c.args.reader.now.source = same_source c.loop-more.invariant.kept in
-    let passed : c.read_value.new.reader.source ≡ c.args.reader.now.source = same_source c.in_ok-read_value.ensures.moved ∙ source in
     let read = rw c.loop-more-test.true at c.loop-more.invariant.read in
-    let value = rw source at c.in_ok-read_value.ensures.ok in
-    let comma = rw passed at c.in_ok-more.ensures.item in
-    let close = rw passed at c.in_ok-more.ensures.end in
+    let m = c.in_ok-more in
     record {
-      kept = rw passed at c.in_ok-more.ensures.moved;
-      read = rw (c.in_ok-push.ensures.items, map-append element c.loop-more.elements.items (c.in_ok-read_value.field-0 ∷ [])) (container_goes_on c.in_ok-more.more read (no_label refl) value comma close);
+      kept = item_kept c.loop-more.invariant.kept read refl (no_label refl) c.in_ok-read_value.ensures.moved c.in_ok-read_value.ensures.ok m.ensures.moved m.more m.ensures.item m.ensures.end;
+      read = rw (c.in_ok-push.ensures.items, map-append element c.loop-more.elements.items (c.in_ok-read_value.field-0 ∷ []))
+          (item_goes_on c.loop-more.invariant.kept read refl (no_label refl) c.in_ok-read_value.ensures.moved c.in_ok-read_value.ensures.ok m.ensures.moved m.more m.ensures.item m.ensures.end);
     }
 
 pub read_array-loop-more-smaller : goal.read_array-loop-more-smaller
 read_array-loop-more-smaller t c =
-    let source : c.loop-more.reader.source ≡ c.args.reader.now.source = same_source c.loop-more.invariant.kept in
-    let passed : c.read_value.new.reader.source ≡ c.args.reader.now.source = same_source c.in_ok-read_value.ensures.moved ∙ source in
-    let after : c.next_item.new.self.source ≡ c.args.reader.now.source = same_source c.in_ok-more.ensures.moved ∙ passed in
     let read = rw c.loop-more-test.true at c.loop-more.invariant.read in
-    let value = rw source at c.in_ok-read_value.ensures.ok in
-    let comma = rw passed at c.in_ok-more.ensures.item in
-    let close = rw passed at c.in_ok-more.ensures.end in
-    rw (after, source) (less_left c.in_ok-more.more read (no_label refl) value comma close)
+    let m = c.in_ok-more in
+    item_leaves_less c.loop-more.invariant.kept read refl (no_label refl) c.in_ok-read_value.ensures.moved c.in_ok-read_value.ensures.ok m.ensures.moved m.more m.ensures.item m.ensures.end
 
 pub read_array-returns-clause-ok : goal.read_array-returns-clause-ok
 read_array-returns-clause-ok t c = rw (array_items c.loop-more.elements) (rw c.loop-more-test.false at c.loop-more.invariant.read)
@@ -45,20 +37,14 @@ read_array-returns-clause-ok t c = rw (array_items c.loop-more.elements) (rw c.l
 pub read_array-returns-in_err-read_value-clause-err : goal.read_array-returns-in_err-read_value-clause-err
 read_array-returns-in_err-read_value-clause-err t c =
     let p = err_from_is_err_and c.from_residual.result c.from_residual.ensures.1 in
-    let source : c.loop-more.reader.source ≡ c.args.reader.now.source = same_source c.loop-more.invariant.kept in
     let read = rw c.loop-more-test.true at c.loop-more.invariant.read in
-    let stop = rw source at c.in_err-read_value.ensures.err in
-    rw (p.1, p.2) (stop_weaker c.in_err-read_value.field-0.0 (λ s f. value_unread read (no_label refl) f) stop)
+    rw (p.1, p.2) (stop_weaker c.in_err-read_value.field-0.0 (λ s f. value_stops c.loop-more.invariant.kept read refl (no_label refl) f) c.in_err-read_value.ensures.err)
 
 pub read_array-returns-in_err-more-clause-err : goal.read_array-returns-in_err-more-clause-err
 read_array-returns-in_err-more-clause-err t c =
     let p = err_from_is_err_and c.from_residual-in_err-more.result c.from_residual-in_err-more.ensures.1 in
-    let source : c.loop-more.reader.source ≡ c.args.reader.now.source = same_source c.loop-more.invariant.kept in
-    let passed : c.read_value.new.reader.source ≡ c.args.reader.now.source = same_source c.in_ok-read_value.ensures.moved ∙ source in
     let read = rw c.loop-more-test.true at c.loop-more.invariant.read in
-    let value = rw source at c.in_ok-read_value.ensures.ok in
-    let fault = rw passed at c.in_err-more.ensures.err in
-    rw (p.1, p.2) (separator_unread read (no_label refl) value fault)
+    rw (p.1, p.2) (separator_stops c.loop-more.invariant.kept read refl (no_label refl) c.in_ok-read_value.ensures.moved c.in_ok-read_value.ensures.ok c.in_err-more.ensures.err)
 
 pub read_object-loop-more-init : goal.read_object-loop-more-init
 read_object-loop-more-init t c = record {
@@ -68,31 +54,19 @@ read_object-loop-more-init t c = record {
 
 pub read_object-loop-more-preserved : goal.read_object-loop-more-preserved
 read_object-loop-more-preserved t c =
-    let source : c.loop-more.reader.source ≡ c.args.reader.now.source = same_source c.loop-more.invariant.kept in
-    let headed : c.key.new.self.source ≡ c.args.reader.now.source = same_source c.in_ok-key.ensures.moved ∙ source in
-    let passed : c.read_value.new.reader.source ≡ c.args.reader.now.source = same_source c.in_ok-read_value.ensures.moved ∙ headed in
     let read = rw c.loop-more-test.true at c.loop-more.invariant.read in
-    let head = rw source at c.in_ok-key.ensures.ok in
-    let value = rw headed at c.in_ok-read_value.ensures.ok in
-    let comma = rw passed at c.in_ok-more.ensures.item in
-    let close = rw passed at c.in_ok-more.ensures.end in
+    let m = c.in_ok-more in
     record {
-      kept = rw passed at c.in_ok-more.ensures.moved;
-      read = rw (c.in_ok-push.ensures.items, map-append member c.loop-more.members.items ((c.in_ok-key.key, c.in_ok-read_value.field-0) ∷ [])) (container_goes_on c.in_ok-more.more read head value comma close);
+      kept = item_kept c.loop-more.invariant.kept read c.in_ok-key.ensures.moved c.in_ok-key.ensures.ok c.in_ok-read_value.ensures.moved c.in_ok-read_value.ensures.ok m.ensures.moved m.more m.ensures.item m.ensures.end;
+      read = rw (c.in_ok-push.ensures.items, map-append member c.loop-more.members.items ((c.in_ok-key.key, c.in_ok-read_value.field-0) ∷ []))
+          (item_goes_on c.loop-more.invariant.kept read c.in_ok-key.ensures.moved c.in_ok-key.ensures.ok c.in_ok-read_value.ensures.moved c.in_ok-read_value.ensures.ok m.ensures.moved m.more m.ensures.item m.ensures.end);
     }
 
 pub read_object-loop-more-smaller : goal.read_object-loop-more-smaller
 read_object-loop-more-smaller t c =
-    let source : c.loop-more.reader.source ≡ c.args.reader.now.source = same_source c.loop-more.invariant.kept in
-    let headed : c.key.new.self.source ≡ c.args.reader.now.source = same_source c.in_ok-key.ensures.moved ∙ source in
-    let passed : c.read_value.new.reader.source ≡ c.args.reader.now.source = same_source c.in_ok-read_value.ensures.moved ∙ headed in
-    let after : c.next_item.new.self.source ≡ c.args.reader.now.source = same_source c.in_ok-more.ensures.moved ∙ passed in
     let read = rw c.loop-more-test.true at c.loop-more.invariant.read in
-    let head = rw source at c.in_ok-key.ensures.ok in
-    let value = rw headed at c.in_ok-read_value.ensures.ok in
-    let comma = rw passed at c.in_ok-more.ensures.item in
-    let close = rw passed at c.in_ok-more.ensures.end in
-    rw (after, source) (less_left c.in_ok-more.more read head value comma close)
+    let m = c.in_ok-more in
+    item_leaves_less c.loop-more.invariant.kept read c.in_ok-key.ensures.moved c.in_ok-key.ensures.ok c.in_ok-read_value.ensures.moved c.in_ok-read_value.ensures.ok m.ensures.moved m.more m.ensures.item m.ensures.end
 
 pub read_object-returns-clause-ok : goal.read_object-returns-clause-ok
 read_object-returns-clause-ok t c = rw (object_items c.loop-more.members) (rw c.loop-more-test.false at c.loop-more.invariant.read)
@@ -100,32 +74,20 @@ read_object-returns-clause-ok t c = rw (object_items c.loop-more.members) (rw c.
 pub read_object-returns-in_err-key-clause-err : goal.read_object-returns-in_err-key-clause-err
 read_object-returns-in_err-key-clause-err t c =
     let p = err_from_is_err_and c.from_residual.result c.from_residual.ensures.1 in
-    let source : c.loop-more.reader.source ≡ c.args.reader.now.source = same_source c.loop-more.invariant.kept in
     let read = rw c.loop-more-test.true at c.loop-more.invariant.read in
-    let fault = rw source at c.in_err-key.ensures.err in
-    rw (p.1, p.2) (stop_weaker c.in_err-key.field-0.0 (λ s f. key_unread read refl f) fault)
+    rw (p.1, p.2) (stop_weaker c.in_err-key.field-0.0 (λ s f. key_stops c.loop-more.invariant.kept read refl f) c.in_err-key.ensures.err)
 
 pub read_object-returns-in_err-read_value-clause-err : goal.read_object-returns-in_err-read_value-clause-err
 read_object-returns-in_err-read_value-clause-err t c =
     let p = err_from_is_err_and c.from_residual-in_err-read_value.result c.from_residual-in_err-read_value.ensures.1 in
-    let source : c.loop-more.reader.source ≡ c.args.reader.now.source = same_source c.loop-more.invariant.kept in
-    let headed : c.key.new.self.source ≡ c.args.reader.now.source = same_source c.in_ok-key.ensures.moved ∙ source in
     let read = rw c.loop-more-test.true at c.loop-more.invariant.read in
-    let head = rw source at c.in_ok-key.ensures.ok in
-    let stop = rw headed at c.in_err-read_value.ensures.err in
-    rw (p.1, p.2) (stop_weaker c.in_err-read_value.field-0.0 (λ s f. value_unread read head f) stop)
+    rw (p.1, p.2) (stop_weaker c.in_err-read_value.field-0.0 (λ s f. value_stops c.loop-more.invariant.kept read c.in_ok-key.ensures.moved c.in_ok-key.ensures.ok f) c.in_err-read_value.ensures.err)
 
 pub read_object-returns-in_err-more-clause-err : goal.read_object-returns-in_err-more-clause-err
 read_object-returns-in_err-more-clause-err t c =
     let p = err_from_is_err_and c.from_residual-in_err-more.result c.from_residual-in_err-more.ensures.1 in
-    let source : c.loop-more.reader.source ≡ c.args.reader.now.source = same_source c.loop-more.invariant.kept in
-    let headed : c.key.new.self.source ≡ c.args.reader.now.source = same_source c.in_ok-key.ensures.moved ∙ source in
-    let passed : c.read_value.new.reader.source ≡ c.args.reader.now.source = same_source c.in_ok-read_value.ensures.moved ∙ headed in
     let read = rw c.loop-more-test.true at c.loop-more.invariant.read in
-    let head = rw source at c.in_ok-key.ensures.ok in
-    let value = rw headed at c.in_ok-read_value.ensures.ok in
-    let fault = rw passed at c.in_err-more.ensures.err in
-    rw (p.1, p.2) (separator_unread read head value fault)
+    rw (p.1, p.2) (separator_stops c.loop-more.invariant.kept read c.in_ok-key.ensures.moved c.in_ok-key.ensures.ok c.in_ok-read_value.ensures.moved c.in_ok-read_value.ensures.ok c.in_err-more.ensures.err)
 
 pub read_value-returns-in_default-clause-ok : goal.read_value-returns-in_default-clause-ok
 read_value-returns-in_default-clause-ok t c = IfOk-weaker c.scalar.result _ _ (λ made read. read c.args.room) c.scalar.ensures.ok

@@ -25,8 +25,8 @@ pub returns-in_err-load-clause-memory : goal.returns-in_err-load-clause-memory
 returns-in_err-load-clause-memory g t c = on_err c.from_residual.result (first_opened (begins c.args.path.now _ c.in-len1-up.len_at_least)
     c.in_err-load.ensures.memory (c.if-not-is_for.ensures.0 refl))
 
-pub returns-in-Some-at_mut : goal.returns-in-Some-at_mut
-returns-in-Some-at_mut g t c =
+pub returns-in-Index : goal.returns-in-Index
+returns-in-Index g t c =
     let path = path_index c.args.path.now _ c.in-Index.i c.in-len1-up.len_at_least c.in-Index.is in
     let step = array_step (elements c.in-Some.array.now) c.in-Index.i c.in_ok-load.ensures.ok c.in-Some.ensures.some c.in-Some-at_mut.ensures.value
     (on_some c.in-Some-at_mut.is (c.at_mut.follows.holds c.reach.new.self)) (on_some c.in-Some.is (c.array_level.follows.holds _)) in
@@ -45,59 +45,59 @@ returns-in-Some-at_mut g t c =
       memory = on_err_then c.reach.result (step_opened path step) c.reach.ensures.memory;
     }
 
-pub returns-in-None-at_mut-clause-none : goal.returns-in-None-at_mut-clause-none
-returns-in-None-at_mut-clause-none g t c = λ e.
+pub returns-in_default-at_mut-clause-none : goal.returns-in_default-at_mut-clause-none
+returns-in_default-at_mut-clause-none g t c = λ e.
     let path = path_index c.args.path.now _ c.in-Index.i c.in-len1-up.len_at_least c.in-Index.is in
-    array_lacks (elements c.in-Some.array.now) path c.in_ok-load.ensures.ok c.in-Some.ensures.some c.in-None-at_mut.ensures.value
+    array_lacks (elements c.in-Some.array.now) path c.in_ok-load.ensures.ok c.in-Some.ensures.some c.in_default-at_mut.ensures.value
 
-pub returns-in-None-at_mut-clause-same : goal.returns-in-None-at_mut-clause-same
-returns-in-None-at_mut-clause-same g t c = λ e.
+pub returns-in_default-at_mut-clause-same : goal.returns-in_default-at_mut-clause-same
+returns-in_default-at_mut-clause-same g t c = λ e.
     array_still c.in_ok-load.ensures.ok c.in-Some.ensures.some c.at_mut.follows.holds-at-none (on_some c.in-Some.is (c.array_level.follows.holds _))
 
-pub returns-in-None-clause-none : goal.returns-in-None-clause-none
-returns-in-None-clause-none g t c = λ e.
-    let path = path_index c.args.path.now _ c.in-Index.i c.in-len1-up.len_at_least c.in-Index.is in
-    no_array path c.in_ok-load.ensures.ok (sound_means (value_sound c.args.self.now)).1 (c.in-None.ensures.none refl)
-
-pub returns-in-None-clause-same : goal.returns-in-None-clause-same
-returns-in-None-clause-same g t c = λ e x m. rw c.array_level.follows.holds-at-none (opened_still c.in_ok-load.ensures.ok x m)
-
-pub returns-in-Some-at_mut-2 : goal.returns-in-Some-at_mut-2
-returns-in-Some-at_mut-2 g t c =
+pub returns : goal.returns
+returns g t c =
     let path = path_key c.args.path.now _ c.in-Key.key c.in-len1-up.len_at_least c.in-Key.is in
     let step = object_step (members c.in-Some-object_level.object.now) c.in-Key.key.now c.in-Some-first_of_key.i c.in_ok-load.ensures.ok c.in-Some-object_level.ensures.some
     c.in-Some-first_of_key.ensures.some c.in-Some-at_mut-2.ensures.value
-    (on_some c.in-Some-at_mut-2.is (c.at_mut-in-Some-first_of_key.follows.holds c.reach-in-Some-at_mut-2.new.self))
+    (on_some c.in-Some-at_mut-2.is (c.at_mut-2.follows.holds c.reach-2.new.self))
     (on_some c.in-Some-object_level.is (c.object_level.follows.holds _)) in
     record {
-      some = if_some_then c.reach-in-Some-at_mut-2.result (λ given d. record {
+      some = if_some_then c.reach-2.result (λ given d. record {
         part = d.part;
         left = d.left;
         change = d.change;
         put
             = step_put path step d.put;
-      }) c.reach-in-Some-at_mut-2.ensures.some;
-      none = if_ok_then c.reach-in-Some-at_mut-2.result (λ found none e. step_nowhere path step (none e)) c.reach-in-Some-at_mut-2.ensures.none;
-      same = if_ok_then c.reach-in-Some-at_mut-2.result (λ found same e. step_still step (same e)) c.reach-in-Some-at_mut-2.ensures.same;
-      err = c.reach-in-Some-at_mut-2.ensures.err;
-      kept = on_err_then c.reach-in-Some-at_mut-2.result (step_still step) c.reach-in-Some-at_mut-2.ensures.kept;
-      memory = on_err_then c.reach-in-Some-at_mut-2.result (step_opened path step) c.reach-in-Some-at_mut-2.ensures.memory;
+      }) c.reach-2.ensures.some;
+      none = if_ok_then c.reach-2.result (λ found none e. step_nowhere path step (none e)) c.reach-2.ensures.none;
+      same = if_ok_then c.reach-2.result (λ found same e. step_still step (same e)) c.reach-2.ensures.same;
+      err = c.reach-2.ensures.err;
+      kept = on_err_then c.reach-2.result (step_still step) c.reach-2.ensures.kept;
+      memory = on_err_then c.reach-2.result (step_opened path step) c.reach-2.ensures.memory;
     }
 
-pub returns-in-None-first_of_key-clause-none : goal.returns-in-None-first_of_key-clause-none
-returns-in-None-first_of_key-clause-none g t c = λ e.
+pub returns-in_default-first_of_key-clause-none : goal.returns-in_default-first_of_key-clause-none
+returns-in_default-first_of_key-clause-none g t c = λ e.
     let path = path_key c.args.path.now _ c.in-Key.key c.in-len1-up.len_at_least c.in-Key.is in
     object_lacks (members c.in-Some-object_level.object.now) path c.in_ok-load.ensures.ok c.in-Some-object_level.ensures.some
-    (c.in-None-first_of_key.ensures.none refl)
+    (c.first_of_key.ensures.none c.in_default-first_of_key.is)
 
-pub returns-in-None-first_of_key-clause-same : goal.returns-in-None-first_of_key-clause-same
-returns-in-None-first_of_key-clause-same g t c = λ e.
+pub returns-in_default-first_of_key-clause-same : goal.returns-in_default-first_of_key-clause-same
+returns-in_default-first_of_key-clause-same g t c = λ e.
     object_still c.in_ok-load.ensures.ok c.in-Some-object_level.ensures.some refl (on_some c.in-Some-object_level.is (c.object_level.follows.holds _))
 
-pub returns-in-None-object_level-clause-none : goal.returns-in-None-object_level-clause-none
-returns-in-None-object_level-clause-none g t c = λ e.
-    let path = path_key c.args.path.now _ c.in-Key.key c.in-len1-up.len_at_least c.in-Key.is in
-    no_object path c.in_ok-load.ensures.ok (sound_means (value_sound c.args.self.now)).1 (c.in-None-object_level.ensures.none refl)
+pub returns-in_default-array_level-clause-none : goal.returns-in_default-array_level-clause-none
+returns-in_default-array_level-clause-none g t c = λ e.
+    let path = path_index c.args.path.now _ c.in-Index.i c.in-len1-up.len_at_least c.in-Index.is in
+    no_array path c.in_ok-load.ensures.ok (sound_means (value_sound c.args.self.now)).1 (c.array_level.ensures.none c.in_default-array_level.is)
 
-pub returns-in-None-object_level-clause-same : goal.returns-in-None-object_level-clause-same
-returns-in-None-object_level-clause-same g t c = λ e x m. rw c.object_level.follows.holds-at-none (opened_still c.in_ok-load.ensures.ok x m)
+pub returns-in_default-array_level-clause-same : goal.returns-in_default-array_level-clause-same
+returns-in_default-array_level-clause-same g t c = λ e x m. rw c.array_level.follows.holds-at-none (opened_still c.in_ok-load.ensures.ok x m)
+
+pub returns-in_default-object_level-clause-none : goal.returns-in_default-object_level-clause-none
+returns-in_default-object_level-clause-none g t c = λ e.
+    let path = path_key c.args.path.now _ c.in-Key.key c.in-len1-up.len_at_least c.in-Key.is in
+    no_object path c.in_ok-load.ensures.ok (sound_means (value_sound c.args.self.now)).1 (c.object_level.ensures.none c.in_default-object_level.is)
+
+pub returns-in_default-object_level-clause-same : goal.returns-in_default-object_level-clause-same
+returns-in_default-object_level-clause-same g t c = λ e x m. rw c.object_level.follows.holds-at-none (opened_still c.in_ok-load.ensures.ok x m)

@@ -13,7 +13,7 @@ use Rattle.sonic_owned.proofs.value.LazyObject.TheLaws.{the_row_laws}
 use Rattle.sonic_owned.proofs.value.OwnedLazyValue.as_object_mut.Code as code
 use Rattle.sonic_owned.proofs.value.OwnedLazyValue.as_object_mut.Statement.{statement}
 use Rattle.sonic_owned.proofs.value.lend.answer.Met as answers
-use Rattle.sonic_owned.proofs.value.lend.lend_object.Met.{met}
+use Rattle.sonic_owned.proofs.value.lend_level.lend_object.Met.{met}
 use Rattle.sonic_owned.specs.Forms.{level, Members, named as with_keys, scalar_of_form}
 use Rattle.sonic_owned.specs.Lends.{answer_name, Answer, IsAnswer, IsLevelFound}
 use Rattle.sonic_owned.specs.Opened.{IsClosedOf, IsOpened}
@@ -22,7 +22,7 @@ use Rattle.sonic_owned.specs.contracts.value.LazyObject.{the_row as S}
 use Rattle.sonic_owned.specs.contracts.value.OwnedLazyValue.{the_row as R}
 use Rattle.sonic_owned.specs.contracts.value.OwnedLazyValue.as_object_mut as f
 use Rattle.sonic_owned.specs.contracts.value.lend.answer as h
-use Rattle.sonic_owned.specs.contracts.value.lend.lend_object as g
+use Rattle.sonic_owned.specs.contracts.value.lend_level.lend_object as g
 use Rattle.sonic_owned.specs.declared.value.lend.Stop.{Stop}
 use Rattle.sonic_text.specs.declared.kind.Kind.TheVariants.{Object}
 use base.Fml.{Fml, ftrue, flft}
@@ -162,7 +162,7 @@ module _ {M : Type 1} (𝓤 : Ura M) (𝓛 : Logic 𝓤) (𝓜 : Model 𝓤 𝓛
         nothing ! $ move ! (2 ∷ 0 ∷ []) $ join ! $ move ! (1 ∷ 0 ∷ []) $ join ! $ move ! (1 ∷ 0 ∷ []) $ join ! $ nothing ! $ move ! (1 ∷ 0 ∷ []) $
         let z : G.Ghost = (((κs.0, tt), (qs.0, tt), tt, (r, (al, tt)), (mut_vals r, (gv al, tt))), tt) in
         use2 𝓛 (raw (G.pre z)) (id⊢ 𝓤 _) $
-        calls_at ! (framed 𝓤 H 𝓜 (tables 𝓤 H 𝓜 𝓡 𝓡.env)) G (met 𝓤 𝓛 𝓜 𝓡 (code.calls-sonic_owned::value::lend::lend_object 𝓡.env wired)) z
+        calls_at ! (framed 𝓤 H 𝓜 (tables 𝓤 H 𝓜 𝓡 𝓡.env)) G (met 𝓤 𝓛 𝓜 𝓡 (code.calls-sonic_owned::value::lend_level::lend_object 𝓡.env wired)) z
         (and_then ! (get ! refl) (and_then ! (get ! refl) (no_more !))) (λ v.
         use1 𝓛 (later (some (λ (o : Lending). (Toks ⊛ ‵ (E.own_val o (v ∷ []))) ⊛
         some (λ (ws : Unit {0} × (Unit {0} × Unit {0})). ‵ (lasts g.ended z.0.0 z.0.3 ws) ⊛ ‵ (Lent r o) ⊛ raw (fact 𝓤 (Found r o)))))) (id⊢ 𝓤 _) $

@@ -1,9 +1,9 @@
 use Rattle.std.proofs.Common.{refl}
 use Rattle.sonic_owned.proofs.ReachLemmas.{on_some}
-use Rattle.sonic_owned.proofs.value.lend.lend_object.Goals as goal
+use Rattle.sonic_owned.proofs.value.lend_level.lend_array.Goals as goal
 
 pub returns-in-Some : goal.returns-in-Some
 returns-in-Some c = (
-  (refl, (λ w _. on_some c.in-Some.is (c.object_level.follows.holds w)), tt),
+  (refl, (λ w _. on_some c.in-Some.is (c.array_level.follows.holds w)), tt),
   record { back = tt; found = rw c.in-Some.ensures.some at c.in-Ok.ensures.ok },
 )
