@@ -44,9 +44,11 @@ enum {
   SONIC_OK = 0,
   /* The text has an error, or a path leads nowhere: *error says so. */
   SONIC_DOCUMENT_ERROR = 1,
-  /* There are not as many paths as spans: error->line is the number of paths, and its code is 0. */
+  /* There are not as many paths as spans: error->line is the number of paths, and all else in *error
+     is 0. */
   SONIC_WRONG_COUNT = 2,
-  /* The path is none; or, of many, error->line is the number of the first line that is none, from 1. */
+  /* The path is none; or, of many, error->line is the number of the first line that is none, from 1,
+     and all else in *error is 0. */
   SONIC_BAD_LINES = 3,
   /* Memory ran out. */
   SONIC_NO_MEMORY = 7

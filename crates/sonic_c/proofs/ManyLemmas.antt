@@ -47,11 +47,11 @@ refused_told (no_room is same) kept = record {
   error_kept = λ e. same;
   complete = λ p says long can. inr is;
 }
-refused_told (bad_lines is bad) kept = record {
+refused_told (bad_lines {n} is bad line) kept = record {
   ok = λ e. absurd cc;
   document_error = λ e. absurd cc;
   wrong_count = λ e. absurd cc;
-  bad_lines = λ e. bad;
+  bad_lines = λ e. (n, bad, line);
   no_other = inr (inr (inr (inl is)));
   spans_kept = λ other. kept;
   error_kept = λ e. elim e [ inl x ↦ absurd cc | inr x ↦ absurd cc ];

@@ -97,11 +97,15 @@ pub record ManyCells : Type 0 where
   pub spans : List Span
   pub error : Fault
 
+-- the number of a line of the paths, or of the paths, and nothing else
+abbrev pub at_line : ℕ → Fault
+at_line number = record { code = 0; line = number; column = 0; offset = 0 }
+
 -- lines are refused, as they say no paths, or not so many, or for want of memory
 pub data RefusesLines (lines : List ℕ) (count : ℕ) (before after : Fault) (status : ℕ) : Type 0 where
   no_room : status ≡ NO_MEMORY → after ≡ before → RefusesLines lines count before after status
-  bad_lines : status ≡ BAD_LINES → SayBad lines after.line → RefusesLines lines count before after status
-  wrong_count : {paths : List Path} → status ≡ WRONG_COUNT → Say lines paths → length paths ≢ count → after.line ≡ length paths
+  bad_lines : {n : ℕ} → status ≡ BAD_LINES → SayBad lines n → after ≡ at_line n → RefusesLines lines count before after status
+  wrong_count : {paths : List Path} → status ≡ WRONG_COUNT → Say lines paths → length paths ≢ count → after ≡ at_line (length paths)
       → RefusesLines lines count before after status
 
 -- spans are told, or an error
@@ -113,8 +117,8 @@ TellsAll (Err e) slots before after status = TellsError e before.error after.err
 pub record IsManyCall (t lines : List ℕ) (before after : ManyCells) (status : ℕ) : Type 0 where
   pub ok : status ≡ OK → (paths : List Path) × Say lines paths × TellSpans t paths after.spans
   pub document_error : status ≡ DOCUMENT_ERROR → (paths : List Path) × Say lines paths × (length paths ≡ length before.spans) × TellAllRefused t paths after.error
-  pub wrong_count : status ≡ WRONG_COUNT → (paths : List Path) × Say lines paths × (length paths ≢ length before.spans) × (after.error.line ≡ length paths)
-  pub bad_lines : status ≡ BAD_LINES → SayBad lines after.error.line
+  pub wrong_count : status ≡ WRONG_COUNT → (paths : List Path) × Say lines paths × (length paths ≢ length before.spans) × (after.error ≡ at_line (length paths))
+  pub bad_lines : status ≡ BAD_LINES → (n : ℕ) × SayBad lines n × (after.error ≡ at_line n)
   pub no_other : (status ≡ OK) ⊎ (status ≡ DOCUMENT_ERROR) ⊎ (status ≡ WRONG_COUNT) ⊎ (status ≡ BAD_LINES) ⊎ (status ≡ NO_MEMORY)
   pub spans_kept : status ≢ OK → after.spans ≡ before.spans
   pub error_kept : (status ≡ OK) ⊎ (status ≡ NO_MEMORY) → after.error ≡ before.error

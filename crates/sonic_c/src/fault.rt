@@ -1,7 +1,7 @@
 // The errors that a caller is told.
 ghost use Rattle.std.specs.Prelude.{◌≡◌};
 ghost use Rattle.sonic_c.specs.Codes.{numbers_of};
-ghost use Rattle.sonic_c.specs.Told.{TellsError};
+ghost use Rattle.sonic_c.specs.Told.{at_line, TellsError};
 
 use crate::code::number;
 use crate::status::{DOCUMENT_ERROR, NO_MEMORY};
@@ -37,7 +37,7 @@ impl Fault {
 
     // A line of the paths, or how many there are.
     pub(crate) fn at_line(line: usize) -> Fault
-        ensures { result ≡ record { code = 0; line = line; column = 0; offset = 0 } }
+        ensures { result ≡ at_line line }
     {
         Fault {
             code: 0,
