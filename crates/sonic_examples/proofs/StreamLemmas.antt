@@ -21,7 +21,7 @@ use Rattle.sonic_text.proofs.Within.{value_within}
 use Rattle.sonic_text.proofs.Values.{value-longer, value_end_one, value_never_both}
 use Rattle.sonic_parser.specs.Parsers.{Parsing, value_start, IsSkipped}
 use Rattle.sonic_parser.specs.declared.status.ParseStatus.{ParseStatus}
-use Rattle.sonic_examples.specs.Streams.{Stream, start_of, IsSettled, IsNeverOne, IsLineFeed, NoLineFeed}
+use Rattle.sonic_examples.specs.Streams.{Stream, start_of, HasNoRecord, IsSettled, IsNeverOne, IsLineFeed, NoLineFeed}
 use Rattle.sonic_examples.specs.Streams.IsSettled.{by_itself, by_space, by_end}
 
 -- a fault that isn't the end of the input is within what is held
@@ -37,6 +37,12 @@ fault_never s {stop} f c = λ u is_ended j e x.
 pub more_to_come : {t : List ℕ} {i : ℕ} (is_ended : Bool) → ¬ IsSettled t is_ended i (length t) → is_ended ≡ false
 more_to_come true n = absurd (n (by_end refl refl))
 more_to_come false n = refl
+
+-- where the one value that is there isn't settled no record is
+pub unsettled_none : (s : Stream) {j : ℕ} → IsValue strict s.held (start_of s) j → ¬ IsSettled s.held s.is_ended (start_of s) j → HasNoRecord s
+unsettled_none s x n = λ k r.
+    let one = value_end_one r.value x in
+    n (rw one at r.settled)
 
 -- where it isn't settled, though a byte follows, no continuation settles it
 pub unsettled_never : (s : Stream) (stop : Stop) → IsValue strict s.held (start_of s) stop.place → stop.place < length s.held

@@ -63,16 +63,20 @@ pub data IsPastLine (s : Stream) (p : ℕ) (now : Stream) : Type 0 where
   with_line_feed : {e : ℕ} → IsLineFeed s.held p e → now ≡ record s { next = e + 1; is_skipping = false } → IsPastLine s p now
   so_far : NoLineFeed s.held p (length s.held) → now ≡ record s { next = length s.held; is_skipping = true } → IsPastLine s p now
 
--- bytes are missing: some continuation makes a whole value, or what is held ends with a value that isn't settled
+-- no record is there
+abbrev pub HasNoRecord : Stream → Type 0
+HasNoRecord s = (j : ℕ) → ¬ IsRecord s.held s.is_ended s.next j
+
+-- bytes are missing: some continuation makes a whole value, or what is held ends with a value
 abbrev pub MayBecomeOne : Stream → Type 0
 MayBecomeOne s = MayGoOnFrom strict s.held s.next ⊎ IsValue strict s.held (start_of s) (length s.held)
 
 -- what `next` answers, and what is held afterwards
 pub data IsNext (s now : Stream) : Next → Type 0 where
   whole : {end : ℕ} → IsRecord s.held s.is_ended s.next end → now ≡ record s { next = end } → IsNext s now (Record (start_of s) end)
-  needs_more : s.is_ended ≡ false → MayBecomeOne s → now ≡ s → IsNext s now NeedsMore
+  needs_more : s.is_ended ≡ false → HasNoRecord s → MayBecomeOne s → now ≡ s → IsNext s now NeedsMore
   wrong : {stop : Stop} → IsWrong s stop → IsNeverOne s stop → IsPastLine s stop.place now → IsNext s now (Wrong (s.before + stop.place) stop.code)
-  cut : s.is_ended ≡ true → MayGoOnFrom strict s.held s.next → start_of s < length s.held → now ≡ record s { next = length s.held } → IsNext s now Cut
+  cut : s.is_ended ≡ true → HasNoRecord s → MayGoOnFrom strict s.held s.next → start_of s < length s.held → now ≡ record s { next = length s.held } → IsNext s now Cut
   end : s.is_ended ≡ true → start_of s ≡ length s.held → now ≡ s → IsNext s now End
 
 -- a piece of the stream after the bytes that are left of what was held

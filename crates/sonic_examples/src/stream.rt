@@ -1,5 +1,5 @@
 // A log reader that takes a stream of records in pieces.
-ghost use Rattle.std.specs.Prelude.{◌≡◌, ◌≢◌, ◌≤◌, ◌<◌, [], ◌++◌, false, true, length, IfSome, IfNone, IfOk, IfErr, OnOk, OnErr};
+ghost use Rattle.std.specs.Prelude.{◌≡◌, ◌≢◌, ℕ, ◌≤◌, ◌<◌, [], ◌++◌, false, true, length, IfSome, IfNone, IfOk, IfErr, OnOk, OnErr};
 ghost use Rattle.sonic_text.specs.Faults.{IsFault};
 ghost use Rattle.sonic_text.specs.Strings.{strict};
 ghost use Rattle.sonic_text.specs.Values.{IsValue};
@@ -214,7 +214,8 @@ impl RecordStream {
 
     // What is next where the value that is expected is cut.
     fn cut(&mut self) -> Next
-        requires { MayGoOnFrom strict self.old.held self.old.next }
+        requires none { (j : ℕ) → ¬ IsValue strict self.old.held (start_of self.old) j }
+        requires goes_on { MayGoOnFrom strict self.old.held self.old.next }
         ensures { IsNext self.old self.new result }
     {
         if !self.is_ended {
@@ -246,6 +247,8 @@ impl RecordStream {
     fn find(&self, alloc: Global) -> Result<(usize, usize), Stop>
         ensures start { IfOk result (λ found. found.0 ≡ start_of self.now) }
         ensures value { IfOk result (λ found. IsValue strict self.now.held found.0 found.1) }
+        ensures none { IfErr result (λ stop. stop.code ≢ ErrorCode.NoMemory
+            → (j : ℕ) → ¬ IsValue strict self.now.held (start_of self.now) j) }
         ensures honest { IfErr result (λ stop. stop.code ≡ ErrorCode.EofWhileParsing
             → MayGoOnFrom strict self.now.held self.now.next) }
         ensures fault { IfErr result (λ stop. stop.code ≢ ErrorCode.EofWhileParsing

@@ -10,3 +10,8 @@ wrong-requires-clause-wrong c = at_fault (c.in-Err.ensures.fault c.in_default.no
 
 pub wrong-requires-clause-never : goal.wrong-requires-clause-never
 wrong-requires-clause-never c = fault_never c.args.self.now (c.in-Err.ensures.fault c.in_default.not-EofWhileParsing c.in_default.not-NoMemory) c.in_default.not-EofWhileParsing
+
+pub cut-requires-clause-none : goal.cut-requires-clause-none
+cut-requires-clause-none c =
+    let is = c.in-EofWhileParsing.is in
+    c.in-Err.ensures.none (λ e. absurd cc)

@@ -3,7 +3,7 @@ use Rattle.sonic_error.specs.declared.code.ErrorCode.TheVariants.{TrailingCharac
 use Rattle.sonic_text.proofs.Within.{value_within}
 use Rattle.sonic_examples.specs.Streams.{IsRecord}
 use Rattle.sonic_examples.specs.Streams.IsNext.{whole, needs_more}
-use Rattle.sonic_examples.proofs.StreamLemmas.{more_to_come, unsettled_never}
+use Rattle.sonic_examples.proofs.StreamLemmas.{more_to_come, unsettled_none, unsettled_never}
 use Rattle.sonic_examples.proofs.stream.RecordStream.whole.Goals as goal
 
 pub invariant_of-self : goal.invariant_of-self
@@ -31,5 +31,6 @@ pub returns-then-end-held : goal.returns-then-end-held
 returns-then-end-held c =
     let ended : c.self.inside.is_ended ≡ c.args.self.now.is_ended = rw (← c.self.view_is) refl in
     let last = rw c.held-else-is_settled.ensures at c.if-end-held.true in
-    let unsettled = rw (c.held.ensures, ended, last) at (c.if-is_settled.ensures.no refl) in
-    needs_more (more_to_come c.args.self.now.is_ended unsettled) (inr (rw (c.requires.start, last) at c.requires.value)) refl
+    let unsettled = rw (c.held.ensures, ended, last, c.requires.start) at (c.if-is_settled.ensures.no refl) in
+    let value = rw (c.requires.start, last) at c.requires.value in
+    needs_more (more_to_come c.args.self.now.is_ended unsettled) (unsettled_none c.args.self.now value unsettled) (inr value) refl
