@@ -105,6 +105,8 @@ enum {
   SONIC_CODE_GET_IN_EMPTY_ARRAY = 23,
   SONIC_CODE_GET_INDEX_OUT_OF_ARRAY = 24,
   SONIC_CODE_INVALID_SURROGATE_UNICODE_CODE_POINT = 26,
+  /* An object has a key of a path twice. Here the first counts, so no call refuses the second. */
+  SONIC_CODE_DUPLICATE_KEY = 32,
   /* A value of another type than the path asks for is 100 + 10 * found + wanted. What was found is 0 for
      null, 1 a boolean, 2 a number, 3 a string, 4 an object, 5 an array; what was wanted is 0 for an
      object, 1 an array, 2 a number. So it is 131 where an index comes to a string. */

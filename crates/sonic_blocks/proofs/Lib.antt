@@ -5,7 +5,7 @@ pub mod CountLemmas
 mod SumLemmas
 pub mod OutsideLemmas
 mod ParityLemmas
-mod EscapeLemmas
+pub mod EscapeLemmas
 mod InsideLemmas
 mod LaneLemmas
 mod LowestLemmas

@@ -18,9 +18,6 @@ mod steps;
 mod string_block;
 // A text that is seen by blocks of 64 bytes alone.
 mod tape;
-// Worked examples.
-#[cfg(test)]
-mod tests;
 
 pub use bits::{get_escaped, get_string_bits, next_bit, prefix_xor};
 pub use closing::closing_bit;

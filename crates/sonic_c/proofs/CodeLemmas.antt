@@ -25,7 +25,7 @@ numbered_at k (c ∷ cs) d h (suc i) low =
     omega arith
 
 -- the table has the code of each number at the index below it
-pub table_number : (n : ℕ) (d : ErrorCode) → 1 ≤ n → n ≤ 31 → code_number (get_or CODES (n - 1) d) ≡ n
+pub table_number : (n : ℕ) (d : ErrorCode) → 1 ≤ n → n ≤ 32 → code_number (get_or CODES (n - 1) d) ≡ n
 unfolding numbered
 table_number n d some low = let e = numbered_at 1 CODES d refl (n - 1) (omega (arith, some, low)) in omega (arith, e, some)
 

@@ -8,7 +8,7 @@ use sonic_error::{ErrorCode, JsonType, Note, Wanted};
 use std::io::ErrorKind;
 
 // The codes but those of a mismatch, in the order of their numbers, which begin with 1.
-const CODES: [ErrorCode; 31] = [
+const CODES: [ErrorCode; 32] = [
     ErrorCode::Message(Note::SchemaNotObject),
     ErrorCode::Io(ErrorKind::Other),
     ErrorCode::EofWhileParsing,
@@ -40,6 +40,7 @@ const CODES: [ErrorCode; 31] = [
     ErrorCode::ExpectedQuote,
     ErrorCode::SerExpectKeyIsStrOrNum,
     ErrorCode::NoMemory,
+    ErrorCode::DuplicateKey,
 ];
 
 // The code that has this number. Of those of reading and writing, which share one, it is any.
@@ -48,7 +49,7 @@ pub(crate) fn code_of(number: u32) -> Option<ErrorCode>
     ensures none { IfNone result ((code : ErrorCode) → code_number code ≢ number) }
 {
     match number {
-        1..=31 => Some(CODES[number as usize - 1]),
+        1..=32 => Some(CODES[number as usize - 1]),
         100..=152 => mismatch_of(number - 100),
         _ => None,
     }
@@ -109,6 +110,7 @@ pub(crate) fn number(code: ErrorCode) -> u32
         ErrorCode::ExpectedQuote => 29,
         ErrorCode::SerExpectKeyIsStrOrNum => 30,
         ErrorCode::NoMemory => 31,
+        ErrorCode::DuplicateKey => 32,
     }
 }
 

@@ -166,13 +166,14 @@ fn tells_why_a_text_is_no_document(rt: HostRuntime) {
 // A number, the length of its text, and a room of ten bytes after the call.
 type Texted = (u32, usize, &'static [u8; 10]);
 
-const TEXTS: [Texted; 9] = [
+const TEXTS: [Texted; 10] = [
     (0, 0, b".........."),
     (1, 28, b"The schema"),
     (2, 43, b"io error w"),
     (29, 14, b"Expect a q"),
     (31, 13, b"out of mem"),
-    (32, 0, b".........."),
+    (32, 27, b"Duplicate "),
+    (33, 0, b".........."),
     (99, 0, b".........."),
     (132, 44, b"invalid ty"),
     (103, 0, b".........."),

@@ -8,8 +8,8 @@ use sonic_paths::LinePath;
 /// `Change::Set` with the value `null`.
 #[derive(Drop)]
 pub struct Edit {
-    // Where.
-    pub(crate) path: LinePath,
-    // And what.
-    pub(crate) change: Change,
+    /// Where.
+    pub path: LinePath,
+    /// And what.
+    pub change: Change,
 }

@@ -15,8 +15,6 @@ mod law;
 mod line;
 // Heads of any number of lines.
 mod lines;
-#[cfg(test)]
-mod tests;
 
 pub use all::edit_all;
 pub use edit::Edit;

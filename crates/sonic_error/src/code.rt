@@ -92,6 +92,8 @@ pub enum ErrorCode {
     SerExpectKeyIsStrOrNum,
     /// Memory ran out.
     NoMemory,
+    /// An object has the key of a path twice, and that is refused.
+    DuplicateKey,
 }
 
 impl ErrorCode {
@@ -155,6 +157,7 @@ impl fmt::Display for ErrorCode {
             Self::SerExpectKeyIsStrOrNum =>
                 "Expected the key to be string/bool/number when serializing map",
             Self::NoMemory => "out of memory",
+            Self::DuplicateKey => "Duplicate key in the object",
         };
         f.write_str(words)
     }

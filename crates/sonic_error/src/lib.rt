@@ -11,9 +11,6 @@ mod fragment;
 mod json_type;
 // Offset, line and column of a place.
 mod position;
-// The numbers of the variants, and how errors look.
-#[cfg(test)]
-mod tests;
 
 pub use code::{Category, ErrorCode};
 pub use error::{Error, Result};

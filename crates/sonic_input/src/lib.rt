@@ -13,9 +13,6 @@ mod read;
 mod shared;
 // A part of an input, borrowed from it.
 mod slice;
-// Worked examples.
-#[cfg(test)]
-mod tests;
 
 pub use faststr::FastStr;
 pub use input::JsonInput;

@@ -7,7 +7,7 @@ use Rattle.std.specs.declared.option.Option.TheVariants.{Some, None}
 use Rattle.sonic_text.specs.Paths.{Path}
 use Rattle.sonic_lazy.specs.declared.located.Located.{Located}
 use Rattle.sonic_lazy.specs.Answers.{Span, spans, AllLead, IsAnswer, ComeTo}
-use Rattle.sonic_lazy.specs.Answers.AllLead.{no_more, one_more}
+use Rattle.sonic_lazy.specs.Answers.AllLeadBy.{no_more, one_more}
 use Rattle.sonic_lazy.specs.Answers.ComeTo.{no_path, finding}
 use Rattle.sonic_lazy.specs.Internal.Located.{slot_at, spans_of}
 use Rattle.sonic_lazy.specs.Paths.{Outcome}

@@ -5,10 +5,11 @@ use Rattle.std.specs.Str.{IsUtf8}
 use Rattle.std.proofs.lemmas.Bool.Decides.{nat_tests}
 use Rattle.sonic_lazy.proofs.PathLemmas.Lead.{none_leads, one_more_unnamed, not_named, named_leads, past_value, past_byte, past_key}
 use Rattle.sonic_lazy.proofs.PathLemmas.Outcome.{nowhere_past}
+use Rattle.sonic_lazy.proofs.PathLemmas.Rule.{by_named, by_first}
 use Rattle.sonic_lazy.specs.Internal.Follow.{IsDeadEnd, stops_so, lacks_so, IsDeadNode, LacksNode, IsTried, IsRest}
 use Rattle.sonic_lazy.specs.Internal.Walk.{IsStopped, fails_so, cut_so, IsNoEntry}
-use Rattle.sonic_lazy.specs.Paths.{Outcome, lacks, fails, cut, past_end, kind_of, IsNamed, NoneNamed, LeadsOn, Evaluates}
-use Rattle.sonic_lazy.specs.Paths.Evaluates.{found_here, leads_nowhere, cut_here, cut_before}
+use Rattle.sonic_lazy.specs.Paths.{Outcome, lacks, fails, cut, past_end, kind_of, IsNamed, NoneNamed, LeadsOn, LeadsBy, EvaluatesBy}
+use Rattle.sonic_lazy.specs.Paths.EvaluatesBy.{found_here, leads_nowhere, cut_here, cut_before}
 use Rattle.sonic_pointer.specs.declared.node.PointerNode.{PointerNode}
 use Rattle.sonic_pointer.specs.declared.node.PointerNode.TheVariants.{Key}
 use Rattle.sonic_error.specs.Errors.{IsPlainError}
@@ -21,7 +22,7 @@ use Rattle.sonic_lazy.proofs.WholeLemmas.{utf8_of_span}
 use Rattle.sonic_lazy.specs.Answers.{Answer, ComesToAlone, value_found, value_broken, key_lacked, path_failed, path_cut, IsGetAnswer}
 use Rattle.sonic_lazy.specs.Causes.{IsGetError, IsGetRefusal, no_memory, refused, IsGettable}
 use Rattle.sonic_lazy.specs.Laws.{ExactlyOne}
-use Rattle.sonic_lazy.specs.Paths.{found, Leads}
+use Rattle.sonic_lazy.specs.Paths.{found, LeadsUnder, Leads}
 use Rattle.sonic_lazy.specs.Wholes.{IsPart}
 use Rattle.sonic_parser.specs.Faults.{IsStopFor, IsErrorOf}
 use Rattle.sonic_parser.specs.declared.fault.Fault.{Fault}
@@ -45,35 +46,37 @@ use Rattle.sonic_text.specs.Values.{IsValue, IsKey, ItemsFit, no_head, key_head,
 use Rattle.sonic_text.specs.declared.kind.Kind.{Kind}
 use Rattle.sonic_text.specs.declared.kind.Kind.TheVariants.{Array, Object}
 use Rattle.sonic_text.specs.declared.stop.Stop.{Stop}
+use Rattle.sonic_pointer.specs.declared.rule.KeyRule.{KeyRule}
+use Rattle.sonic_pointer.specs.declared.rule.KeyRule.TheVariants.{First}
 
 -- stands for no node
 abbrev pub no_node : PointerNode
 no_node = Key (record { ref_ptr = (0, 0); now = [] })
 
 -- a fault stops each path by a node that doesn't lead on
-fault_dead : {t : List ℕ} {i : ℕ} {node : Node} {s : Stop} → IsFault strict t i s → ((v : ℕ) → ¬ LeadsOn t i node v) → IsDeadNode t i node s
-fault_dead f none = λ rest. cut_so (cut_before f none)
+fault_dead : {t : List ℕ} {i : ℕ} {node : Node} {s : Stop} {rule : KeyRule} → IsFault strict t i s → ((v : ℕ) → ¬ LeadsOn t i node v) → IsDeadNode rule t i node s
+fault_dead {node = node} {rule = rule} f none = λ rest. cut_so (cut_before f (λ v l. by_first rule node v l none))
 
 -- no container is entered
-pub entry_dead : {t : List ℕ} {i : ℕ} {node : Node} {s : Stop} → IsNoEntry t i (kind_of node) s → IsDeadNode t i node s
-entry_dead {node = node} f = λ rest. f node rest refl
+pub entry_dead : {t : List ℕ} {i : ℕ} {node : Node} {s : Stop} {rule : KeyRule} → IsNoEntry t i (kind_of node) s → IsDeadNode rule t i node s
+entry_dead {node = node} {rule = rule} f = λ rest. f rule node rest refl
 
 -- a key isn't there
-pub key_dead : {t : List ℕ} {i n h : ℕ} {node : Node} {s : Stop} → NoneNamed t i (kind_of node) n h node → kind_of node ≡ Object → IsKeyFault strict t h s
-    → IsDeadNode t i node s
+pub key_dead : {t : List ℕ} {i n h : ℕ} {node : Node} {s : Stop} {rule : KeyRule} → NoneNamed t i (kind_of node) n h node → kind_of node ≡ Object → IsKeyFault strict t h s
+    → IsDeadNode rule t i node s
 key_dead {t} {i} {n} {h} before e f =
     let fit : ItemsFit strict t Object i n h = rw e at before.fit in
     fault_dead (in_key fit f) (none_leads before (λ w y. head_never_both e y.head f) (past_key e before.fit f))
 
 -- the value of another item has a fault
-pub value_dead : {t : List ℕ} {i n h v : ℕ} {node : Node} {s : Stop} → NoneNamed t i (kind_of node) n h node → IsTried t node n h v false → IsFault strict t v s
-    → IsDeadNode t i node s
+pub value_dead : {t : List ℕ} {i n h v : ℕ} {node : Node} {s : Stop} {rule : KeyRule} → NoneNamed t i (kind_of node) n h node → IsTried t node n h v false → IsFault strict t v s
+    → IsDeadNode rule t i node s
 value_dead before x f =
     fault_dead (in_value before.fit x.item.head f) (none_leads before (not_named x.item (x.other refl)) (past_value before.fit x.item f))
 
 -- after another item nothing fits
-pub separator_dead : {t : List ℕ} {i n h v e : ℕ} {node : Node} {s : Stop} → NoneNamed t i (kind_of node) n h node → IsTried t node n h v false
-    → IsValue strict t v e → IsSeparatorFault t (kind_of node) e s → IsDeadNode t i node s
+pub separator_dead : {t : List ℕ} {i n h v e : ℕ} {node : Node} {s : Stop} {rule : KeyRule} → NoneNamed t i (kind_of node) n h node → IsTried t node n h v false
+    → IsValue strict t v e → IsSeparatorFault t (kind_of node) e s → IsDeadNode rule t i node s
 separator_dead before x y f =
     fault_dead (after_item before.fit x.item.head y f.0 f.1)
     (none_leads before (not_named x.item (x.other refl)) (past_byte before.fit x.item y f.0.0))
@@ -86,21 +89,21 @@ next_unnamed {n = n} before x y c =
     one_more_unnamed before x.item (x.other refl) (next_item before.fit x.item.head y c.0 c.1 more) more
 
 -- where the container ends, no item is named
-pub past_items : {t : List ℕ} {i n h v e j : ℕ} {node : Node} → NoneNamed t i (kind_of node) n h node → IsTried t node n h v false → IsValue strict t v e
-    → IsEnd t (kind_of node) e j → (rest : Path) → Evaluates t i (node ∷ rest) (past_end (kind_of node) (j - 1))
+pub past_items : {t : List ℕ} {i n h v e j : ℕ} {node : Node} {rule : KeyRule} → NoneNamed t i (kind_of node) n h node → IsTried t node n h v false → IsValue strict t v e
+    → IsEnd t (kind_of node) e j → (rest : Path) → EvaluatesBy rule t i (node ∷ rest) (past_end (kind_of node) (j - 1))
 past_items {t} {i} {j = j} {node} before x y k = λ rest.
     let none = none_leads before (not_named x.item (x.other refl)) (past_byte before.fit x.item y (λ e. closing_no_comma (kind_of node) (sym k.0 ∙ e))) in
     let past = nowhere_past t i (j - 1) (kind_of node) (items_open before.fit) (items_not_empty before.fit) in
     leads_nowhere (filled before.fit x.item.head y k.0 k.1) none (sym past)
 
 -- past the end of an array each path fails
-pub past_fails : {t : List ℕ} {i q : ℕ} {node : Node} {kind : Kind} → kind ≡ Array → kind_of node ≡ kind → ((rest : Path) → Evaluates t i (node ∷ rest) (past_end (kind_of node) q))
-    → IsDeadNode t i node (record { place = q; code = GetIndexOutOfArray })
+pub past_fails : {t : List ℕ} {i q : ℕ} {node : Node} {kind : Kind} {rule : KeyRule} → kind ≡ Array → kind_of node ≡ kind → ((rest : Path) → EvaluatesBy rule t i (node ∷ rest) (past_end (kind_of node) q))
+    → IsDeadNode rule t i node (record { place = q; code = GetIndexOutOfArray })
 past_fails {t} {i} {q} {node} e same past = λ rest. let known : kind_of node ≡ Array = same ∙ e in fails_so (rw known at (past rest))
 
 -- past the end of an object each path lacks its key
-pub past_lacks : {t : List ℕ} {i q : ℕ} {node : Node} {kind : Kind} → kind ≡ Object → kind_of node ≡ kind → ((rest : Path) → Evaluates t i (node ∷ rest) (past_end (kind_of node) q))
-    → LacksNode t i node q
+pub past_lacks : {t : List ℕ} {i q : ℕ} {node : Node} {kind : Kind} {rule : KeyRule} → kind ≡ Object → kind_of node ≡ kind → ((rest : Path) → EvaluatesBy rule t i (node ∷ rest) (past_end (kind_of node) q))
+    → LacksNode rule t i node q
 past_lacks {t} {i} {q} {node} e same past = λ rest. let known : kind_of node ≡ Object = same ∙ e in rw known at (past rest)
 
 -- the item that is named is led to
@@ -110,13 +113,17 @@ tried_leads {t} {n = n} {h} {v} {node} before x =
     named_leads before item
 
 -- where the rest of a path stops, the whole path does
-pub rest_stopped : {t : List ℕ} {i v : ℕ} {path rest : Path} {s : Stop} → IsRest t i path v rest → IsStopped t v rest s → IsStopped t i path s
+pub rest_stopped : {t : List ℕ} {i v : ℕ} {path rest : Path} {s : Stop} {rule : KeyRule} → IsRest rule t i path v rest → IsStopped rule t v rest s → IsStopped rule t i path s
 rest_stopped up (fails_so e) = fails_so (up _ e)
 rest_stopped up (cut_so e) = cut_so (up _ e)
 
 -- what a node leads on to in a whole value is whole
 pub leads_whole : {t : List ℕ} {i v : ℕ} {node : Node} → LeadsOn t i node v → HasWhole t i → HasWhole t v
 leads_whole l x = item_whole x.1 l.before.fit l.item.head
+
+-- so it is under each rule
+pub by_whole : {t : List ℕ} {i v : ℕ} (r : KeyRule) (node : Node) → LeadsBy r t i node v → HasWhole t i → HasWhole t v
+by_whole r node l x = let y = by_named r node l in item_whole x.1 y.fit y.item.head
 
 -- and so is the value of each item
 pub tried_whole : {t : List ℕ} {i n h v : ℕ} {is : Bool} {node : Node} → NoneNamed t i (kind_of node) n h node → IsTried t node n h v is → HasWhole t i
@@ -148,20 +155,20 @@ index_tried {t} {n} {h} {m} same = rw same record {
 }
 
 -- a path ends within the text
-ends_within : {t : List ℕ} {o : Outcome} {q : ℕ} (path : Path) → Leads t path o → EndsAt o q → q ≤ length t
+ends_within : {t : List ℕ} {o : Outcome} {q : ℕ} {rule : KeyRule} (path : Path) → LeadsUnder rule t path o → EndsAt o q → q ≤ length t
 ends_within {t} path l e = elim (value_some_outcome strict t (after_space t 0)) [
   | inl x ↦ (omega (arith, ends_before_end path l x.1 e, value_within x.1))
   | inr f ↦ (omega (arith, ends_before_fault path l f.1 e, fault_within f.1))
 ]
 
 -- so does a dead end
-pub dead_within : {t : List ℕ} {s : Stop} (path : Path) → IsDeadEnd t (after_space t 0) path s → s.place ≤ length t
+pub dead_within : {t : List ℕ} {s : Stop} {rule : KeyRule} (path : Path) → IsDeadEnd rule t (after_space t 0) path s → s.place ≤ length t
 dead_within path (stops_so (fails_so e)) = ends_within path e refl
 dead_within path (stops_so (cut_so e)) = fault_within (cut_is_fault path e)
 dead_within path (lacks_so e is) = rw is (ends_within path e refl)
 
 -- and it is the answer
-pub dead_answer : {t : List ℕ} {is_bytes : Bool} {path : Path} {s : Stop} → IsDeadEnd t (after_space t 0) path s → IsGetAnswer t is_bytes path (Answer.error s)
+pub dead_answer : {t : List ℕ} {is_bytes : Bool} {path : Path} {s : Stop} → IsDeadEnd First t (after_space t 0) path s → IsGetAnswer t is_bytes path (Answer.error s)
 dead_answer (stops_so (fails_so e)) = record { outcome = _; leads = e; come_to = path_failed }
 dead_answer (stops_so (cut_so e)) = record { outcome = _; leads = e; come_to = path_cut }
 dead_answer (lacks_so e is) = record { outcome = _; leads = e; come_to = key_lacked is }
@@ -209,11 +216,11 @@ pub broken_alone : {t : List ℕ} {is_bytes : Bool} {path : Path} {v e : ℕ} {s
 broken_alone {v = v} {e} x b n is = record { outcome = found v e; leads = x; come_to = value_broken b n is }
 
 -- a value at the end of a path is found
-pub rest_found : {t : List ℕ} {i v e : ℕ} {path : Path} → IsRest t i path v [] → IsValue strict t v e → Evaluates t i path (found v e)
+pub rest_found : {t : List ℕ} {i v e : ℕ} {path : Path} {rule : KeyRule} → IsRest rule t i path v [] → IsValue strict t v e → EvaluatesBy rule t i path (found v e)
 rest_found up x = up _ (found_here x)
 
 -- or its fault cuts the path
-pub rest_cut : {t : List ℕ} {i v : ℕ} {path : Path} {s : Stop} → IsRest t i path v [] → IsFault strict t v s → IsDeadEnd t i path s
+pub rest_cut : {t : List ℕ} {i v : ℕ} {path : Path} {s : Stop} {rule : KeyRule} → IsRest rule t i path v [] → IsFault strict t v s → IsDeadEnd rule t i path s
 rest_cut up f = stops_so (cut_so (up _ (cut_here f)))
 
 -- up to the end of the value that is found the text is UTF-8

@@ -3,13 +3,13 @@ use Rattle.std.proofs.Common.{◌≡◌, ◌≢◌, ◌∙◌, inl, inr, ℕ, �
 use Rattle.std.specs.Prelude.{Option, Some, None, IfSome, IfErr}
 use Rattle.sonic_error.specs.Errors.{error_code, IsErrorAt}
 use Rattle.sonic_error.specs.Texts.{valid_up_to}
-use Rattle.sonic_error.specs.declared.code.ErrorCode.TheVariants.{Message, EofWhileParsing, InvalidUTF8, TrailingCharacters, GetUnknownKeyInObject}
+use Rattle.sonic_error.specs.declared.code.ErrorCode.TheVariants.{Message, EofWhileParsing, InvalidUTF8, TrailingCharacters, DuplicateKey, GetUnknownKeyInObject}
 use Rattle.sonic_error.specs.declared.code.ErrorCode.{ErrorCode}
 use Rattle.sonic_error.specs.declared.error.Error.{Error}
 use Rattle.sonic_error.specs.declared.json_type.Note.{Note}
 use Rattle.sonic_text.specs.Documents.{IsRootFault}
 use Rattle.sonic_text.specs.Faults.IsFault.{in_key, in_value}
-use Rattle.sonic_text.specs.Paths.{Path}
+use Rattle.sonic_text.specs.Paths.{Path, key}
 use Rattle.sonic_text.specs.Places.{byte, after_space}
 use Rattle.sonic_text.specs.Strings.{strict}
 use Rattle.sonic_text.specs.Values.{opening, closing}
@@ -20,10 +20,10 @@ use Rattle.sonic_parser.specs.Honest.{IsOfValue, IsHonest}
 use Rattle.sonic_parser.proofs.HonestLemmas.{honest_of_fault, honest_of_other, honest_of_memory}
 use Rattle.sonic_lazy.specs.Answers.ComeTo.{failing, cutting, lacking, breaking}
 use Rattle.sonic_lazy.specs.Answers.ComesToAlone.{value_broken, key_lacked, path_failed, path_cut}
-use Rattle.sonic_lazy.specs.Answers.{Answer, ComesToAlone, ComeTo, AllLead}
+use Rattle.sonic_lazy.specs.Answers.{Answer, ComesToAlone, ComeTo, AllLeadBy}
 use Rattle.sonic_lazy.specs.Causes.IsGetRefusal.{no_memory, refused}
-use Rattle.sonic_lazy.specs.Causes.IsRefusal.{out_of_memory as no_room, answered}
-use Rattle.sonic_lazy.specs.Causes.{IsRefusal, IsGetRefusal}
+use Rattle.sonic_lazy.specs.Causes.IsRefusalBy.{out_of_memory as no_room, answered}
+use Rattle.sonic_lazy.specs.Causes.{IsRefusalBy, IsGetRefusal}
 use Rattle.sonic_lazy.specs.Documents.IsInvalid.{no_root, text_after, broken_text}
 use Rattle.sonic_lazy.specs.Documents.IsInvalidError.{out_of_memory, invalid}
 use Rattle.sonic_lazy.specs.Documents.{IsInvalid, IsInvalidError}
@@ -32,8 +32,9 @@ use Rattle.sonic_lazy.specs.Items.EndsItems.{at_broken_text, at_bracket, at_stop
 use Rattle.sonic_lazy.specs.Items.{stop_at, stopped, AreStopped, EndsItems}
 use Rattle.sonic_lazy.specs.Iterators.IsNextError.{out_of_memory as ran_out, no_next_item}
 use Rattle.sonic_lazy.specs.Iterators.{Iterating, IsNextError, IsNext, IsOwnCode, IsHonestNext}
-use Rattle.sonic_lazy.specs.Paths.Evaluates.{goes_on, leads_nowhere}
-use Rattle.sonic_lazy.specs.Paths.{Outcome, found, lacks, fails, cut, kind_of, empty_code, past_end, nowhere, Evaluates, Leads}
+use Rattle.sonic_lazy.specs.Paths.EvaluatesBy.{goes_on, repeats, leads_nowhere}
+use Rattle.sonic_lazy.specs.Paths.{Outcome, found, lacks, fails, cut, kind_of, empty_code, past_end, nowhere, EvaluatesBy, Leads}
+use Rattle.sonic_pointer.specs.declared.rule.KeyRule.{KeyRule}
 use Rattle.sonic_lazy.proofs.AnswerLemmas.One.{nearest_in}
 use Rattle.sonic_lazy.proofs.AnswerLemmas.Walk.{lead_from}
 use Rattle.sonic_lazy.proofs.PathLemmas.Outcome.{either, cut_is_fault}
@@ -43,12 +44,15 @@ record IsOther (code : ErrorCode) : Type 0 where
   not_end : code ≢ EofWhileParsing
   not_of_value : ¬ IsOfValue code
 
--- text after the value, bytes that aren't UTF-8, and an unknown key
+-- text after the value, bytes that aren't UTF-8, a key that comes twice, and an unknown one
 trailing_other : IsOther TrailingCharacters
 trailing_other = record { not_end = λ e. cc; not_of_value = λ of. of.1 refl }
 
 broken_other : IsOther InvalidUTF8
 broken_other = record { not_end = λ e. cc; not_of_value = λ of. of.2 refl }
+
+duplicate_other : IsOther DuplicateKey
+duplicate_other = record { not_end = λ e. cc; not_of_value = λ of. of.3 refl }
 
 unknown_other : IsOther GetUnknownKeyInObject
 unknown_other = record { not_end = λ e. cc; not_of_value = λ of. let y = of.0 in cc }
@@ -85,10 +89,11 @@ nowhere_other t i q kind =
     (either FailsOther (byte t i == opening kind) _ _ (past_other q kind) (mismatch_other _))
 
 -- where a path fails
-fails_other : {t : List ℕ} (path : Path) {i : ℕ} {s : Stop} → Evaluates t i path (fails s) → IsOther s.code
+fails_other : {rule : KeyRule} {t : List ℕ} (path : Path) {i : ℕ} {s : Stop} → EvaluatesBy rule t i path (fails s) → IsOther s.code
 fails_other [] e = elim e [ ]
 fails_other (node ∷ rest) (goes_on l a) = fails_other rest a
-fails_other {t} (node ∷ rest) {i} (leads_nowhere {j = j} x none e) = rw (← e) at (nowhere_other t i (j - 1) (kind_of node))
+fails_other (key k ∷ rest) (repeats y) = duplicate_other
+fails_other {t = t} (node ∷ rest) {i} (leads_nowhere {j = j} x none e) = rw (← e) at (nowhere_other t i (j - 1) (kind_of node))
 
 -- an error of such a code is honest
 of_other : {t : List ℕ} {s : Stop} {e : Error} → IsOther s.code → IsErrorAt e s.code t s.place → IsHonest strict t 0 e
@@ -121,14 +126,14 @@ honest_of_get (no_memory x) = honest_of_memory x
 honest_of_get {path = path} (refused h) = of_alone path h.answer.leads h.answer.come_to h.error
 
 -- the answer of a list of paths
-of_paths : {t : List ℕ} {is_bytes : Bool} {paths : List Path} {os : List Outcome} {s : Stop} {e : Error} → AllLead t paths os
+of_paths : {t : List ℕ} {is_bytes : Bool} {paths : List Path} {os : List Outcome} {s : Stop} {e : Error} {rule : KeyRule} → AllLeadBy rule t paths os
     → ComeTo t is_bytes os (Answer.error s) → IsErrorAt e s.code t s.place → IsHonest strict t 0 e
 of_paths {s = s} lead (failing n) x = (let y = lead_from (fails s) lead (nearest_in n) in of_other (fails_other y.path y.leads) x)
 of_paths lead (cutting f c r) x = of_root r x
 of_paths lead (lacking f c l r) x = of_root r x
 of_paths lead (breaking f c r b n is) x = of_other (other_stop is broken_other) x
 
-pub honest_of_refusal : {t : List ℕ} {is_bytes : Bool} {paths : List Path} {e : Error} → IsRefusal t is_bytes paths e → IsHonest strict t 0 e
+pub honest_of_refusal : {t : List ℕ} {is_bytes : Bool} {paths : List Path} {e : Error} {rule : KeyRule} → IsRefusalBy rule t is_bytes paths e → IsHonest strict t 0 e
 honest_of_refusal (no_room x) = honest_of_memory x
 honest_of_refusal (answered s h x) = of_paths h.lead h.come_to x
 

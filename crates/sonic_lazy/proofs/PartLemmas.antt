@@ -7,7 +7,7 @@ use Rattle.sonic_lazy.proofs.PathLemmas.Outcome.{evaluates_one, evaluates_some, 
 use Rattle.sonic_lazy.specs.Answers.{Span}
 use Rattle.sonic_lazy.specs.Laws.{Finds, LeadsInPart, outcome_in_whole}
 use Rattle.sonic_lazy.specs.Paths.{Outcome, found, kind_of, past_end, nowhere, IsNamed, LeadsOn, Evaluates, Leads}
-use Rattle.sonic_lazy.specs.Paths.Evaluates.{found_here, goes_on, leads_nowhere, cut_here, cut_before}
+use Rattle.sonic_lazy.specs.Paths.EvaluatesBy.{found_here, goes_on, leads_nowhere, cut_here, cut_before}
 use Rattle.sonic_lazy.specs.Shown.{span_text}
 use Rattle.sonic_text.proofs.PartItems.{IsInPart, value_down, first_byte, opens, empty_down, filled_down, item_in_part, items_down, head_down, items_up, head_up}
 use Rattle.sonic_text.proofs.Parts.{part_is, part_length, part_of_part}

@@ -14,8 +14,8 @@ use Rattle.sonic_lazy.specs.Internal.Follow.{IsDeadEnd, stops_so, lacks_so}
 use Rattle.sonic_lazy.specs.Internal.Steps.{HasWhole}
 use Rattle.sonic_lazy.specs.Internal.Walk.{fails_so, cut_so}
 use Rattle.sonic_lazy.specs.LazyValues.{raw_bytes}
-use Rattle.sonic_lazy.specs.Paths.{Outcome, found, Leads}
-use Rattle.sonic_lazy.specs.Paths.Evaluates.{found_here, cut_here}
+use Rattle.sonic_lazy.specs.Paths.{Outcome, found, Leads, LeadsUnder}
+use Rattle.sonic_lazy.specs.Paths.EvaluatesBy.{found_here, cut_here}
 use Rattle.sonic_lazy.specs.Shown.{IsValueOf, IsLookup, IsSureLookup, FindsNone}
 use Rattle.sonic_lazy.specs.Wholes.{IsPart}
 use Rattle.sonic_lazy.specs.declared.lazyvalue.LazyValue.{LazyValue}
@@ -29,9 +29,11 @@ use Rattle.std.proofs.Math.Seq.{take-length}
 use Rattle.sonic_text.specs.Documents.{StartsWithUtf8Value}
 use Rattle.sonic_text.specs.Paths.{Path}
 use Rattle.sonic_text.specs.Places.{after_space}
+use Rattle.sonic_pointer.specs.declared.rule.KeyRule.{KeyRule}
+use Rattle.sonic_pointer.specs.declared.rule.KeyRule.TheVariants.{First}
 
 -- what a path finds in the first value is a part of the text
-pub found_part : {t : List ℕ} {i j : ℕ} (path : Path) → StartsWithUtf8Value t → Leads t path (found i j) → IsPart t i j
+pub found_part : {t : List ℕ} {i j : ℕ} {rule : KeyRule} (path : Path) → StartsWithUtf8Value t → LeadsUnder rule t path (found i j) → IsPart t i j
 found_part path x l =
     let value = found_value path l in
     let within = value_within value in
@@ -43,18 +45,18 @@ pub found_answer : {t : List ℕ} {is_bytes : Bool} {i j : ℕ} (path : Path) �
 found_answer path x l = found_alone l (λ b. utf8_found path x l)
 
 -- a dead end is within the text
-pub sure_within : (t : List ℕ) (path : Path) (fault : Fault) → IsStopFor (IsDeadEnd t (after_space t 0) path) fault → IsStopFor (λ s. s.place ≤ length t) fault
+pub sure_within : (t : List ℕ) (path : Path) (fault : Fault) → IsStopFor (IsDeadEnd First t (after_space t 0) path) fault → IsStopFor (λ s. s.place ≤ length t) fault
 sure_within t path fault dead = stop_weaker fault (λ s f. dead_within _ f) dead
 
 -- and its error is the answer
 dead_error : {t : List ℕ} {is_bytes : Bool} {path : Path} {e : Error} (fault : Fault) → (fault ≡ OutOfMemory → ⊥)
-    → IsStopFor (IsDeadEnd t (after_space t 0) path) fault → IsErrorOf t fault e → IsGetError t is_bytes path e
+    → IsStopFor (IsDeadEnd First t (after_space t 0) path) fault → IsErrorOf t fault e → IsGetError t is_bytes path e
 dead_error OutOfMemory sure dead e = absurd (sure refl)
 dead_error (At s) sure dead e = record { stop = s; answer = dead_answer dead; error = e }
 
 -- which alone refuses
 pub sure_error : {t : List ℕ} {is_bytes : Bool} {path : Path} {e : Error} (fault : Fault) → (fault ≡ OutOfMemory → ⊥)
-    → IsStopFor (IsDeadEnd t (after_space t 0) path) fault → IsErrorOf t fault e → IsSureLookup t is_bytes path (Err e)
+    → IsStopFor (IsDeadEnd First t (after_space t 0) path) fault → IsErrorOf t fault e → IsSureLookup t is_bytes path (Err e)
 sure_error fault sure dead e =
     let error = dead_error fault sure dead e in
     record { ok = tt; err = error; complete = λ can. absurd (never_error can error) }
@@ -70,7 +72,7 @@ lazy_starts value =
     record { end = length (raw_bytes value); root = rw (value_starts x) x; utf8 = rw (take-length (raw_bytes value)) (lazy_is_whole value).utf8 }
 
 -- where a path stops, it finds nothing
-pub finds_none : {t : List ℕ} {path : Path} (fault : Fault) → (fault ≡ OutOfMemory → ⊥) → IsStopFor (IsDeadEnd t (after_space t 0) path) fault → FindsNone t path
+pub finds_none : {t : List ℕ} {path : Path} (fault : Fault) → (fault ≡ OutOfMemory → ⊥) → IsStopFor (IsDeadEnd First t (after_space t 0) path) fault → FindsNone t path
 finds_none OutOfMemory sure dead = absurd (sure refl)
 finds_none {path = path} (At s) sure (stops_so (fails_so e)) = λ i j l. let clash = evaluates_one path e l in cc
 finds_none {path = path} (At s) sure (stops_so (cut_so e)) = λ i j l. let clash = evaluates_one path e l in cc

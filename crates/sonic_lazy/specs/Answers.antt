@@ -6,13 +6,19 @@ use Rattle.sonic_error.specs.Texts.{valid_up_to}
 use Rattle.sonic_text.specs.declared.stop.Stop.{Stop}
 use Rattle.sonic_text.specs.Documents.{IsWhole, IsRootFault}
 use Rattle.sonic_text.specs.Paths.{Path}
-use Rattle.sonic_lazy.specs.Paths.{Outcome, found, lacks, fails, cut, Leads}
+use Rattle.sonic_lazy.specs.Paths.{Outcome, found, lacks, fails, cut, Leads, LeadsUnder}
+use Rattle.sonic_pointer.specs.declared.rule.KeyRule.{KeyRule}
+use Rattle.sonic_pointer.specs.declared.rule.KeyRule.TheVariants.{First}
 
--- where each path leads, in order
-pub data AllLead (t : List ℕ) : List Path → List Outcome → Type 0 where
-  no_more : AllLead t [] []
-  one_more : {path : Path} {paths : List Path} {o : Outcome} {os : List Outcome} → Leads t path o → AllLead t paths os
-      → AllLead t (path ∷ paths) (o ∷ os)
+-- where each path leads under a rule, in order
+pub data AllLeadBy (r : KeyRule) (t : List ℕ) : List Path → List Outcome → Type 0 where
+  no_more : AllLeadBy r t [] []
+  one_more : {path : Path} {paths : List Path} {o : Outcome} {os : List Outcome} → LeadsUnder r t path o → AllLeadBy r t paths os
+      → AllLeadBy r t (path ∷ paths) (o ∷ os)
+
+-- and by first equal keys
+abbrev pub AllLead : List ℕ → List Path → List Outcome → Type 0
+AllLead t paths os = AllLeadBy First t paths os
 
 -- some path fails at this stop: at the least place of all that fail, and of those that fail there it is the first
 pub data IsNearest : List Outcome → Stop → Type 0 where
@@ -69,11 +75,15 @@ pub data ComeTo (t : List ℕ) (is_bytes : Bool) : List Outcome → Answer → T
   finding : {os : List Outcome} {r : ℕ} {entries : List (Option Span)} → NoneFails os → NoneCut os → IsReach t os r
       → (is_bytes ≡ true → IsUtf8 (take r t)) → entries ≡ map span_of os → ComeTo t is_bytes os (spans entries)
 
--- the answer of the paths over the text
-pub record IsAnswer (t : List ℕ) (is_bytes : Bool) (paths : List Path) (a : Answer) : Type 0 where
+-- the answer of the paths over the text, under a rule
+pub record IsAnswerBy (r : KeyRule) (t : List ℕ) (is_bytes : Bool) (paths : List Path) (a : Answer) : Type 0 where
   pub outcomes : List Outcome
-  pub lead : AllLead t paths outcomes
+  pub lead : AllLeadBy r t paths outcomes
   pub come_to : ComeTo t is_bytes outcomes a
+
+-- and by first equal keys
+abbrev pub IsAnswer : List ℕ → Bool → List Path → Answer → Type 0
+IsAnswer t is_bytes paths a = IsAnswerBy First t is_bytes paths a
 
 -- what the outcome of one path alone comes to, over the text, which came as bytes that may be no UTF-8 or not
 pub data ComesToAlone (t : List ℕ) (is_bytes : Bool) : Outcome → Answer → Type 0 where

@@ -6,19 +6,29 @@ use Rattle.sonic_error.specs.declared.code.ErrorCode.TheVariants.{NoMemory}
 use Rattle.sonic_error.specs.Errors.{IsErrorAt, IsPlainError}
 use Rattle.sonic_text.specs.declared.stop.Stop.{Stop}
 use Rattle.sonic_text.specs.Paths.{Path}
-use Rattle.sonic_lazy.specs.Answers.{Answer, IsAnswer, IsGetAnswer, AllLead, NoneFails, NoneCut, IsReach}
+use Rattle.sonic_lazy.specs.Answers.{Answer, IsAnswer, IsAnswerBy, IsGetAnswer, AllLeadBy, NoneFails, NoneCut, IsReach}
 use Rattle.sonic_lazy.specs.Paths.{Outcome}
+use Rattle.sonic_pointer.specs.declared.rule.KeyRule.{KeyRule}
+use Rattle.sonic_pointer.specs.declared.rule.KeyRule.TheVariants.{First}
 
--- each path finds a value or lacks its key, the text is whole if one does, and it is UTF-8 as far as it is needed
-pub data IsAnswerable (t : List ℕ) (is_bytes : Bool) (paths : List Path) : Type 0 where
-  nothing_asked : paths ≡ [] → IsAnswerable t is_bytes paths
-  all_reported : (os : List Outcome) (r : ℕ) → AllLead t paths os → NoneFails os → NoneCut os → IsReach t os r → (is_bytes ≡ true → IsUtf8 (take r t))
-      → IsAnswerable t is_bytes paths
+-- under a rule each path finds a value or lacks its key, the text is whole if one does, and it is UTF-8 as far as it is needed
+pub data IsAnswerableBy (rule : KeyRule) (t : List ℕ) (is_bytes : Bool) (paths : List Path) : Type 0 where
+  nothing_asked : paths ≡ [] → IsAnswerableBy rule t is_bytes paths
+  all_reported : (os : List Outcome) (r : ℕ) → AllLeadBy rule t paths os → NoneFails os → NoneCut os → IsReach t os r
+      → (is_bytes ≡ true → IsUtf8 (take r t)) → IsAnswerableBy rule t is_bytes paths
 
--- there is no memory, or the error is the answer of the paths
-pub data IsRefusal (t : List ℕ) (is_bytes : Bool) (paths : List Path) (e : Error) : Type 0 where
-  out_of_memory : IsPlainError e NoMemory → IsRefusal t is_bytes paths e
-  answered : (s : Stop) → IsAnswer t is_bytes paths (Answer.error s) → IsErrorAt e s.code t s.place → IsRefusal t is_bytes paths e
+-- and by first equal keys
+abbrev pub IsAnswerable : List ℕ → Bool → List Path → Type 0
+IsAnswerable t is_bytes paths = IsAnswerableBy First t is_bytes paths
+
+-- there is no memory, or the error is the answer of the paths under a rule
+pub data IsRefusalBy (rule : KeyRule) (t : List ℕ) (is_bytes : Bool) (paths : List Path) (e : Error) : Type 0 where
+  out_of_memory : IsPlainError e NoMemory → IsRefusalBy rule t is_bytes paths e
+  answered : (s : Stop) → IsAnswerBy rule t is_bytes paths (Answer.error s) → IsErrorAt e s.code t s.place → IsRefusalBy rule t is_bytes paths e
+
+-- and by first equal keys
+abbrev pub IsRefusal : List ℕ → Bool → List Path → Error → Type 0
+IsRefusal t is_bytes paths e = IsRefusalBy First t is_bytes paths e
 
 -- the error is the answer of the paths
 pub record IsAnswerError (t : List ℕ) (is_bytes : Bool) (paths : List Path) (e : Error) : Type 0 where

@@ -1,6 +1,7 @@
 pub mod Answers
 pub mod Causes
 pub mod Documents
+pub mod FirstPaths
 pub mod Internal
 pub mod Items
 pub mod Iterators

@@ -4,10 +4,12 @@ use Rattle.std.specs.declared.option.Option.{Option}
 use Rattle.std.specs.declared.option.Option.TheVariants.{Some, None}
 use Rattle.sonic_text.specs.Paths.{Path}
 use Rattle.sonic_lazy.specs.declared.lazyvalue.LazyValue.{LazyValue}
-use Rattle.sonic_lazy.specs.Answers.{Span, IsAnswer, IsGetAnswer, spans}
+use Rattle.sonic_lazy.specs.Answers.{Span, IsAnswerBy, IsGetAnswer, spans}
 use Rattle.sonic_lazy.specs.LazyValues.{raw_bytes}
 use Rattle.sonic_lazy.specs.Causes.{IsGetRefusal, IsGetError, IsGettable}
 use Rattle.sonic_lazy.specs.Paths.{found, Leads}
+use Rattle.sonic_pointer.specs.declared.rule.KeyRule.{KeyRule}
+use Rattle.sonic_pointer.specs.declared.rule.KeyRule.TheVariants.{First}
 use Rattle.sonic_error.specs.Errors.{IsPlainError}
 use Rattle.sonic_error.specs.declared.code.ErrorCode.TheVariants.{NoMemory}
 use Rattle.sonic_error.specs.declared.error.Error.{Error}
@@ -23,11 +25,15 @@ pub data ShowAll (t : List ℕ) : List (Option Span) → List (Option LazyValue)
   one_more_value : {entry : Option Span} {entries : List (Option Span)} {value : Option LazyValue} {values : List (Option LazyValue)} → Shows t entry value
       → ShowAll t entries values → ShowAll t (entry ∷ entries) (value ∷ values)
 
--- the values are the answer of the paths
-pub record AreValues (t : List ℕ) (is_bytes : Bool) (paths : List Path) (values : List (Option LazyValue)) : Type 0 where
+-- the values are the answer of the paths under a rule
+pub record AreValuesBy (r : KeyRule) (t : List ℕ) (is_bytes : Bool) (paths : List Path) (values : List (Option LazyValue)) : Type 0 where
   pub entries : List (Option Span)
-  pub answer : IsAnswer t is_bytes paths (spans entries)
+  pub answer : IsAnswerBy r t is_bytes paths (spans entries)
   pub shown : ShowAll t entries values
+
+-- and by first equal keys
+abbrev pub AreValues : List ℕ → Bool → List Path → List (Option LazyValue) → Type 0
+AreValues t is_bytes paths values = AreValuesBy First t is_bytes paths values
 
 -- the bytes of a span
 abbrev pub span_text : List ℕ → Span → List ℕ

@@ -8,6 +8,7 @@ ghost use Rattle.sonic_parser.specs.Faults.{IsStopFor};
 ghost use Rattle.sonic_lazy.specs.Answers.{IsAnswer, Answer};
 ghost use Rattle.sonic_lazy.specs.Internal.Located.{HaveStatuses, span_at, spans_of};
 ghost use Rattle.sonic_lazy.specs.Internal.Walk.{root_point, IsStop, IsError, IsFurthest, IsReached};
+ghost use Rattle.sonic_pointer.specs.declared.rule.KeyRule.TheVariants.{First};
 
 use crate::located::Located;
 use crate::state::Walk;
@@ -40,7 +41,7 @@ pub(crate) fn answer(
     ensures ok { IfOk result (λ found.
         IsAnswer read.entry.text is_bytes tree.now (Answer.spans (spans_of found.items))) }
     ensures statuses { IfOk result (λ found. HaveStatuses read.entry.text found.items) }
-    ensures err { IfErr result (IsStopFor (IsError read.entry.text is_bytes tree.now)) }
+    ensures err { IfErr result (IsStopFor (IsError First read.entry.text is_bytes tree.now)) }
 {
     let size = tree.size();
     if size == 0 {
@@ -65,9 +66,9 @@ fn reach<'de>(
     requires some { tree.now ≢ [] }
     ensures text { IfOk result (λ x. x.text.now ≡ read.entry.text) }
     ensures reached { IfOk result (λ x.
-        IsReached read.entry.text tree.now (spans_of x.found.items) x.reach) }
+        IsReached First read.entry.text tree.now (spans_of x.found.items) x.reach) }
     ensures statuses { IfOk result (λ x. HaveStatuses read.entry.text x.found.items) }
-    ensures err { IfErr result (IsStopFor (IsStop (root_point read.entry.text tree.now) false)) }
+    ensures err { IfErr result (IsStopFor (IsStop (root_point First read.entry.text tree.now) false)) }
 {
     let mut walk = Walk::new(alloc, read, size)?;
     follow(&mut walk, &tree.view(), false)?;

@@ -5,21 +5,43 @@ ghost use Rattle.sonic_text.specs.declared.stop.Stop.{Stop};
 ghost use Rattle.sonic_text.specs.Documents.{IsRootFault, StartsWithUtf8Value};
 ghost use Rattle.sonic_text.specs.Paths.{Node, Path};
 ghost use Rattle.sonic_text.specs.Places.{after_space};
-ghost use Rattle.sonic_lazy.specs.Answers.{IsAnswer, IsGetAnswer, Span, spans};
+ghost use Rattle.sonic_lazy.specs.Answers.{IsAnswer, IsAnswerBy, IsGetAnswer, Span, spans};
 ghost use Rattle.sonic_lazy.specs.Documents.{IsValidDocument, IsInvalid};
+ghost use Rattle.sonic_lazy.specs.FirstPaths.{EvaluatesFirst};
 ghost use Rattle.sonic_lazy.specs.Items.{Listing, IsListing, closed, stopped, stop_at, code_of_start};
 ghost use Rattle.sonic_lazy.specs.Laws.{AreGetAnswers, ExactlyOne, HoldsOrHasOneReason};
 ghost use Rattle.sonic_lazy.specs.Laws.{Finds, LeadsInPart, MixNowhere, outcome_in_whole};
-ghost use Rattle.sonic_lazy.specs.Paths.{Outcome, Evaluates, Leads, found, lacks, fails, cut};
+ghost use Rattle.sonic_lazy.specs.Paths.{Outcome, EvaluatesBy, Leads, LeadsUnder, found, lacks, fails, cut};
+ghost use Rattle.sonic_pointer.specs.declared.rule.KeyRule.{KeyRule};
+ghost use Rattle.sonic_pointer.specs.declared.rule.KeyRule.TheVariants.{First, Refuse};
 ghost use Rattle.sonic_lazy.specs.RawNumbers.{IsNumberDocument, IsNoNumber};
 ghost use Rattle.sonic_lazy.specs.Shown.{span_text};
 
-/// The law of paths, for every text, every place and every path: it leads to an outcome, and there
-/// is no other.
+/// The law of paths, for every rule for equal keys, every text, every place and every path: it leads
+/// to an outcome, and there is no other.
 ///
-/// So in `{"a":1,"a":2}` the path `["a"]` finds the `1`, and nothing else.
+/// So in `{"a":1,"a":2}` the path `["a"]` finds the `1` under `First` and the `2` under `Last`, and
+/// under `Refuse` it fails at the second `"a"`, and there is nothing else.
 pub fn path_has_one_outcome()
-    ensures { (t : List ℕ) (i : ℕ) (path : List Node) → ExactlyOne (Evaluates t i path) }
+    ensures { (r : KeyRule) (t : List ℕ) (i : ℕ) (path : List Node) → ExactlyOne (EvaluatesBy r t i path) }
+{}
+
+/// The law of first equal keys, for every text, every place and every path: under `First` it leads to
+/// what the five clauses that know no rule say, and to nothing else.
+pub fn first_is_the_plain_rule()
+    ensures { (t : List ℕ) (i : ℕ) (path : List Node) (o : Outcome)
+        → (EvaluatesBy First t i path o ↔ EvaluatesFirst t i path o) }
+{}
+
+/// A law of rules for equal keys: what a path finds under `Refuse` it finds under each rule, and where
+/// it lacks a key under `Refuse` it lacks it under each.
+///
+/// So over `{"a":1,"b":2,"b":3}` all rules find the `1` by `["a"]`, and all lack `["c"]`.
+pub fn refuse_agrees_with_each_rule()
+    ensures finds { (r : KeyRule) (t : List ℕ) (i a b : ℕ) (path : List Node)
+        → EvaluatesBy Refuse t i path (found a b) → EvaluatesBy r t i path (found a b) }
+    ensures lacks { (r : KeyRule) (t : List ℕ) (i q : ℕ) (path : List Node)
+        → EvaluatesBy Refuse t i path (lacks q) → EvaluatesBy r t i path (lacks q) }
 {}
 
 /// A law of paths: where one is cut, it is by the fault of the whole text, the same for all.
@@ -27,7 +49,8 @@ pub fn path_has_one_outcome()
 /// So in `[1,{"a":2,]` both `[1, "b"]` and `[2]` are cut at the closing bracket, where a key is expected.
 #[tactic(auto, using(crate::proofs::PathLemmas::Outcome::cut_is_fault))]
 pub fn a_cut_is_the_root_fault()
-    ensures { (t : List ℕ) (path : List Node) (s : Stop) → Leads t path (cut s) → IsRootFault t s }
+    ensures { (r : KeyRule) (t : List ℕ) (path : List Node) (s : Stop) → LeadsUnder r t path (cut s)
+        → IsRootFault t s }
 {}
 
 /// A law of paths: one that fails, or lacks its key, does so before the fault of the text, if there
@@ -36,10 +59,10 @@ pub fn a_cut_is_the_root_fault()
 /// So in `[{},1` the path `[0, "a"]` fails at the closing brace, and the end of the text, where a
 /// comma or a bracket is expected, plays no part.
 pub fn outcomes_come_before_the_fault()
-    ensures fails { (t : List ℕ) (path : List Node) (s r : Stop) → IsRootFault t r
-        → Leads t path (fails s) → s.place < r.place }
-    ensures lacks { (t : List ℕ) (path : List Node) (q : ℕ) (r : Stop) → IsRootFault t r
-        → Leads t path (lacks q) → q < r.place }
+    ensures fails { (r : KeyRule) (t : List ℕ) (path : List Node) (s f : Stop) → IsRootFault t f
+        → LeadsUnder r t path (fails s) → s.place < f.place }
+    ensures lacks { (r : KeyRule) (t : List ℕ) (path : List Node) (q : ℕ) (f : Stop) → IsRootFault t f
+        → LeadsUnder r t path (lacks q) → q < f.place }
 {}
 
 /// A law of two paths that don't mix keys and indexes after one prefix: where both fail at one
@@ -49,17 +72,18 @@ pub fn outcomes_come_before_the_fault()
 /// second as no array does, both at the `7`.
 #[tactic(auto, using(crate::proofs::PathLemmas::Outcome::fails_agree))]
 pub fn fails_at_one_place_agree()
-    ensures { (t : List ℕ) (p q : List Node) (s r : Stop) → MixNowhere p q
-        → Leads t p (fails s) → Leads t q (fails r) → s.place ≡ r.place → s ≡ r }
+    ensures { (r : KeyRule) (t : List ℕ) (p q : List Node) (s f : Stop) → MixNowhere p q
+        → LeadsUnder r t p (fails s) → LeadsUnder r t q (fails f) → s.place ≡ f.place → s ≡ f }
 {}
 
-/// The law of answers, for every text, whether it came as bytes or not, and every list of paths:
-/// they have an answer, and no other.
+/// The law of answers, for every rule for equal keys, every text, whether it came as bytes or not, and
+/// every list of paths: they have an answer, and no other.
 ///
 /// So `["b"]` and `["a"]` over `{"a":1}x` are answered by nothing and by the `1`. The `x` plays no
 /// part, as the object ends before it.
 pub fn paths_have_one_answer()
-    ensures { (t : List ℕ) (is_bytes : Bool) (paths : List (List Node)) → ExactlyOne (IsAnswer t is_bytes paths) }
+    ensures { (r : KeyRule) (t : List ℕ) (is_bytes : Bool) (paths : List (List Node))
+        → ExactlyOne (IsAnswerBy r t is_bytes paths) }
 {}
 
 /// The law of the answer of one path, for every text, whether it came as bytes or not, and every

@@ -41,9 +41,6 @@ mod visited;
 mod state;
 // The steps of a walk through a text.
 mod steps;
-// Worked examples, and the plain program.
-#[cfg(test)]
-mod tests;
 // What paths find in an input that is known to begin with a value.
 mod unchecked;
 // What a string denotes, as text.
@@ -65,9 +62,10 @@ pub use iterator::{
 pub use law::{
     a_cut_is_the_root_fault, a_path_goes_on_in_its_value, container_has_one_listing,
     document_is_one_number_or_has_one_reason, document_is_valid_or_has_one_reason,
-    fails_at_one_place_agree, get_many_agrees_with_get, items_of_a_value_are_closed,
-    outcomes_come_before_the_fault, path_has_one_answer, path_has_one_outcome,
-    paths_have_one_answer, utf8_has_the_same_items,
+    fails_at_one_place_agree, first_is_the_plain_rule, get_many_agrees_with_get,
+    items_of_a_value_are_closed, outcomes_come_before_the_fault, path_has_one_answer,
+    path_has_one_outcome, paths_have_one_answer, refuse_agrees_with_each_rule,
+    utf8_has_the_same_items,
 };
 pub use lazyvalue::LazyValue;
 pub use many::get_many;

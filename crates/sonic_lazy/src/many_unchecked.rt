@@ -21,6 +21,7 @@ ghost use Rattle.sonic_lazy.specs.Paths.{LeadsOn};
 ghost use Rattle.sonic_lazy.specs.Shown.{AreValues, HaveTexts, span_text};
 ghost use Rattle.sonic_lazy.specs.Spans.{pair_of, pairs_of};
 ghost use Rattle.sonic_lazy.specs.Wholes.{IsPart};
+ghost use Rattle.sonic_pointer.specs.declared.rule.KeyRule.TheVariants.{First};
 
 use crate::entry::entry;
 use crate::lazyvalue::LazyValue;
@@ -87,8 +88,8 @@ impl<'de> Origin<'de> {
         ensures leads { IfOk result (λ child. IfSome child (λ x.
             LeadsOn self.entry.text.now self.entry.place (node_of node.now) x.place)) }
         ensures lacks { IfOk result (λ child. IfNone child ((q : ℕ)
-            × LacksNode self.entry.text.now self.entry.place (node_of node.now) q)) }
-        ensures err { IfErr result (IsDeadNode self.entry.text.now self.entry.place (node_of node.now)) }
+            × LacksNode First self.entry.text.now self.entry.place (node_of node.now) q)) }
+        ensures err { IfErr result (IsDeadNode First self.entry.text.now self.entry.place (node_of node.now)) }
     {
         let mut steps = Steps::unchecked(self.read());
         match lead_on(&mut steps, node) {
@@ -134,7 +135,7 @@ fn fill(
     nearest: &mut Option<Stop>,
 )
     requires { IsBegun (origin_at origin view.now) (filling_at slots.old nearest.old) }
-    ensures fuller { IsFuller origin.entry.text.now view.now.paths (filling_at slots.old nearest.old)
+    ensures fuller { IsFuller First origin.entry.text.now view.now.paths (filling_at slots.old nearest.old)
         (filling_at slots.new nearest.new) }
     ensures all { AllSlots (origin_at origin.entry view.now) (filling_at slots.new nearest.new) }
 {
@@ -161,7 +162,7 @@ fn fill_child(
     requires child { i < length view.now.children }
     requires children { IsChildren view.now.paths view.now.prefix view.now.children }
     requires begun { IsBegun (origin_at origin view.now) (filling_at slots.old nearest.old) }
-    ensures fuller { IsFuller origin.entry.text.now view.now.paths (filling_at slots.old nearest.old)
+    ensures fuller { IsFuller First origin.entry.text.now view.now.paths (filling_at slots.old nearest.old)
         (filling_at slots.new nearest.new) }
     ensures all { (node : Node) → slice_get view.now.children i ≡ Some node
         → NodeSlots (origin_at origin.entry view.now) (filling_at slots.new nearest.new) node }
@@ -187,7 +188,7 @@ fn fill_all(text: &[u8], tree: &PointerTree, slots: &mut [Option<Span>]) -> Opti
     requires empty { slots.old ≡ replicate (length tree.now) None }
     ensures none { IfNone result ((is_bytes : Bool) → IsAnswer text.now is_bytes tree.now
         (Answer.spans (pairs_of slots.new))) }
-    ensures some { IfSome result (λ s. (is_bytes : Bool) → IsError text.now is_bytes tree.now s) }
+    ensures some { IfSome result (λ s. (is_bytes : Bool) → IsError First text.now is_bytes tree.now s) }
     ensures long { length slots.new ≡ length slots.old }
 {
     let mut nearest = None;

@@ -11,6 +11,7 @@ ghost use Rattle.sonic_lazy.specs.Internal.Located.{IsStatus};
 ghost use Rattle.sonic_lazy.specs.Internal.Steps.{IsAtKey, IsSkippable};
 ghost use Rattle.sonic_lazy.specs.Internal.Walk.{IsStopped};
 ghost use Rattle.sonic_lazy.specs.Paths.{found, lacks, kind_of, Evaluates, LeadsOn};
+ghost use Rattle.sonic_pointer.specs.declared.rule.KeyRule.TheVariants.{First};
 
 use crate::located::Located;
 use crate::steps::Steps;
@@ -27,7 +28,7 @@ pub(crate) fn locate(steps: &mut Steps<'_>, path: &[PointerNode<'_>]) -> Result<
     ensures value { IfOk result (λ x. IsValue strict steps.old.text x.start x.end) }
     ensures status { IfOk result (λ x. IsStatus steps.old.text x.start x.end x.status) }
     ensures text { OnOk result (steps.new.text ≡ steps.old.text) }
-    ensures err { IfErr result (IsStopFor (IsDeadEnd steps.old.text steps.old.place
+    ensures err { IfErr result (IsStopFor (IsDeadEnd First steps.old.text steps.old.place
         (path_of path.now))) }
     ensures memory { IsErrOf result Fault.OutOfMemory → steps.old.checks ≡ true }
 {
@@ -47,12 +48,12 @@ pub(crate) fn locate(steps: &mut Steps<'_>, path: &[PointerNode<'_>]) -> Result<
 fn follow(steps: &mut Steps<'_>, path: &[PointerNode<'_>]) -> Result<bool, Fault>
     requires { IsSkippable steps.old }
     ensures leads { IfOk result (λ on. on ≡ true
-        → IsRest steps.old.text steps.old.place (path_of path.now) steps.new.place []) }
+        → IsRest First steps.old.text steps.old.place (path_of path.now) steps.new.place []) }
     ensures skippable { IfOk result (λ on. on ≡ true → IsSkippable steps.new) }
     ensures lacks { IfOk result (λ on. on ≡ false → (0 < steps.new.place)
         × Evaluates steps.old.text steps.old.place (path_of path.now) (lacks (steps.new.place - 1))) }
     ensures moved { OnOk result (steps.new ≡ record steps.old { place = steps.new.place }) }
-    ensures err { IfErr result (IsStopFor (IsStopped steps.old.text steps.old.place
+    ensures err { IfErr result (IsStopFor (IsStopped First steps.old.text steps.old.place
         (path_of path.now))) }
     ensures memory { IsErrOf result Fault.OutOfMemory → steps.old.checks ≡ true }
 {
@@ -71,9 +72,9 @@ pub(crate) fn lead_on(steps: &mut Steps<'_>, node: &PointerNode<'_>) -> Result<b
     ensures leads { IfOk result (λ on. on ≡ true
         → LeadsOn steps.old.text steps.old.place (node_of node.now) steps.new.place) }
     ensures lacks { IfOk result (λ on. on ≡ false → (0 < steps.new.place)
-        × LacksNode steps.old.text steps.old.place (node_of node.now) (steps.new.place - 1)) }
+        × LacksNode First steps.old.text steps.old.place (node_of node.now) (steps.new.place - 1)) }
     ensures moved { OnOk result (steps.new ≡ record steps.old { place = steps.new.place }) }
-    ensures err { IfErr result (IsStopFor (IsDeadNode steps.old.text steps.old.place
+    ensures err { IfErr result (IsStopFor (IsDeadNode First steps.old.text steps.old.place
         (node_of node.now))) }
     ensures memory { IsErrOf result Fault.OutOfMemory → steps.old.checks ≡ true }
 {

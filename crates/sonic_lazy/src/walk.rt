@@ -11,6 +11,7 @@ ghost use Rattle.sonic_lazy.specs.Internal.Located.{IsStatus};
 ghost use Rattle.sonic_lazy.specs.Paths.{kind_of};
 ghost use Rattle.sonic_lazy.specs.Internal.Walk.{IsStop, ComesTo, AreFindings, IsLater, AllSettled, BelowSettled, IsContainer, IsFollowed, IsPassed, IsWanted, IsItem, SomeOpen};
 ghost use Rattle.sonic_lazy.specs.Internal.View.{point_at, container_at, progress_at};
+ghost use Rattle.sonic_pointer.specs.declared.rule.KeyRule.TheVariants.{First};
 
 use crate::state::Walk;
 use crate::visited::Visited;
@@ -38,8 +39,8 @@ struct Level<'l, 't> {
 pub(crate) fn follow(walk: &mut Walk<'_>, view: &TreeView<'_>, finish: bool) -> Result<(), Fault>
     requires comes { ComesTo (point_at walk.old view.now) }
     requires some { HasPrefix view.now.paths view.now.prefix }
-    requires are { AreFindings walk.old.text view.now.paths walk.old.findings }
-    ensures later { OnOk result (IsLater walk.old.text view.now.paths walk.old.findings
+    requires are { AreFindings First walk.old.text view.now.paths walk.old.findings }
+    ensures later { OnOk result (IsLater First walk.old.text view.now.paths walk.old.findings
         walk.new.findings) }
     ensures settled { OnOk result (AllSettled (point_at walk.old view.now) walk.new.findings) }
     ensures whole { OnOk result ((finish ≡ true) ⊎ (walk.new.findings.lacking ≡ true)
@@ -94,8 +95,8 @@ fn items(walk: &mut Walk<'_>, level: &Level<'_, '_>) -> Result<bool, Fault>
     requires start { level.now.start ≡ walk.old.place }
     requires container { IsContainer (container_at walk.old.text level.now) }
     requires some { level.now.view.now.children ≢ List.[] }
-    requires are { AreFindings walk.old.text level.now.view.now.paths walk.old.findings }
-    ensures later { OnOk result (IsLater walk.old.text level.now.view.now.paths walk.old.findings
+    requires are { AreFindings First walk.old.text level.now.view.now.paths walk.old.findings }
+    ensures later { OnOk result (IsLater First walk.old.text level.now.view.now.paths walk.old.findings
         walk.new.findings) }
     ensures settled { OnOk result (BelowSettled (container_at walk.old.text level.now).point
         walk.new.findings) }
@@ -140,7 +141,7 @@ fn item(
         (progress_at passed walk.old.place visited.old walk.old.findings) }
     ensures passed { OnOk result (IsPassed (container_at walk.old.text level.now)
         (progress_at passed walk.old.place visited.new walk.new.findings) walk.new.place) }
-    ensures later { OnOk result (IsLater walk.old.text level.now.view.now.paths walk.old.findings
+    ensures later { OnOk result (IsLater First walk.old.text level.now.view.now.paths walk.old.findings
         walk.new.findings) }
     ensures text { OnOk result (walk.new.text ≡ walk.old.text) }
     ensures err { IfErr result (IsStopFor (IsStop (container_at walk.old.text level.now).point

@@ -11,9 +11,6 @@ mod law;
 mod made;
 // The text of one value, which isn't opened.
 mod raw;
-// Worked examples.
-#[cfg(test)]
-mod tests;
 // Values.
 mod value;
 // What a path leads to.

@@ -1,6 +1,5 @@
 mod BeginningLemmas
 mod BlockLemmas
-mod DescentLemmas
 pub mod FaultLemmas
 pub mod HonestLemmas
 mod RefusalLemmas

@@ -2,7 +2,7 @@
 use Rattle.std.specs.Prelude.{◌≡◌, ◌≢◌, ℕ, ◌+◌, Bool, List, [], ◌++◌, length, take}
 use Rattle.sonic_error.specs.declared.code.Category.TheVariants.{Syntax}
 use Rattle.sonic_error.specs.declared.code.ErrorCode.{ErrorCode}
-use Rattle.sonic_error.specs.declared.code.ErrorCode.TheVariants.{EofWhileParsing, InvalidUTF8, TrailingCharacters}
+use Rattle.sonic_error.specs.declared.code.ErrorCode.TheVariants.{EofWhileParsing, InvalidUTF8, TrailingCharacters, DuplicateKey}
 use Rattle.sonic_error.specs.declared.error.Error.{Error}
 use Rattle.sonic_error.specs.Codes.{category_of}
 use Rattle.sonic_error.specs.Errors.{error_code, error_offset}
@@ -19,9 +19,9 @@ MayGoOnFrom m t p = (w : List ℕ) × (w ≢ []) × IsValue m (t ++ w) (after_sp
 abbrev pub IsFinalFrom : Bool → List ℕ → ℕ → Stop → Type 0
 IsFinalFrom m t p s = (u : List ℕ) → take (s.place + 1) u ≡ take (s.place + 1) t → IsFault m u (after_space u p) s
 
--- a syntax error of the value itself: neither of what follows it nor of bytes that aren't UTF-8
+-- a syntax error of the value itself: neither of what follows it nor of bytes that aren't UTF-8, nor of a key that the value has twice
 abbrev pub IsOfValue : ErrorCode → Type 0
-IsOfValue code = (category_of code ≡ Syntax) × (code ≢ TrailingCharacters) × (code ≢ InvalidUTF8)
+IsOfValue code = (category_of code ≡ Syntax) × (code ≢ TrailingCharacters) × (code ≢ InvalidUTF8) × (code ≢ DuplicateKey)
 
 -- the place and the code that an error shows
 abbrev pub stop_of : Error → Stop

@@ -24,8 +24,6 @@ mod skip;
 mod space;
 // What a skipped value needs.
 mod status;
-#[cfg(test)]
-mod tests;
 // Where a value ends that is known to be there.
 mod unchecked;
 

@@ -11,8 +11,6 @@ mod line;
 mod lines;
 // The path that a line says.
 mod path;
-#[cfg(test)]
-mod tests;
 
 pub use head::{document_start, find_line_end, is_blank};
 pub use law::head_says_one_thing;

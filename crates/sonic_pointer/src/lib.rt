@@ -15,13 +15,12 @@ mod node;
 mod owned;
 // Lists of numbers that grow at any position.
 mod pieces;
+// Which member counts of those with equal keys.
+mod rule;
 // The vertices of a tree.
 mod vertex;
 // A tree as its calls read it.
 mod shape;
-// Worked examples of trees, and trees with many siblings.
-#[cfg(test)]
-mod tests;
 // Trees of paths.
 mod tree;
 // Vertices of a tree, as callers see them.
@@ -32,5 +31,6 @@ mod wanted;
 pub use branch::Branch;
 pub use fault::PathError;
 pub use node::PointerNode;
+pub use rule::KeyRule;
 pub use tree::{MAX_NODES, PointerTree};
 pub use view::TreeView;

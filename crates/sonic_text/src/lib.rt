@@ -29,9 +29,6 @@ mod stop;
 mod string;
 // The laws of strings.
 mod string_law;
-// Worked examples.
-#[cfg(test)]
-mod tests;
 // What a string denotes, as bytes.
 mod unescape;
 // A code point as UTF-8.

@@ -9,7 +9,7 @@ use Rattle.sonic_lazy.proofs.AnswerLemmas.One.{answer_one}
 use Rattle.sonic_lazy.proofs.DocumentLemmas.{reason_one}
 use Rattle.sonic_lazy.specs.Answers.{Span, Answer, IsAnswer, spans, error}
 use Rattle.sonic_lazy.specs.Causes.{IsRefusal, out_of_memory}
-use Rattle.sonic_lazy.specs.Causes.IsRefusal.{answered as refused}
+use Rattle.sonic_lazy.specs.Causes.IsRefusalBy.{answered as refused}
 use Rattle.sonic_lazy.specs.Documents.{IsValidDocument, IsInvalidError, out_of_memory as no_memory, invalid as invalid_by}
 use Rattle.sonic_lazy.specs.Shown.{Shows, shows_none, shows_span, ShowAll, no_more_values, one_more_value, AreValues}
 use Rattle.sonic_lazy.specs.declared.lazyvalue.LazyValue.{LazyValue}

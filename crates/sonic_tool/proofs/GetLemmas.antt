@@ -4,7 +4,7 @@ use Rattle.std.specs.declared.option.Option.{Option}
 use Rattle.sonic_text.specs.Paths.{Path}
 use Rattle.sonic_lazy.specs.Answers.{Span, span_of, Answer, IsAnswer, no_more, no_path, finding, spans, error}
 use Rattle.sonic_lazy.specs.Causes.{IsAnswerable}
-use Rattle.sonic_lazy.specs.Causes.IsAnswerable.{nothing_asked, all_reported}
+use Rattle.sonic_lazy.specs.Causes.IsAnswerableBy.{nothing_asked, all_reported}
 use Rattle.sonic_lazy.proofs.AnswerLemmas.One.{answer_one}
 use Rattle.sonic_tool.specs.declared.status.Status.{Status}
 use Rattle.sonic_tool.specs.declared.status.Status.TheVariants.{Done}

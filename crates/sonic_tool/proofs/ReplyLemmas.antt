@@ -11,7 +11,7 @@ use Rattle.sonic_lazy.specs.declared.lazyvalue.LazyValue.{LazyValue}
 use Rattle.sonic_lazy.specs.Answers.{Span, spans, error}
 use Rattle.sonic_lazy.specs.Shown.{Shows, shows_none, shows_span, ShowAll, no_more_values, one_more_value, AreValues}
 use Rattle.sonic_lazy.specs.Causes.{IsRefusal, out_of_memory}
-use Rattle.sonic_lazy.specs.Causes.IsRefusal.{answered as refused}
+use Rattle.sonic_lazy.specs.Causes.IsRefusalBy.{answered as refused}
 use Rattle.std.specs.declared.vec.Vec.{Vec}
 use Rattle.sonic_paths.specs.Lines.{SaysPaths}
 use Rattle.sonic_paths.specs.declared.lines.Head.TheVariants.{Bad}

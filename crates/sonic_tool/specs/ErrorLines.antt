@@ -4,7 +4,7 @@ use Rattle.std.specs.Fmt.{decimal}
 use Rattle.sonic_error.specs.declared.code.Category.{Category}
 use Rattle.sonic_error.specs.declared.code.Category.TheVariants.{Io as Outside, Syntax, TypeUnmatched, NotFound, Eof, Memory}
 use Rattle.sonic_error.specs.declared.code.ErrorCode.{ErrorCode}
-use Rattle.sonic_error.specs.declared.code.ErrorCode.TheVariants.{Message, Io, EofWhileParsing, ExpectedColon, ExpectedArrayCommaOrEnd, ExpectedObjectCommaOrEnd, InvalidLiteral, InvalidJsonValue, ExpectedObjectStart, ExpectedArrayStart, InvalidEscape, InvalidNumber, NumberOutOfRange, InvalidUnicodeCodePoint, InvalidUTF8, ControlCharacterWhileParsingString, ExpectObjectKeyOrEnd, TrailingComma, TrailingCharacters, RecursionLimitExceeded, GetInEmptyObject, GetUnknownKeyInObject, GetInEmptyArray, GetIndexOutOfArray, UnexpectedVisitType, InvalidSurrogateUnicodeCodePoint, FloatMustBeFinite, ExpectedNumericKey, ExpectedQuote, SerExpectKeyIsStrOrNum, NoMemory}
+use Rattle.sonic_error.specs.declared.code.ErrorCode.TheVariants.{Message, Io, EofWhileParsing, ExpectedColon, ExpectedArrayCommaOrEnd, ExpectedObjectCommaOrEnd, InvalidLiteral, InvalidJsonValue, ExpectedObjectStart, ExpectedArrayStart, InvalidEscape, InvalidNumber, NumberOutOfRange, InvalidUnicodeCodePoint, InvalidUTF8, ControlCharacterWhileParsingString, ExpectObjectKeyOrEnd, TrailingComma, TrailingCharacters, RecursionLimitExceeded, GetInEmptyObject, GetUnknownKeyInObject, GetInEmptyArray, GetIndexOutOfArray, UnexpectedVisitType, InvalidSurrogateUnicodeCodePoint, FloatMustBeFinite, ExpectedNumericKey, ExpectedQuote, SerExpectKeyIsStrOrNum, NoMemory, DuplicateKey}
 use Rattle.sonic_error.specs.Codes.{category_of}
 use Rattle.sonic_error.specs.Places.{offset_of, line_of, column_of}
 
@@ -50,6 +50,7 @@ name_of ExpectedNumericKey = codes "ExpectedNumericKey"
 name_of ExpectedQuote = codes "ExpectedQuote"
 name_of SerExpectKeyIsStrOrNum = codes "SerExpectKeyIsStrOrNum"
 name_of NoMemory = codes "NoMemory"
+name_of DuplicateKey = codes "DuplicateKey"
 
 -- the line, the column and the offset of an error, as they are written
 abbrev pub position_text : ℕ → ℕ → ℕ → List ℕ

@@ -84,5 +84,6 @@ fn name(code: ErrorCode) -> &'static str
         ErrorCode::ExpectedQuote => "ExpectedQuote",
         ErrorCode::SerExpectKeyIsStrOrNum => "SerExpectKeyIsStrOrNum",
         ErrorCode::NoMemory => "NoMemory",
+        ErrorCode::DuplicateKey => "DuplicateKey",
     }
 }

@@ -12,4 +12,6 @@ mod memory;
 mod outside;
 mod paths;
 mod rows;
+// Assertions as calls.
+mod same;
 mod writing;

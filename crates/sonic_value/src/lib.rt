@@ -15,9 +15,6 @@ mod read;
 mod reader;
 // Schemas that are filled, and the calls that do it.
 mod schema;
-// Worked examples.
-#[cfg(test)]
-mod tests;
 // Values.
 mod value;
 

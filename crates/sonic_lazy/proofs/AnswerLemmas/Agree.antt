@@ -9,10 +9,10 @@ use Rattle.sonic_lazy.proofs.AnswerLemmas.One.{none_in_empty, first_in, later_in
 use Rattle.sonic_lazy.proofs.AnswerLemmas.Walk.{IsEnd, IsGathered, both_same, found_value, lead_from}
 use Rattle.sonic_lazy.proofs.PathLemmas.Outcome.{either, cut_is_fault}
 use Rattle.sonic_lazy.proofs.WholeLemmas.{utf8_up_to}
-use Rattle.sonic_lazy.specs.Answers.{AllLead, no_more, one_more, NoneFails, NoneCut, IsReach, to_the_root, to_the_furthest, Span, span_of, Answer, spans, error, ComeTo, no_path, failing, cutting, lacking, breaking, finding, IsAnswer, ComesToAlone, value_found, value_broken, key_lacked, path_failed, path_cut}
+use Rattle.sonic_lazy.specs.Answers.{AllLeadBy, AllLead, no_more, one_more, NoneFails, NoneCut, IsReach, to_the_root, to_the_furthest, Span, span_of, Answer, spans, error, ComeTo, no_path, failing, cutting, lacking, breaking, finding, IsAnswerBy, IsAnswer, ComesToAlone, value_found, value_broken, key_lacked, path_failed, path_cut}
 use Rattle.sonic_lazy.specs.Laws.{IsGetEntry, value_got, key_missed, AreGetAnswers, no_more_entries, one_more_entry}
-use Rattle.sonic_lazy.specs.Paths.{Outcome, found, lacks, fails, cut, fails_at, past_end, empty_code, nowhere, kind_of, Evaluates, Leads}
-use Rattle.sonic_lazy.specs.Paths.Evaluates.{found_here, goes_on, leads_nowhere, cut_here, cut_before}
+use Rattle.sonic_lazy.specs.Paths.{Outcome, found, lacks, fails, cut, fails_at, past_end, empty_code, nowhere, kind_of, Evaluates, LeadsUnder, Leads}
+use Rattle.sonic_lazy.specs.Paths.EvaluatesBy.{found_here, goes_on, leads_nowhere, cut_here, cut_before}
 use Rattle.sonic_text.proofs.Values.{value_end_one, value_never_both}
 use Rattle.sonic_text.specs.Documents.{StartsWithUtf8Value}
 use Rattle.sonic_text.specs.Paths.{Path}
@@ -21,6 +21,8 @@ use Rattle.sonic_text.specs.Values.{opening, closing}
 use Rattle.sonic_text.specs.declared.kind.Kind.{Kind}
 use Rattle.sonic_text.specs.declared.kind.Kind.TheVariants.{Array, Object}
 use Rattle.sonic_text.specs.declared.stop.Stop.{Stop}
+use Rattle.sonic_pointer.specs.declared.rule.KeyRule.{KeyRule}
+use Rattle.sonic_pointer.specs.declared.rule.KeyRule.TheVariants.{First}
 
 -- where an outcome is a fail, its code isn't that of a key that is lacked
 abbrev HasOtherCode : Outcome → Type 0
@@ -57,16 +59,16 @@ path_otherwise {t} (node ∷ rest) {i} (leads_nowhere {j = j} x none e) = rw e (
 path_otherwise (node ∷ rest) (cut_before f none) = λ s e. absurd cc
 
 -- a value that a path finds in the first value is UTF-8 up to its end
-pub utf8_found : {t : List ℕ} (path : Path) {i j : ℕ} → StartsWithUtf8Value t → Leads t path (found i j) → IsUtf8 (take j t)
+pub utf8_found : {t : List ℕ} {rule : KeyRule} (path : Path) {i j : ℕ} → StartsWithUtf8Value t → LeadsUnder rule t path (found i j) → IsUtf8 (take j t)
 utf8_found path x l = utf8_up_to x.end x.utf8 (found_value path l) (found_before path l x.root)
 
 -- and the text is UTF-8 as far as it is needed
-utf8_reach : {t : List ℕ} {paths : List Path} {os : List Outcome} {r : ℕ} → StartsWithUtf8Value t → AllLead t paths os → IsReach t os r → IsUtf8 (take r t)
+utf8_reach : {t : List ℕ} {paths : List Path} {os : List Outcome} {r : ℕ} {rule : KeyRule} → StartsWithUtf8Value t → AllLeadBy rule t paths os → IsReach t os r → IsUtf8 (take r t)
 utf8_reach x lead (to_the_root l y) = rw (value_end_one x.root y) at x.utf8
 utf8_reach {r = r} x lead (to_the_furthest {i} none c all) = let y = lead_from (found i r) lead c in utf8_found y.path x y.leads
 
 -- so where no path fails and none is cut, the answer is the spans
-spans_alone : {t : List ℕ} {is_bytes : Bool} {paths : List Path} {os : List Outcome} {a : Answer} → StartsWithUtf8Value t → AllLead t paths os → NoneFails os
+spans_alone : {t : List ℕ} {is_bytes : Bool} {paths : List Path} {os : List Outcome} {a : Answer} {rule : KeyRule} → StartsWithUtf8Value t → AllLeadBy rule t paths os → NoneFails os
     → NoneCut os → ComeTo t is_bytes os a → a ≡ spans (map span_of os)
 spans_alone x lead fail cuts no_path = refl
 spans_alone x lead fail cuts (failing {s = s} n) = absurd (fail s (nearest_in n))
@@ -130,7 +132,7 @@ entered {t} {path = path} x (key_missed g) =
 
 -- so all paths are gathered
 all_entered : {t : List ℕ} {is_bytes : Bool} {paths : List Path} {entries : List (Option Span)} → StartsWithUtf8Value t
-    → AreGetAnswers t is_bytes paths entries → IsGathered t true entries paths
+    → AreGetAnswers t is_bytes paths entries → IsGathered First t true entries paths
 all_entered x no_more_entries = record { outcomes = []; lead = no_more; entries = refl; ends = λ o c. absurd (none_in_empty o c) }
 all_entered x (one_more_entry a all) =
     let e = entered x a in
@@ -146,8 +148,8 @@ all_entered x (one_more_entry a all) =
     }
 
 -- and where they are gathered the spans are their answer
-pub answer_of_gathered : {t : List ℕ} {is_bytes : Bool} {paths : List Path} {entries : List (Option Span)} → StartsWithUtf8Value t
-    → IsGathered t true entries paths → IsAnswer t is_bytes paths (spans entries)
+pub answer_of_gathered : {t : List ℕ} {is_bytes : Bool} {paths : List Path} {entries : List (Option Span)} {rule : KeyRule} → StartsWithUtf8Value t
+    → IsGathered rule t true entries paths → IsAnswerBy rule t is_bytes paths (spans entries)
 answer_of_gathered {t} {is_bytes} {entries = entries} x g =
     let a = come_to_some t is_bytes g.outcomes (λ s c. cut_by_root s g.lead c) in
     let only = spans_alone x g.lead (λ s c. g.ends (fails s) c) (λ s c. g.ends (cut s) c) a.1 in

@@ -5,10 +5,12 @@ use Rattle.std.proofs.lemmas.List.Elements.{Contains-append_right, Contains-appe
 use Rattle.std.proofs.lemmas.Str.{IsUtf8-from_is_utf8, is_utf8-from_IsUtf8}
 use Rattle.std.specs.Prelude.{Contains}
 use Rattle.std.specs.Str.{IsUtf8, is_utf8}
-use Rattle.sonic_lazy.proofs.PathLemmas.Outcome.{cut_is_fault, evaluates_one, evaluates_some}
-use Rattle.sonic_lazy.specs.Answers.{IsNearest, nearest_here, nearest_later, NoneFails, NoneCut, SomeLacks, AllLead, no_more, one_more, IsReach, to_the_root, to_the_furthest, Answer, ComeTo, no_path, failing, cutting, lacking, breaking, finding, IsAnswer}
+use Rattle.sonic_lazy.proofs.PathLemmas.Outcome.{cut_is_fault, by_one, by_some}
+use Rattle.sonic_lazy.specs.Answers.{IsNearest, nearest_here, nearest_later, NoneFails, NoneCut, SomeLacks, AllLeadBy, no_more, one_more, IsReach, to_the_root, to_the_furthest, Answer, ComeTo, no_path, failing, cutting, lacking, breaking, finding, IsAnswer, IsAnswerBy}
 use Rattle.sonic_lazy.specs.Laws.{ExactlyOne}
-use Rattle.sonic_lazy.specs.Paths.{Outcome, found, lacks, fails, cut, Leads}
+use Rattle.sonic_lazy.specs.Paths.{Outcome, found, lacks, fails, cut, LeadsUnder}
+use Rattle.sonic_pointer.specs.declared.rule.KeyRule.{KeyRule}
+use Rattle.sonic_pointer.specs.declared.rule.KeyRule.TheVariants.{First}
 use Rattle.sonic_text.proofs.Outcomes.{value_some_outcome}
 use Rattle.sonic_text.proofs.Values.{value_end_one, value_fault_one, value_never_both}
 use Rattle.sonic_text.specs.Documents.{IsRootFault}
@@ -196,23 +198,24 @@ furthest_of o (p ∷ os) all =
     rw x.2 (one_further x.0 x.1 (p ∷ os) (furthest_of p os (λ q c. all q (later_in o q (p ∷ os) c))))
 
 -- each path leads somewhere
-pub all_some : (t : List ℕ) (paths : List (List Node)) → (os : List Outcome) × AllLead t paths os
-all_some t [] = ([], no_more)
-all_some t (path ∷ paths) =
-    let o = evaluates_some t path (after_space t 0) in
-    let os = all_some t paths in
+pub all_some : (r : KeyRule) (t : List ℕ) (paths : List (List Node)) → (os : List Outcome) × AllLeadBy r t paths os
+all_some r t [] = ([], no_more)
+all_some r t (path ∷ paths) =
+    let o = by_some r t path (after_space t 0) in
+    let os = all_some r t paths in
     (o.0 ∷ os.0, one_more o.1 os.1)
 
 -- and to one outcome
-all_one : {t : List ℕ} (paths : List (List Node)) {os ps : List Outcome} → AllLead t paths os → AllLead t paths ps → os ≡ ps
+all_one : {r : KeyRule} {t : List ℕ} (paths : List (List Node)) {os ps : List Outcome} → AllLeadBy r t paths os → AllLeadBy r t paths ps → os ≡ ps
 all_one [] no_more no_more = refl
-all_one (path ∷ paths) (one_more l a) (one_more m b) = rw (evaluates_one path l m, all_one paths a b) refl
+all_one (path ∷ paths) (one_more l a) (one_more m b) = rw (by_one path l m, all_one paths a b) refl
 
 -- where one is cut, it is by the root's fault
-pub cut_by_root : {t : List ℕ} {paths : List (List Node)} {os : List Outcome} (s : Stop) → AllLead t paths os → Contains os (cut s) → IsRootFault t s
+pub cut_by_root : {r : KeyRule} {t : List ℕ} {paths : List (List Node)} {os : List Outcome} (s : Stop) → AllLeadBy r t paths os → Contains os (cut s)
+    → IsRootFault t s
 cut_by_root s no_more c = absurd (none_in_empty (cut s) c)
-cut_by_root {t} s (one_more {path} {o = o} {os} l a) c = elim (first_or_later o (cut s) os c) [
-  | inl e ↦ (let leads : Leads t path (cut s) = rw e at l in cut_is_fault path leads)
+cut_by_root {r} {t} s (one_more {path} {o = o} {os} l a) c = elim (first_or_later o (cut s) os c) [
+  | inl e ↦ (let leads : LeadsUnder r t path (cut s) = rw e at l in cut_is_fault path leads)
   | inr d ↦ cut_by_root s a d
 ]
 
@@ -322,10 +325,10 @@ come_to_one {t} (o ∷ os) (finding {r = q} fail cuts reach text e) (breaking {r
     absurd (u whole)
 come_to_one (o ∷ os) (finding fail cuts reach text e) (finding none more other whole f) = rw (e, f) refl
 
--- paths have exactly one answer
-pub answer_one : (t : List ℕ) (is_bytes : Bool) (paths : List (List Node)) → ExactlyOne (IsAnswer t is_bytes paths)
-answer_one t is_bytes paths =
-    let os = all_some t paths in
+-- under a rule paths have exactly one answer
+pub answer_by_one : (r : KeyRule) (t : List ℕ) (is_bytes : Bool) (paths : List (List Node)) → ExactlyOne (IsAnswerBy r t is_bytes paths)
+answer_by_one r t is_bytes paths =
+    let os = all_some r t paths in
     let a = come_to_some t is_bytes os.0 (λ s c. cut_by_root s os.1 c) in
     record {
       some = (a.0, record { outcomes = os.0; lead = os.1; come_to = a.1 });
@@ -334,3 +337,7 @@ answer_one t is_bytes paths =
           let z : ComeTo t is_bytes x.outcomes b = rw same at y.come_to in
           come_to_one x.outcomes x.come_to z;
     }
+
+-- and so they have by first equal keys
+pub answer_one : (t : List ℕ) (is_bytes : Bool) (paths : List (List Node)) → ExactlyOne (IsAnswer t is_bytes paths)
+answer_one t is_bytes paths = answer_by_one First t is_bytes paths

@@ -9,14 +9,14 @@ use Rattle.std.specs.Str.{IsUtf8}
 use Rattle.sonic_error.specs.Texts.{valid_up_to}
 use Rattle.sonic_error.specs.declared.code.ErrorCode.TheVariants.{InvalidUTF8}
 use Rattle.sonic_lazy.proofs.AnswerLemmas.One.{none_in_empty, first_in, later_in, first_or_later, nearest_in, nearest_least, nearest_or_none, cut_or_none, all_found, all_some, cut_by_root}
-use Rattle.sonic_lazy.proofs.PathLemmas.Outcome.{nowhere_ends, ends_before_end, ends_before_fault, cut_is_fault, evaluates_one}
+use Rattle.sonic_lazy.proofs.PathLemmas.Outcome.{nowhere_ends, ends_before_end, ends_before_fault, cut_is_fault, by_one}
 use Rattle.sonic_lazy.proofs.WalkLemmas.List.{some_there, first_of}
 use Rattle.sonic_lazy.proofs.WalkLemmas.Path.{contained}
-use Rattle.sonic_lazy.specs.Answers.{AllLead, no_more, one_more, IsNearest, NoneFails, SomeLacks, IsReach, to_the_root, to_the_furthest, Span, span_of, Answer, ComeTo, no_path, failing, cutting, lacking, breaking, finding, IsAnswer}
+use Rattle.sonic_lazy.specs.Answers.{AllLeadBy, no_more, one_more, IsNearest, NoneFails, SomeLacks, IsReach, to_the_root, to_the_furthest, Span, span_of, Answer, ComeTo, no_path, failing, cutting, lacking, breaking, finding, IsAnswerBy}
 use Rattle.sonic_lazy.specs.Internal.Located.{HaveStatuses, span_at, spans_of}
 use Rattle.sonic_lazy.specs.Internal.Walk.{Findings, root_point, AllSettled, IsSettled, was_found, was_lacked, AreFindings, SomeLack, IsStopped, fails_so, cut_so, NoneNearer, path_stops, value_stops, IsStop, IsFurthest, IsReached, IsError}
-use Rattle.sonic_lazy.specs.Paths.{Outcome, found, lacks, fails, cut, kind_of, Evaluates, Leads}
-use Rattle.sonic_lazy.specs.Paths.Evaluates.{found_here, goes_on, leads_nowhere}
+use Rattle.sonic_lazy.specs.Paths.{Outcome, found, lacks, fails, cut, kind_of, EvaluatesBy, LeadsUnder}
+use Rattle.sonic_lazy.specs.Paths.EvaluatesBy.{found_here, goes_on, leads_nowhere}
 use Rattle.sonic_lazy.specs.declared.located.Located.{Located}
 use Rattle.sonic_pointer.specs.Paths.{HasPrefix}
 use Rattle.sonic_text.proofs.Outcomes.{value_some_outcome}
@@ -29,6 +29,7 @@ use Rattle.sonic_text.specs.Places.{after_space}
 use Rattle.sonic_text.specs.Strings.{strict}
 use Rattle.sonic_text.specs.Values.{IsValue}
 use Rattle.sonic_text.specs.declared.stop.Stop.{Stop}
+use Rattle.sonic_pointer.specs.declared.rule.KeyRule.{KeyRule}
 
 -- a path ends so where the walk does: it found a value, or it lacks its key and that is noted
 abbrev pub IsEnd : Bool → Outcome → Type 0
@@ -38,16 +39,16 @@ IsEnd noted (fails s) = ⊥
 IsEnd noted (cut s) = ⊥
 
 -- where a path leads, and that it is what is kept
-pub record Ends (t : List ℕ) (noted : Bool) (kept : Option (Option Span)) (path : Path) : Type 0 where
+pub record Ends (rule : KeyRule) (t : List ℕ) (noted : Bool) (kept : Option (Option Span)) (path : Path) : Type 0 where
   pub outcome : Outcome
-  pub leads : Leads t path outcome
+  pub leads : LeadsUnder rule t path outcome
   pub end : IsEnd noted outcome
   pub is : kept ≡ Some (span_of outcome)
 
 -- where all paths lead
-pub record IsGathered (t : List ℕ) (noted : Bool) (spans : List (Option Span)) (paths : List Path) : Type 0 where
+pub record IsGathered (rule : KeyRule) (t : List ℕ) (noted : Bool) (spans : List (Option Span)) (paths : List Path) : Type 0 where
   pub outcomes : List Outcome
-  pub lead : AllLead t paths outcomes
+  pub lead : AllLeadBy rule t paths outcomes
   pub entries : spans ≡ map span_of outcomes
   pub ends : (o : Outcome) → Contains outcomes o → IsEnd noted o
 
@@ -56,14 +57,14 @@ pub both_same : {X : Type 0} {x y : X} {xs ys : List X} → x ≡ y → xs ≡ y
 both_same e f = cc
 
 -- one by one
-pub gather : (t : List ℕ) (noted : Bool) (spans : List (Option Span)) (paths : List Path) → length spans ≡ length paths
-    → ((k : ℕ) (path : Path) → slice_get paths k ≡ Some path → Ends t noted (slice_get spans k) path) → IsGathered t noted spans paths
-gather t noted [] [] long all = record { outcomes = []; lead = no_more; entries = refl; ends = λ o c. absurd (none_in_empty o c) }
-gather t noted [] (p ∷ paths) long all = absurd (omega arith)
-gather t noted (x ∷ spans) [] long all = absurd (omega arith)
-gather t noted (x ∷ spans) (p ∷ paths) long all =
+pub gather : (rule : KeyRule) (t : List ℕ) (noted : Bool) (spans : List (Option Span)) (paths : List Path) → length spans ≡ length paths
+    → ((k : ℕ) (path : Path) → slice_get paths k ≡ Some path → Ends rule t noted (slice_get spans k) path) → IsGathered rule t noted spans paths
+gather rule t noted [] [] long all = record { outcomes = []; lead = no_more; entries = refl; ends = λ o c. absurd (none_in_empty o c) }
+gather rule t noted [] (p ∷ paths) long all = absurd (omega arith)
+gather rule t noted (x ∷ spans) [] long all = absurd (omega arith)
+gather rule t noted (x ∷ spans) (p ∷ paths) long all =
     let e = all 0 p refl in
-    let rest = gather t noted spans paths (omega arith) (λ k path h. all (suc k) path h) in
+    let rest = gather rule t noted spans paths (omega arith) (λ k path h. all (suc k) path h) in
     let kept : x ≡ span_of e.outcome = same_Some x (span_of e.outcome) e.is in
     record {
       outcomes = e.outcome ∷ rest.outcomes;
@@ -76,19 +77,19 @@ gather t noted (x ∷ spans) (p ∷ paths) long all =
     }
 
 -- a path that lacks its key keeps no span
-lacks_kept : {t : List ℕ} {paths : List Path} {notes : Findings} {q : ℕ} (k : ℕ) (path : Path) (x : Option Span)
-    → AreFindings t paths notes → slice_get paths k ≡ Some path → Leads t path (lacks q) → slice_get notes.spans k ≡ Some x → x ≡ None
+lacks_kept : {t : List ℕ} {paths : List Path} {notes : Findings} {q : ℕ} {rule : KeyRule} (k : ℕ) (path : Path) (x : Option Span)
+    → AreFindings rule t paths notes → slice_get paths k ≡ Some path → LeadsUnder rule t path (lacks q) → slice_get notes.spans k ≡ Some x → x ≡ None
 lacks_kept k path None reported is l h = refl
-lacks_kept {t} {paths} {q = q} k path (Some (i, j)) reported is l h =
+lacks_kept {t} {paths} {q = q} {rule = rule} k path (Some (i, j)) reported is l h =
     let was = reported.found_there k i j h in
     let same : was.0 ≡ path = same_Some was.0 path (sym was.1 ∙ is) in
-    let leads : Leads t path (found i j) = rw same at was.2 in
-    let clash : found i j ≡ lacks q = evaluates_one path leads l in
+    let leads : LeadsUnder rule t path (found i j) = rw same at was.2 in
+    let clash : found i j ≡ lacks q = by_one path leads l in
     absurd cc
 
 -- a path that is settled ends so
-pub settled_ends : {t : List ℕ} {paths : List Path} {notes : Findings} (k : ℕ) (path : Path) → AreFindings t paths notes
-    → slice_get paths k ≡ Some path → IsSettled t notes k path → Ends t notes.lacking (slice_get notes.spans k) path
+pub settled_ends : {t : List ℕ} {paths : List Path} {notes : Findings} {rule : KeyRule} (k : ℕ) (path : Path) → AreFindings rule t paths notes
+    → slice_get paths k ≡ Some path → IsSettled rule t notes k path → Ends rule t notes.lacking (slice_get notes.spans k) path
 settled_ends k path reported is (was_found {i = i} {j} l h) = record { outcome = found i j; leads = l; end = tt; is = h }
 settled_ends {paths = paths} {notes} k path reported is (was_lacked {q = q} l e) =
     let within : k < length notes.spans = (let w = slice_get_within paths k path is in omega (arith, w, reported.long)) in
@@ -97,31 +98,31 @@ settled_ends {paths = paths} {notes} k path reported is (was_lacked {q = q} l e)
     record { outcome = lacks q; leads = l; end = e; is = rw none at x.1 }
 
 -- where the walk ends, all paths are gathered
-gathered : {t : List ℕ} {paths : List Path} {f : Findings} → AreFindings t paths f → AllSettled (root_point t paths) f → IsGathered t f.lacking f.spans paths
-gathered {t} {paths} {f} are settled =
-    gather t f.lacking f.spans paths are.long (λ k path is. settled_ends k path are is (settled k path is))
+gathered : {t : List ℕ} {paths : List Path} {f : Findings} {rule : KeyRule} → AreFindings rule t paths f → AllSettled (root_point rule t paths) f → IsGathered rule t f.lacking f.spans paths
+gathered {t} {paths} {f} {rule = rule} are settled =
+    gather rule t f.lacking f.spans paths are.long (λ k path is. settled_ends k path are is (settled k path is))
 
 -- a path's outcome is among all
-lead_at : {t : List ℕ} {paths : List Path} {os : List Outcome} {o : Outcome} (k : ℕ) (path : Path) → AllLead t paths os → slice_get paths k ≡ Some path
-    → Leads t path o → Contains os o
+lead_at : {t : List ℕ} {rule : KeyRule} {paths : List Path} {os : List Outcome} {o : Outcome} (k : ℕ) (path : Path) → AllLeadBy rule t paths os → slice_get paths k ≡ Some path
+    → LeadsUnder rule t path o → Contains os o
 lead_at k path no_more is l = absurd (let w = slice_get_within [] k path is in omega arith)
-lead_at {t} {o = o} zero path (one_more {path = p} {o = u} {os} a b) is l =
+lead_at {t} {rule} {o = o} zero path (one_more {path = p} {o = u} {os} a b) is l =
     let same : p ≡ path = same_Some p path is in
-    let leads : Leads t path u = rw same at a in
-    let one : u ≡ o = evaluates_one path leads l in
+    let leads : LeadsUnder rule t path u = rw same at a in
+    let one : u ≡ o = by_one path leads l in
     let P : Outcome → Type 0 = λ z. Contains (u ∷ os) z in
     subst P one (first_in u os)
 lead_at {o = o} (suc k) path (one_more {o = u} {os} a b) is l = later_in u o os (lead_at k path b is l)
 
 -- each of them is that of a path
-pub record LeadsThere (t : List ℕ) (paths : List Path) (o : Outcome) : Type 0 where
+pub record LeadsThere (rule : KeyRule) (t : List ℕ) (paths : List Path) (o : Outcome) : Type 0 where
   pub number : ℕ
   pub path : Path
   pub is : slice_get paths number ≡ Some path
-  pub leads : Leads t path o
+  pub leads : LeadsUnder rule t path o
 
 -- so it is for each
-pub lead_from : {t : List ℕ} {paths : List Path} {os : List Outcome} (o : Outcome) → AllLead t paths os → Contains os o → LeadsThere t paths o
+pub lead_from : {t : List ℕ} {rule : KeyRule} {paths : List Path} {os : List Outcome} (o : Outcome) → AllLeadBy rule t paths os → Contains os o → LeadsThere rule t paths o
 lead_from o no_more c = absurd (none_in_empty o c)
 lead_from o (one_more {path} {o = u} {os} a b) c = elim (first_or_later u o os c) [
   | inl same ↦ record { number = 0; path = path; is = refl; leads = rw same at a }
@@ -148,28 +149,28 @@ found_kept {i} {j} (o ∷ os) c = elim (first_or_later o (found i j) os c) [
 ]
 
 -- where nothing is lacking, no path lacks its key
-ends_found : {t : List ℕ} {noted : Bool} {spans : List (Option Span)} {paths : List Path} (g : IsGathered t noted spans paths) → noted ≡ false
+ends_found : {t : List ℕ} {noted : Bool} {spans : List (Option Span)} {paths : List Path} {rule : KeyRule} (g : IsGathered rule t noted spans paths) → noted ≡ false
     → ¬ SomeLacks g.outcomes
 ends_found g e l = let clash : true ≡ false = sym (g.ends (lacks l.0) l.1) ∙ e in absurd cc
 
 -- a value that a path found is one
-pub found_value : {t : List ℕ} {a b : ℕ} (path : Path) {i : ℕ} → Evaluates t i path (found a b) → IsValue strict t a b
+pub found_value : {t : List ℕ} {a b : ℕ} {rule : KeyRule} (path : Path) {i : ℕ} → EvaluatesBy rule t i path (found a b) → IsValue strict t a b
 found_value [] (found_here x) = x
 found_value (node ∷ rest) (goes_on l e) = found_value rest e
 found_value {t} (node ∷ rest) {i} (leads_nowhere {j = j} x none e) = absurd (rw (← e) at (nowhere_ends t i (j - 1) (kind_of node)))
 
 -- some path leads somewhere
-some_outcome : {t : List ℕ} {paths : List Path} {os : List Outcome} → AllLead t paths os → paths ≢ [] → (o : Outcome) × Contains os o
+some_outcome : {t : List ℕ} {paths : List Path} {os : List Outcome} {rule : KeyRule} → AllLeadBy rule t paths os → paths ≢ [] → (o : Outcome) × Contains os o
 some_outcome no_more some = absurd (some refl)
 some_outcome (one_more {o = o} {os} a b) some = (o, first_in o os)
 
 -- a value that was found is kept
-slot_of : {t : List ℕ} {noted : Bool} {spans : List (Option Span)} {paths : List Path} {i j : ℕ} (g : IsGathered t noted spans paths)
+slot_of : {t : List ℕ} {noted : Bool} {spans : List (Option Span)} {paths : List Path} {i j : ℕ} {rule : KeyRule} (g : IsGathered rule t noted spans paths)
     → Contains g.outcomes (found i j) → (k : ℕ) × (slice_get spans k ≡ Some (Some (i, j)))
 slot_of g c = let x = found_kept g.outcomes c in (x.0, rw g.entries x.1)
 
 -- where nothing is lacking, the text is needed to the furthest end
-reach_furthest : {t : List ℕ} {noted : Bool} {spans : List (Option Span)} {paths : List Path} {r : ℕ} (g : IsGathered t noted spans paths) → paths ≢ []
+reach_furthest : {t : List ℕ} {noted : Bool} {spans : List (Option Span)} {paths : List Path} {r : ℕ} {rule : KeyRule} (g : IsGathered rule t noted spans paths) → paths ≢ []
     → noted ≡ false → IsFurthest spans r → IsReach t g.outcomes r
 reach_furthest {r = r} g some e f =
     let first = some_outcome g.lead some in
@@ -187,8 +188,8 @@ reach_furthest {r = r} g some e f =
     ]
 
 -- how far the text is needed
-reached : {t : List ℕ} {noted : Bool} {spans : List (Option Span)} {paths : List Path} {r e : ℕ} (g : IsGathered t noted spans paths) → paths ≢ []
-    → (noted ≡ true → SomeLack t paths) → (noted ≡ true → IsWhole t e) → (noted ≡ true → r ≡ e) → (noted ≡ false → IsFurthest spans r) → IsReach t g.outcomes r
+reached : {t : List ℕ} {noted : Bool} {spans : List (Option Span)} {paths : List Path} {r e : ℕ} {rule : KeyRule} (g : IsGathered rule t noted spans paths) → paths ≢ []
+    → (noted ≡ true → SomeLack rule t paths) → (noted ≡ true → IsWhole t e) → (noted ≡ true → r ≡ e) → (noted ≡ false → IsFurthest spans r) → IsReach t g.outcomes r
 reached {noted = false} g some lack whole at_end furthest = reach_furthest g some refl (furthest refl)
 reached {t} {noted = true} {r = r} g some lack whole at_end furthest =
     let x : IsWhole t r = rw (at_end refl) (whole refl) in
@@ -196,14 +197,14 @@ reached {t} {noted = true} {r = r} g some lack whole at_end furthest =
     to_the_root (l.place, lead_at l.number l.path g.lead l.is l.leads) x
 
 -- which lies within it
-reach_within : {t : List ℕ} {noted : Bool} {spans : List (Option Span)} {paths : List Path} {r : ℕ} (g : IsGathered t noted spans paths)
+reach_within : {t : List ℕ} {noted : Bool} {spans : List (Option Span)} {paths : List Path} {r : ℕ} {rule : KeyRule} (g : IsGathered rule t noted spans paths)
     → IsReach t g.outcomes r → r ≤ length t
 reach_within g (to_the_root l x) = value_within x
 reach_within {r = r} g (to_the_furthest {i} none c all) = (let x = lead_from (found i r) g.lead c in value_within (found_value x.path x.leads))
 
 -- so it is reached
-pub is_reached : {t : List ℕ} {paths : List Path} {f : Findings} {r e : ℕ} → AreFindings t paths f → AllSettled (root_point t paths) f → paths ≢ []
-    → (f.lacking ≡ true → IsWhole t e) → (f.lacking ≡ true → r ≡ e) → (f.lacking ≡ false → IsFurthest f.spans r) → IsReached t paths f.spans r
+pub is_reached : {t : List ℕ} {paths : List Path} {f : Findings} {r e : ℕ} {rule : KeyRule} → AreFindings rule t paths f → AllSettled (root_point rule t paths) f → paths ≢ []
+    → (f.lacking ≡ true → IsWhole t e) → (f.lacking ≡ true → r ≡ e) → (f.lacking ≡ false → IsFurthest f.spans r) → IsReached rule t paths f.spans r
 is_reached are settled some whole at_end furthest =
     let g = gathered are settled in
     let reach = reached g some are.lack whole at_end furthest in
@@ -218,14 +219,14 @@ is_reached are settled some whole at_end furthest =
     }
 
 -- the spans are the answer
-pub answers_spans : {t : List ℕ} {is_bytes : Bool} {spans : List (Option Span)} {paths : List Path} {r : ℕ} → IsReached t paths spans r
-    → (is_bytes ≡ true → IsUtf8 (take r t)) → IsAnswer t is_bytes paths (Answer.spans spans)
+pub answers_spans : {t : List ℕ} {is_bytes : Bool} {spans : List (Option Span)} {paths : List Path} {r : ℕ} {rule : KeyRule} → IsReached rule t paths spans r
+    → (is_bytes ≡ true → IsUtf8 (take r t)) → IsAnswerBy rule t is_bytes paths (Answer.spans spans)
 answers_spans x text = record { outcomes = x.outcomes; lead = x.lead; come_to = finding x.none_fails x.none_cut x.reach text x.entries }
 
 -- or the first broken place
-pub answers_broken : {t : List ℕ} {is_bytes : Bool} {spans : List (Option Span)} {paths : List Path} {r : ℕ} {s : Stop} → IsReached t paths spans r
+pub answers_broken : {t : List ℕ} {is_bytes : Bool} {spans : List (Option Span)} {paths : List Path} {r : ℕ} {s : Stop} {rule : KeyRule} → IsReached rule t paths spans r
     → is_bytes ≡ true → ¬ IsUtf8 (take r t) → s ≡ record { place = valid_up_to (take r t); code = InvalidUTF8 }
-    → s.place ≤ length t → IsError t is_bytes paths s
+    → s.place ≤ length t → IsError rule t is_bytes paths s
 answers_broken x e broken is within = record {
   answer = record { outcomes = x.outcomes; lead = x.lead; come_to = breaking x.none_fails x.none_cut x.reach e broken is };
   within = within;
@@ -242,14 +243,14 @@ is_nearest s os c all = elim (nearest_or_none os) [
 ]
 
 -- a fail lies within the text
-fail_within : {t : List ℕ} {s : Stop} (path : Path) → Leads t path (fails s) → s.place ≤ length t
+fail_within : {t : List ℕ} {s : Stop} {rule : KeyRule} (path : Path) → LeadsUnder rule t path (fails s) → s.place ≤ length t
 fail_within {t} {s} path l = elim (value_some_outcome strict t (after_space t 0)) [
   | inl x ↦ (omega (arith, ends_before_end path l x.1 refl, value_within x.1))
   | inr f ↦ (omega (arith, ends_before_fault path l f.1 refl, fault_within f.1))
 ]
 
 -- no path fails before the fault of the root, where none is nearer than that
-none_fails : {t : List ℕ} {paths : List Path} {os : List Outcome} {s : Stop} → AllLead t paths os → NoneNearer (root_point t paths) s → IsRootFault t s
+none_fails : {t : List ℕ} {paths : List Path} {os : List Outcome} {s : Stop} {rule : KeyRule} → AllLeadBy rule t paths os → NoneNearer (root_point rule t paths) s → IsRootFault t s
     → NoneFails os
 none_fails all near f = λ r c.
     let y = lead_from (fails r) all c in
@@ -260,7 +261,7 @@ none_fails all near f = λ r c.
     ]
 
 -- a fault of the root is the answer where it cuts a path, or some path lacks its key
-fault_answers : {t : List ℕ} {paths : List Path} {os : List Outcome} {s : Stop} (is_bytes : Bool) → AllLead t paths os → NoneNearer (root_point t paths) s
+fault_answers : {t : List ℕ} {paths : List Path} {os : List Outcome} {s : Stop} {rule : KeyRule} (is_bytes : Bool) → AllLeadBy rule t paths os → NoneNearer (root_point rule t paths) s
     → IsRootFault t s → Contains os (cut s) ⊎ SomeLacks os → ComeTo t is_bytes os (Answer.error s)
 fault_answers is_bytes all near f (inl c) = cutting (none_fails all near f) c f
 fault_answers {os = os} is_bytes all near f (inr l) = elim (cut_or_none os) [
@@ -269,8 +270,8 @@ fault_answers {os = os} is_bytes all near f (inr l) = elim (cut_or_none os) [
 ]
 
 -- what stops a path at the root is the answer
-path_answers : {t : List ℕ} {paths : List Path} {os : List Outcome} {s : Stop} (is_bytes : Bool) (k : ℕ) (path : Path) → AllLead t paths os
-    → NoneNearer (root_point t paths) s → slice_get paths k ≡ Some path → IsStopped t (after_space t 0) path s
+path_answers : {t : List ℕ} {paths : List Path} {os : List Outcome} {s : Stop} {rule : KeyRule} (is_bytes : Bool) (k : ℕ) (path : Path) → AllLeadBy rule t paths os
+    → NoneNearer (root_point rule t paths) s → slice_get paths k ≡ Some path → IsStopped rule t (after_space t 0) path s
     → ComeTo t is_bytes os (Answer.error s) × (s.place ≤ length t)
 path_answers {os = os} {s} is_bytes k path all near is (fails_so e) =
     let nearest = is_nearest s os (lead_at k path all is e) (λ r c. (let y = lead_from (fails r) all c in near y.number y.path r y.is y.leads)) in
@@ -280,9 +281,9 @@ path_answers is_bytes k path all near is (cut_so e) =
     (fault_answers is_bytes all near fault (inl (lead_at k path all is e)), fault_within fault)
 
 -- why the walk stops at the root is the answer
-pub stop_answers : {t : List ℕ} {paths : List Path} {s : Stop} (is_bytes : Bool) → IsStop (root_point t paths) false s → IsError t is_bytes paths s
-stop_answers {t} {paths} {s} is_bytes x =
-    let all = all_some t paths in
+pub stop_answers : {t : List ℕ} {paths : List Path} {s : Stop} {rule : KeyRule} (is_bytes : Bool) → IsStop (root_point rule t paths) false s → IsError rule t is_bytes paths s
+stop_answers {t} {paths} {s} {rule = rule} is_bytes x =
+    let all = all_some rule t paths in
     elim x.cause [
       | path_stops k rest is y ↦
           let come = path_answers is_bytes k rest all.1 x.nearest is y in
@@ -319,17 +320,17 @@ pub no_statuses : (t : List ℕ) (n : ℕ) → HaveStatuses t (replicate n no_va
 no_statuses t n = λ k x h. absurd (nothing_there n k x h)
 
 -- before it nothing is reported
-pub root_reported : (t : List ℕ) (paths : List Path) (n : ℕ) → n ≡ length paths → AreFindings t paths (record { spans = replicate n no_span; lacking = false })
-root_reported t paths n e = record {
+pub root_reported : (rule : KeyRule) (t : List ℕ) (paths : List Path) (n : ℕ) → n ≡ length paths → AreFindings rule t paths (record { spans = replicate n no_span; lacking = false })
+root_reported rule t paths n e = record {
   long = length-replicate n no_span ∙ e;
   found_there = λ k i j h. absurd (nothing_there n k (i, j) h);
   lack = λ f. absurd cc;
 }
 
 -- no path is answered with nothing
-pub no_paths : (t : List ℕ) (is_bytes : Bool) (paths : List Path) → paths ≡ [] → IsAnswer t is_bytes paths (Answer.spans [])
-no_paths t is_bytes [] e = record { outcomes = []; lead = no_more; come_to = no_path }
-no_paths t is_bytes (p ∷ paths) e = absurd cc
+pub no_paths : (rule : KeyRule) (t : List ℕ) (is_bytes : Bool) (paths : List Path) → paths ≡ [] → IsAnswerBy rule t is_bytes paths (Answer.spans [])
+no_paths rule t is_bytes [] e = record { outcomes = []; lead = no_more; come_to = no_path }
+no_paths rule t is_bytes (p ∷ paths) e = absurd cc
 
 -- what a longer list holds is what the shorter one held, or the last
 held_or_last : {X : Type 0} {y : X} (xs : List X) (x : X) (k : ℕ) → slice_get (xs ++ x ∷ []) k ≡ Some y → (slice_get xs k ≡ Some y) ⊎ (x ≡ y)

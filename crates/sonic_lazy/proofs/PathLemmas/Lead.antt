@@ -68,7 +68,7 @@ named_leads {n = n} {h} none x =
     record { n = n; h = h; before = rw same none; item = rw same x }
 
 -- of the items that fit one is the first that the node names, or it names none
-first_among : {t : List ℕ} {i n h : ℕ} {kind : Kind} (node : Node) → ItemsFit strict t kind i n h
+pub first_among : {t : List ℕ} {i n h : ℕ} {kind : Kind} (node : Node) → ItemsFit strict t kind i n h
     → ((v : ℕ) × LeadsOn t i node v) ⊎ NoneNamed t i kind n h node
 first_among node (first_item b q d e) = inr (record { fit = first_item b q d e; none = λ p g v l is y. absurd (omega arith) })
 first_among node (next_item {p} {u} {v} {l = label} is y x c q o) = elim (first_among node is) [

@@ -5,7 +5,7 @@ use Rattle.std.proofs.lemmas.Option.{slice_get_within, same_Some, some_pair_part
 use Rattle.std.specs.List.{Contains}
 use Rattle.std.specs.Prelude.{Option, Some, slice_get}
 use Rattle.sonic_error.specs.declared.code.ErrorCode.TheVariants.{GetIndexOutOfArray}
-use Rattle.sonic_lazy.proofs.PathLemmas.Outcome.{nowhere_past, evaluates_one}
+use Rattle.sonic_lazy.proofs.PathLemmas.Outcome.{nowhere_past, by_one}
 use Rattle.sonic_lazy.proofs.WalkLemmas.List.{first_of}
 use Rattle.sonic_lazy.proofs.WalkLemmas.Path.{contained, path_of_child, still_settled}
 use Rattle.sonic_lazy.proofs.WalkLemmas.Start.{cut_at_end}
@@ -13,8 +13,8 @@ use Rattle.sonic_lazy.proofs.WalkLemmas.Step.{OpenStopped, open_node, open_cause
 use Rattle.sonic_lazy.specs.Answers.{Span}
 use Rattle.sonic_lazy.specs.Internal.Located.{IsStatus}
 use Rattle.sonic_lazy.specs.Internal.Walk.{Findings, Point, ComesTo, IsPath, AreFindings, IsLater, IsSettled, was_found, was_lacked, BelowSettled, IsCause, value_stops, path_stops, IsStop, fails_so, SomeLack, Container, Progress, SomeOpen, IsOpen, IsWanted, IsPassed, IsFilled}
-use Rattle.sonic_lazy.specs.Paths.{found, lacks, past_end, Evaluates, Leads}
-use Rattle.sonic_lazy.specs.Paths.Evaluates.{found_here, leads_nowhere}
+use Rattle.sonic_lazy.specs.Paths.{found, lacks, past_end, EvaluatesBy, LeadsUnder}
+use Rattle.sonic_lazy.specs.Paths.EvaluatesBy.{found_here, leads_nowhere}
 use Rattle.sonic_parser.specs.Containers.{IsEnd}
 use Rattle.sonic_parser.specs.declared.status.ParseStatus.TheVariants.{None as NoNeed}
 use Rattle.sonic_pointer.specs.Paths.{IsOrders}
@@ -26,6 +26,7 @@ use Rattle.sonic_text.specs.Values.{IsValue, ItemsFit, filled}
 use Rattle.sonic_text.specs.declared.kind.Kind.{Kind}
 use Rattle.sonic_text.specs.declared.kind.Kind.TheVariants.{Array, Object}
 use Rattle.sonic_text.specs.declared.stop.Stop.{Stop}
+use Rattle.sonic_pointer.specs.declared.rule.KeyRule.{KeyRule}
 
 -- the whole value, where the closing bracket follows an item
 pub whole_there : {a : Container} {g : Progress} {e j : ℕ} → IsPassed a g e → IsWanted a g → IsEnd a.point.text a.kind e j
@@ -34,7 +35,7 @@ whole_there p wanted k = filled p.before.fit p.head.head (p.value wanted) k.0 k.
 
 -- a child that was not visited is past the container's end
 past_there : {a : Container} {g : Progress} {e j : ℕ} {node : Node} (rest : Path) → IsPassed a g e → IsWanted a g → IsEnd a.point.text a.kind e j
-    → IsOpen a g.visited node → Evaluates a.point.text a.point.place (node ∷ rest) (past_end a.kind (j - 1))
+    → IsOpen a g.visited node → EvaluatesBy a.point.rule a.point.text a.point.place (node ∷ rest) (past_end a.kind (j - 1))
 past_there {a} {j = j} {node} rest p wanted k o =
     let past = nowhere_past a.point.text a.point.place (j - 1) a.kind (items_open p.before.fit) (items_not_empty p.before.fit) in
     leads_nowhere (whole_there p wanted k) (λ v. none_ahead p wanted (λ e. closing_no_comma a.kind (sym k.0 ∙ e)) node v o)
@@ -50,13 +51,13 @@ close_stops {a} {g} {j = j} {s} p wanted k x array is_stop =
 
 -- and lacks where it is a key
 lacks_there : {a : Container} {g : Progress} {e j : ℕ} {node : Node} (rest : Path) → IsPassed a g e → IsWanted a g → IsEnd a.point.text a.kind e j
-    → IsOpen a g.visited node → a.kind ≡ Object → Leads a.point.text (a.point.prefix ++ node ∷ rest) (lacks (j - 1))
+    → IsOpen a g.visited node → a.kind ≡ Object → LeadsUnder a.point.rule a.point.text (a.point.prefix ++ node ∷ rest) (lacks (j - 1))
 lacks_there {j = j} {node} rest p wanted k o object =
     p.before.container.comes.up (node ∷ rest) (lacks (j - 1)) (rw object at (past_there rest p wanted k o))
 
 -- so some path does
 some_lack : {a : Container} {g : Progress} {e j : ℕ} → IsPassed a g e → IsWanted a g → IsEnd a.point.text a.kind e j → SomeOpen g.visited
-    → a.kind ≡ Object → SomeLack a.point.text a.point.paths
+    → a.kind ≡ Object → SomeLack a.point.rule a.point.text a.point.paths
 some_lack {a} {g} {j = j} p wanted k x object =
     let o = open_node a g.visited p.before.long x in
     let path = path_of_child a.point o.1.0 o.0 p.before.container.children o.1.2 in
@@ -71,7 +72,7 @@ some_lack {a} {g} {j = j} p wanted k x object =
 -- where that is noted, what was found is true
 pub close_later : {a : Container} {g : Progress} {e j : ℕ} {lacking : Bool} → IsPassed a g e → IsWanted a g → IsEnd a.point.text a.kind e j
     → (SomeOpen g.visited → (a.kind ≡ Object) × (lacking ≡ true)) → (lacking ≡ true → (g.findings.lacking ≡ true) ⊎ SomeOpen g.visited)
-    → (g.findings.lacking ≡ true → lacking ≡ true) → IsLater a.point.text a.point.paths g.findings (record g.findings { lacking = lacking })
+    → (g.findings.lacking ≡ true → lacking ≡ true) → IsLater a.point.rule a.point.text a.point.paths g.findings (record g.findings { lacking = lacking })
 close_later p wanted k noted lack still = record {
   are = record {
     long = p.before.are.long;
@@ -85,7 +86,7 @@ close_later p wanted k noted lack still = record {
 -- and the paths below are settled
 pub close_settled : {a : Container} {g : Progress} {e j : ℕ} {lacking : Bool} → IsPassed a g e → IsWanted a g → IsEnd a.point.text a.kind e j
     → (SomeOpen g.visited → (a.kind ≡ Object) × (lacking ≡ true))
-    → IsLater a.point.text a.point.paths g.findings (record g.findings { lacking = lacking }) → BelowSettled a.point (record g.findings { lacking = lacking })
+    → IsLater a.point.rule a.point.text a.point.paths g.findings (record g.findings { lacking = lacking }) → BelowSettled a.point (record g.findings { lacking = lacking })
 close_settled p wanted k noted later = λ n node rest h. elim (p.before.settled n node rest h) [
   | inr done ↦ still_settled later done
   | inl o ↦ (let both = noted (o.0, o.1) in was_lacked (lacks_there rest p wanted k o both.0) both.1)
@@ -100,20 +101,20 @@ pub container_status : {t : List ℕ} {kind : Kind} {i n h j : ℕ} → ItemsFit
 container_status {kind = kind} is = (λ e. absurd cc, λ x. let b = items_open is in absurd (opening_no_quote kind (omega (arith, x.0))))
 
 -- the number of an order is that of a path
-pub order_within : {t : List ℕ} {paths : List Path} {prefix : Path} {orders : List ℕ} {f : Findings} (k : ℕ) → IsOrders paths prefix orders
-    → AreFindings t paths f → Contains orders k → k < length f.spans
+pub order_within : {t : List ℕ} {paths : List Path} {prefix : Path} {orders : List ℕ} {f : Findings} {rule : KeyRule} (k : ℕ) → IsOrders paths prefix orders
+    → AreFindings rule t paths f → Contains orders k → k < length f.spans
 order_within {paths = paths} {prefix} k o are h = omega (arith, slice_get_within paths k prefix ((o.exact k).0 h), are.long)
 
 -- a prefix that is a path leads to the value's span
-prefix_found : {p : Point} {j : ℕ} → ComesTo p → IsValue strict p.text p.place j → Leads p.text p.prefix (found p.place j)
+prefix_found : {p : Point} {j : ℕ} → ComesTo p → IsValue strict p.text p.place j → LeadsUnder p.rule p.text p.prefix (found p.place j)
 prefix_found {p} {j} comes x =
-    let up : Leads p.text (p.prefix ++ []) (found p.place j) = comes.up [] (found p.place j) (found_here x) in
+    let up : LeadsUnder p.rule p.text (p.prefix ++ []) (found p.place j) = comes.up [] (found p.place j) (found_here x) in
     rw (append-nil p.prefix) at up
 
 -- where the value's span is kept for the paths that end at it, what was found is true and kept
 pub filled_later : {p : Point} {j : ℕ} {orders : List ℕ} {f : Findings} {more : List (Option Span)} → ComesTo p → IsValue strict p.text p.place j
-    → IsOrders p.paths p.prefix orders → AreFindings p.text p.paths f → IsFilled orders f.spans more (p.place, j)
-    → IsLater p.text p.paths f (record f { spans = more })
+    → IsOrders p.paths p.prefix orders → AreFindings p.rule p.text p.paths f → IsFilled orders f.spans more (p.place, j)
+    → IsLater p.rule p.text p.paths f (record f { spans = more })
 filled_later {p} {j} comes x o are fill = record {
   are = record {
     long = fill.long ∙ are.long;
@@ -130,8 +131,8 @@ filled_later {p} {j} comes x o are fill = record {
     | inr here ↦
         let was = are.found_there k v w h in
         let path : was.0 ≡ p.prefix = (let is = (o.exact k).0 here.0 in cc (is, was.1)) in
-        let leads : Leads p.text p.prefix (found v w) = rw path at was.2 in
-        let same : found p.place j ≡ found v w = evaluates_one p.prefix (prefix_found comes x) leads in
+        let leads : LeadsUnder p.rule p.text p.prefix (found v w) = rw path at was.2 in
+        let same : found p.place j ≡ found v w = by_one p.prefix (prefix_found comes x) leads in
         let first : p.place ≡ v = cc in
         let last : j ≡ w = cc in
         (rw (← first, ← last) here.1)
@@ -141,8 +142,8 @@ filled_later {p} {j} comes x o are fill = record {
 
 -- and the paths with the prefix are settled
 pub filled_settled : (p : Point) {j : ℕ} {orders : List ℕ} {f : Findings} {more : List (Option Span)} → ComesTo p → IsValue strict p.text p.place j
-    → IsOrders p.paths p.prefix orders → IsFilled orders f.spans more (p.place, j) → IsLater p.text p.paths f (record f { spans = more }) → BelowSettled p f
-    → (k : ℕ) (rest : Path) → IsPath p k rest → IsSettled p.text (record f { spans = more }) k (p.prefix ++ rest)
+    → IsOrders p.paths p.prefix orders → IsFilled orders f.spans more (p.place, j) → IsLater p.rule p.text p.paths f (record f { spans = more }) → BelowSettled p f
+    → (k : ℕ) (rest : Path) → IsPath p k rest → IsSettled p.rule p.text (record f { spans = more }) k (p.prefix ++ rest)
 filled_settled p {j} comes x o fill later below k [] h =
     let is : slice_get p.paths k ≡ Some p.prefix = rw (append-nil p.prefix) at h in
     was_found (comes.up [] (found p.place j) (found_here x)) (fill.filled k ((o.exact k).1 is))
@@ -150,7 +151,7 @@ filled_settled p comes x o fill later below k (node ∷ rest) h = still_settled 
 
 -- where no path ends at the prefix, they are without
 pub early_settled : (p : Point) {orders : List ℕ} {f : Findings} → IsOrders p.paths p.prefix orders → orders ≡ [] → BelowSettled p f
-    → (k : ℕ) (rest : Path) → IsPath p k rest → IsSettled p.text f k (p.prefix ++ rest)
+    → (k : ℕ) (rest : Path) → IsPath p k rest → IsSettled p.rule p.text f k (p.prefix ++ rest)
 early_settled p o none below k [] h =
     let is : slice_get p.paths k ≡ Some p.prefix = rw (append-nil p.prefix) at h in
     let there : Contains [] k = rw none at ((o.exact k).1 is) in

@@ -9,8 +9,8 @@ use Rattle.sonic_lazy.proofs.PathLemmas.Outcome.{nowhere_empty, nowhere_other}
 use Rattle.sonic_lazy.proofs.WalkLemmas.List.{first_of}
 use Rattle.sonic_lazy.proofs.WalkLemmas.Path.{held, child_at, path_of_child, stopped_one, cut_stops}
 use Rattle.sonic_lazy.specs.Internal.Walk.{fails_so, cut_so, Findings, Point, Container, IsPath, AreFindings, BelowSettled, IsCause, path_stops, IsStop, IsNoEntry, IsContainer, SomeOpen, IsFollowed}
-use Rattle.sonic_lazy.specs.Paths.{fails, Evaluates, kind_of, empty_code, wanted_of, nowhere}
-use Rattle.sonic_lazy.specs.Paths.Evaluates.{cut_here, leads_nowhere}
+use Rattle.sonic_lazy.specs.Paths.{fails, EvaluatesBy, kind_of, empty_code, wanted_of, nowhere}
+use Rattle.sonic_lazy.specs.Paths.EvaluatesBy.{cut_here, leads_nowhere}
 use Rattle.sonic_pointer.specs.Paths.{HasPrefix, IsChildren}
 use Rattle.sonic_text.specs.Faults.{IsFault}
 use Rattle.sonic_text.specs.Paths.{Node, Path}
@@ -48,7 +48,7 @@ leaf_cause p k (node ∷ rest) all none f h = absurd (none_on p k node rest all 
 
 -- none fails
 leaf_nearest : (p : Point) {children : List Node} {s : Stop} → IsChildren p.paths p.prefix children → children ≡ []
-    → (k : ℕ) (rest : Path) (r : Stop) → IsPath p k rest → Evaluates p.text p.place rest (fails r) → (r ≡ s) ⊎ (s.place < r.place)
+    → (k : ℕ) (rest : Path) (r : Stop) → IsPath p k rest → EvaluatesBy p.rule p.text p.place rest (fails r) → (r ≡ s) ⊎ (s.place < r.place)
 leaf_nearest p all none k [] r h e = elim e [ ]
 leaf_nearest p all none k (node ∷ rest) r h e = absurd (none_on p k node rest all none h)
 
@@ -61,11 +61,11 @@ leaf_stops p all none some f =
 
 -- where each node is stopped for one reason, no path fails for another
 entry_nearest : {a : Container} {s : Stop} → IsContainer a → IsNoEntry a.point.text a.point.place a.kind s
-    → (k : ℕ) (rest : Path) (r : Stop) → IsPath a.point k rest → Evaluates a.point.text a.point.place rest (fails r) → (r ≡ s) ⊎ (s.place < r.place)
+    → (k : ℕ) (rest : Path) (r : Stop) → IsPath a.point k rest → EvaluatesBy a.point.rule a.point.text a.point.place rest (fails r) → (r ≡ s) ⊎ (s.place < r.place)
 entry_nearest is all k [] r h e = elim e [ ]
 entry_nearest {a} is all k (node ∷ rest) r h e =
     let c = child_at a.point k node rest is.children h in
-    inl (stopped_one (node ∷ rest) e (all node rest (is.kind c.0 node c.1)))
+    inl (stopped_one (node ∷ rest) e (all a.point.rule node rest (is.kind c.0 node c.1)))
 
 -- what is no container with items stops the walk
 pub entry_stops : {a : Container} {s : Stop} → IsContainer a → a.children ≢ [] → IsNoEntry a.point.text a.point.place a.kind s → IsStop a.point a.needs s
@@ -74,12 +74,12 @@ entry_stops {a} is some all =
     let path = path_of_child a.point 0 child.0 is.children child.1 in
     record {
       nearest = entry_nearest is all;
-      cause = path_stops path.number (child.0 ∷ path.rest) path.is (all child.0 path.rest (is.kind 0 child.0 child.1));
+      cause = path_stops path.number (child.0 ∷ path.rest) path.is (all a.point.rule child.0 path.rest (is.kind 0 child.0 child.1));
     }
 
 -- before the first item nothing is passed, and no child was visited
 pub first_followed : {a : Container} {h : ℕ} {visited : List Bool} {f : Findings} → IsContainer a → ItemsFit strict a.point.text a.kind a.point.place 0 h
-    → AreFindings a.point.text a.point.paths f → length visited ≡ length a.children
+    → AreFindings a.point.rule a.point.text a.point.paths f → length visited ≡ length a.children
     → ((c : ℕ) → c < length a.children → slice_get visited c ≡ Some false)
     → IsFollowed a (record { passed = 0; next = h; visited = visited; findings = f })
 first_followed {a} is fit are long none = record {
@@ -99,18 +99,18 @@ first_wanted a visited some none = let child = first_of a.children some in (0, n
 -- so a value of another kind is no entry
 pub no_entry_by_kind : {t : List ℕ} {i j : ℕ} {kind : Kind} {s : Stop} → IsValue strict t i j → byte t i ≢ opening kind
     → s ≡ record { place = j - 1; code = Message (Mismatch (type_at t i) (wanted_of kind)) } → IsNoEntry t i kind s
-no_entry_by_kind {t} {i} {j} {kind} {s} x other e = λ node rest same.
+no_entry_by_kind {t} {i} {j} {kind} {s} x other e = λ rule node rest same.
     let reported : fails s ≡ nowhere t i (j - 1) (kind_of node) = rw (same, nowhere_other t i (j - 1) kind other, e) refl in
     fails_so (leads_nowhere x (λ v. none_unopened other node v same) reported)
 
 -- nor is one with a fault
 pub no_entry_by_fault : {t : List ℕ} {i : ℕ} {kind : Kind} {s : Stop} → IsFault strict t i s → byte t i ≢ opening kind → IsNoEntry t i kind s
-no_entry_by_fault f other = λ node rest same. cut_stops f (λ v. none_unopened other node v same)
+no_entry_by_fault f other = λ rule node rest same. cut_stops f (λ v. none_unopened other node v same)
 
 -- or an empty one
 pub no_entry_in_empty : {t : List ℕ} {i : ℕ} {kind : Kind} {s : Stop} → byte t i ≡ opening kind → byte t (after_space t (i + 1)) ≡ closing kind
     → s ≡ record { place = after_space t (i + 1); code = empty_code kind } → IsNoEntry t i kind s
-no_entry_in_empty {t} {i} {kind} {s} o c e = λ node rest same.
+no_entry_in_empty {t} {i} {kind} {s} o c e = λ rule node rest same.
     let q = after_space t (i + 1) in
     let last : q + 1 - 1 ≡ q = omega arith in
     let reported : fails s ≡ nowhere t i (q + 1 - 1) (kind_of node) = rw (last, same, nowhere_empty t i q kind o c, e) refl in

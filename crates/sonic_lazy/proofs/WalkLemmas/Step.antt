@@ -6,7 +6,7 @@ use Rattle.sonic_lazy.proofs.PathLemmas.Lead.{none_leads, one_more_unnamed, not_
 use Rattle.sonic_lazy.proofs.WalkLemmas.List.{some_there}
 use Rattle.sonic_lazy.proofs.WalkLemmas.Path.{contained, path_of_child, child_one, settled_no_fail, cut_stops, stopped_one}
 use Rattle.sonic_lazy.specs.Internal.Walk.{IsPath, AreFindings, IsStopped, IsCause, path_stops, value_stops, IsStop, Container, Progress, IsContainer, SomeOpen, IsOpen, IsWanted, IsFollowed, IsPassed, IsChildOf}
-use Rattle.sonic_lazy.specs.Paths.{fails, IsNamed, LeadsOn, Evaluates}
+use Rattle.sonic_lazy.specs.Paths.{fails, IsNamed, LeadsOn, EvaluatesBy}
 use Rattle.sonic_parser.specs.Containers.{IsSeparated, IsSeparatorFault}
 use Rattle.sonic_text.proofs.Items.{head_never_both}
 use Rattle.sonic_text.proofs.Places.{after_space_later, byte_within}
@@ -30,8 +30,8 @@ open_node a visited long x =
 -- no path fails before a stop where none does that goes on by a child that was not visited
 pub open_nearest : {a : Container} {g : Progress} {s : Stop} → IsFollowed a g
     → ((k : ℕ) (node : Node) (rest : Path) (r : Stop) → IsPath a.point k (node ∷ rest) → IsOpen a g.visited node
-    → Evaluates a.point.text a.point.place (node ∷ rest) (fails r) → (r ≡ s) ⊎ (s.place < r.place))
-    → (k : ℕ) (rest : Path) (r : Stop) → IsPath a.point k rest → Evaluates a.point.text a.point.place rest (fails r) → (r ≡ s) ⊎ (s.place < r.place)
+    → EvaluatesBy a.point.rule a.point.text a.point.place (node ∷ rest) (fails r) → (r ≡ s) ⊎ (s.place < r.place))
+    → (k : ℕ) (rest : Path) (r : Stop) → IsPath a.point k rest → EvaluatesBy a.point.rule a.point.text a.point.place rest (fails r) → (r ≡ s) ⊎ (s.place < r.place)
 open_nearest l all k [] r h e = elim e [ ]
 open_nearest l all k (node ∷ rest) r h e = elim (l.settled k node rest h) [
   | inl ahead ↦ all k node rest r h ahead e
@@ -40,7 +40,7 @@ open_nearest l all k (node ∷ rest) r h e = elim (l.settled k node rest h) [
 
 -- each path that goes on by a child that was not visited is stopped so
 abbrev pub OpenStopped : Container → List Bool → Stop → Type 0
-OpenStopped a visited s = (node : Node) (rest : Path) → IsOpen a visited node → IsStopped a.point.text a.point.place (node ∷ rest) s
+OpenStopped a visited s = (node : Node) (rest : Path) → IsOpen a visited node → IsStopped a.point.rule a.point.text a.point.place (node ∷ rest) s
 
 -- and if there is one, it is the cause
 pub open_cause : {a : Container} {s : Stop} (visited : List Bool) → IsContainer a → length visited ≡ length a.children → OpenStopped a visited s
@@ -55,7 +55,7 @@ pub open_stops : {a : Container} {g : Progress} {s : Stop} → IsFollowed a g �
 open_stops l all cause = record { nearest = open_nearest l (λ k node rest r h o e. inl (stopped_one (node ∷ rest) e (all node rest o))); cause = cause }
 
 -- a fault is the cause where more is wanted
-pub wanted_cause : (a : Container) (g : Progress) {s : Stop} → AreFindings a.point.text a.point.paths g.findings → IsFault strict a.point.text a.point.place s
+pub wanted_cause : (a : Container) (g : Progress) {s : Stop} → AreFindings a.point.rule a.point.text a.point.paths g.findings → IsFault strict a.point.text a.point.place s
     → (SomeOpen g.visited → IsCause a.point a.needs s) → IsWanted a g → IsCause a.point a.needs s
 wanted_cause a g are f ahead (inl needs) = value_stops f (inl needs)
 wanted_cause a g are f ahead (inr (inl lacking)) = value_stops f (inr (are.lack lacking))

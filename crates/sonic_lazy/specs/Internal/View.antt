@@ -5,6 +5,7 @@ use Rattle.sonic_lazy.specs.declared.state.Walk.TheInside.{Inside}
 use Rattle.sonic_lazy.specs.declared.walk.Level.{Level}
 use Rattle.sonic_lazy.specs.Internal.Located.{spans_of, HaveStatuses}
 use Rattle.sonic_lazy.specs.Internal.Walk.{Findings, Walking, Point, Container, Progress}
+use Rattle.sonic_pointer.specs.declared.rule.KeyRule.TheVariants.{First}
 
 -- the walk that its callers see
 abbrev pub walking_of : Inside → Walking
@@ -21,12 +22,12 @@ pub record IsWalk (walk : Inside) : Type 0 where
 
 -- the prefix of a view, whose value is expected where the walk has come to
 abbrev pub point_at : Walking → View → Point
-point_at walk view = record { text = walk.text; paths = view.paths; prefix = view.prefix; place = walk.place }
+point_at walk view = record { rule = First; text = walk.text; paths = view.paths; prefix = view.prefix; place = walk.place }
 
 -- the container of a level
 abbrev pub container_at : List ℕ → Level → Container
 container_at text level = record {
-  point = record { text = text; paths = level.view.now.paths; prefix = level.view.now.prefix; place = level.start };
+  point = record { rule = First; text = text; paths = level.view.now.paths; prefix = level.view.now.prefix; place = level.start };
   children = level.view.now.children;
   kind = level.kind;
   needs = level.needs;

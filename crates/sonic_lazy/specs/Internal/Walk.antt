@@ -2,6 +2,9 @@
 use Rattle.std.specs.Prelude.{◌≡◌, ◌⊎◌, ℕ, ◌<◌, ◌≤◌, Bool, true, false, List, [], ◌∷◌, ◌++◌, Option, Some, None, length, map, slice_get}
 use Rattle.std.specs.List.{Contains}
 use Rattle.sonic_text.specs.declared.kind.Kind.{Kind}
+use Rattle.sonic_text.specs.declared.kind.Kind.TheVariants.{Array}
+use Rattle.sonic_pointer.specs.declared.rule.KeyRule.{KeyRule}
+use Rattle.sonic_pointer.specs.declared.rule.KeyRule.TheVariants.{First}
 use Rattle.sonic_text.specs.declared.stop.Stop.{Stop}
 use Rattle.sonic_text.specs.Places.{after_space}
 use Rattle.sonic_text.specs.Strings.{strict}
@@ -10,8 +13,8 @@ use Rattle.sonic_text.specs.Values.{IsValue, ItemsFit}
 use Rattle.sonic_text.specs.Documents.{IsRootFault}
 use Rattle.sonic_text.specs.Faults.{IsFault}
 use Rattle.sonic_pointer.specs.Paths.{HasNext, IsChildren}
-use Rattle.sonic_lazy.specs.Answers.{Span, span_of, AllLead, NoneFails, NoneCut, IsReach, Answer, IsAnswer}
-use Rattle.sonic_lazy.specs.Paths.{Outcome, found, lacks, fails, cut, kind_of, IsNamed, NoneNamed, Evaluates, Leads}
+use Rattle.sonic_lazy.specs.Answers.{Span, span_of, AllLeadBy, NoneFails, NoneCut, IsReach, Answer, IsAnswerBy}
+use Rattle.sonic_lazy.specs.Paths.{Outcome, found, lacks, fails, cut, kind_of, IsNamed, NoneNamed, EvaluatesBy, LeadsUnder}
 
 -- what a walk has found: the span of each path that found one, and whether some path lacks its key
 pub record Findings : Type 0 where
@@ -24,8 +27,9 @@ pub record Walking : Type 0 where
   pub place : ℕ
   pub findings : Findings
 
--- a prefix of the paths of a tree, and the place of the value to which it leads in a text
+-- a rule for equal keys, a prefix of the paths of a tree, and the place of the value to which it leads in a text
 pub record Point : Type 0 where
+  pub rule : KeyRule
   pub text : List ℕ
   pub paths : List Path
   pub prefix : Path
@@ -46,80 +50,81 @@ pub record Progress : Type 0 where
   pub findings : Findings
 
 -- the root of a text, to which the empty prefix leads
-abbrev pub root_point : List ℕ → List Path → Point
-root_point t paths = record { text = t; paths = paths; prefix = []; place = after_space t 0 }
+abbrev pub root_point : KeyRule → List ℕ → List Path → Point
+root_point rule t paths = record { rule = rule; text = t; paths = paths; prefix = []; place = after_space t 0 }
 
 -- the point of a child, whose value is expected at v
 abbrev pub child_point : Point → Node → ℕ → Point
-child_point p node v = record { text = p.text; paths = p.paths; prefix = p.prefix ++ node ∷ []; place = v }
+child_point p node v = record { rule = p.rule; text = p.text; paths = p.paths; prefix = p.prefix ++ node ∷ []; place = v }
 
 -- the path with the number k begins with the prefix, and goes on with the rest
 abbrev pub IsPath : Point → ℕ → Path → Type 0
 IsPath p k rest = slice_get p.paths k ≡ Some (p.prefix ++ rest)
 
 -- some path lacks its key
-pub record SomeLack (t : List ℕ) (paths : List Path) : Type 0 where
+pub record SomeLack (rule : KeyRule) (t : List ℕ) (paths : List Path) : Type 0 where
   pub number : ℕ
   pub path : Path
   pub place : ℕ
   pub is : slice_get paths number ≡ Some path
-  pub leads : Leads t path (lacks place)
+  pub leads : LeadsUnder rule t path (lacks place)
 
 -- the spans are those that their paths found, and some path lacks its key where that is noted
-pub record AreFindings (t : List ℕ) (paths : List Path) (f : Findings) : Type 0 where
+pub record AreFindings (rule : KeyRule) (t : List ℕ) (paths : List Path) (f : Findings) : Type 0 where
   pub long : length f.spans ≡ length paths
-  pub found_there : (k i j : ℕ) → slice_get f.spans k ≡ Some (Some (i, j)) → (path : Path) × (slice_get paths k ≡ Some path) × Leads t path (found i j)
-  pub lack : f.lacking ≡ true → SomeLack t paths
+  pub found_there : (k i j : ℕ) → slice_get f.spans k ≡ Some (Some (i, j)) → (path : Path) × (slice_get paths k ≡ Some path) × LeadsUnder rule t path (found i j)
+  pub lack : f.lacking ≡ true → SomeLack rule t paths
 
 -- they are, and what was found before is kept
-pub record IsLater (t : List ℕ) (paths : List Path) (before now : Findings) : Type 0 where
-  pub are : AreFindings t paths now
+pub record IsLater (rule : KeyRule) (t : List ℕ) (paths : List Path) (before now : Findings) : Type 0 where
+  pub are : AreFindings rule t paths now
   pub kept : (k i j : ℕ) → slice_get before.spans k ≡ Some (Some (i, j)) → slice_get now.spans k ≡ Some (Some (i, j))
   pub lack : before.lacking ≡ true → now.lacking ≡ true
 
 -- where the path with the number k leads is known: its span is kept, or that some path lacks its key
-pub data IsSettled (t : List ℕ) (f : Findings) (k : ℕ) (path : Path) : Type 0 where
-  was_found : {i j : ℕ} → Leads t path (found i j) → slice_get f.spans k ≡ Some (Some (i, j)) → IsSettled t f k path
-  was_lacked : {q : ℕ} → Leads t path (lacks q) → f.lacking ≡ true → IsSettled t f k path
+pub data IsSettled (rule : KeyRule) (t : List ℕ) (f : Findings) (k : ℕ) (path : Path) : Type 0 where
+  was_found : {i j : ℕ} → LeadsUnder rule t path (found i j) → slice_get f.spans k ≡ Some (Some (i, j)) → IsSettled rule t f k path
+  was_lacked : {q : ℕ} → LeadsUnder rule t path (lacks q) → f.lacking ≡ true → IsSettled rule t f k path
 
 -- so it is for each path with the prefix
 abbrev pub AllSettled : Point → Findings → Type 0
-AllSettled p f = (k : ℕ) (rest : Path) → IsPath p k rest → IsSettled p.text f k (p.prefix ++ rest)
+AllSettled p f = (k : ℕ) (rest : Path) → IsPath p k rest → IsSettled p.rule p.text f k (p.prefix ++ rest)
 
 -- for each that goes on after the prefix
 abbrev pub BelowSettled : Point → Findings → Type 0
-BelowSettled p f = (k : ℕ) (node : Node) (rest : Path) → IsPath p k (node ∷ rest) → IsSettled p.text f k (p.prefix ++ node ∷ rest)
+BelowSettled p f = (k : ℕ) (node : Node) (rest : Path) → IsPath p k (node ∷ rest) → IsSettled p.rule p.text f k (p.prefix ++ node ∷ rest)
 
 -- from the root the prefix leads to the place
 pub record ComesTo (p : Point) : Type 0 where
-  pub up : (rest : Path) (o : Outcome) → Evaluates p.text p.place rest o → Leads p.text (p.prefix ++ rest) o
+  pub up : (rest : Path) (o : Outcome) → EvaluatesBy p.rule p.text p.place rest o → LeadsUnder p.rule p.text (p.prefix ++ rest) o
   pub fault : (s : Stop) → IsFault strict p.text p.place s → IsRootFault p.text s
 
 -- the path fails so from the place i, or is cut
-pub data IsStopped (t : List ℕ) (i : ℕ) (path : Path) (s : Stop) : Type 0 where
-  fails_so : Evaluates t i path (fails s) → IsStopped t i path s
-  cut_so : Evaluates t i path (cut s) → IsStopped t i path s
+pub data IsStopped (rule : KeyRule) (t : List ℕ) (i : ℕ) (path : Path) (s : Stop) : Type 0 where
+  fails_so : EvaluatesBy rule t i path (fails s) → IsStopped rule t i path s
+  cut_so : EvaluatesBy rule t i path (cut s) → IsStopped rule t i path s
 
 -- no path with the prefix fails before this stop, and none that fails at its place does so for another reason
 abbrev pub NoneNearer : Point → Stop → Type 0
-NoneNearer p s = (k : ℕ) (rest : Path) (r : Stop) → IsPath p k rest → Evaluates p.text p.place rest (fails r) → (r ≡ s) ⊎ (s.place < r.place)
+NoneNearer p s = (k : ℕ) (rest : Path) (r : Stop) → IsPath p k rest → EvaluatesBy p.rule p.text p.place rest (fails r) → (r ≡ s) ⊎ (s.place < r.place)
 
 -- some path with the prefix is stopped so, or the value has this fault and has to be whole: as it is asked for, or as some path lacks its key
 pub data IsCause (p : Point) (needs : Bool) (s : Stop) : Type 0 where
-  path_stops : (k : ℕ) (rest : Path) → IsPath p k rest → IsStopped p.text p.place rest s → IsCause p needs s
-  value_stops : IsFault strict p.text p.place s → (needs ≡ true) ⊎ SomeLack p.text p.paths → IsCause p needs s
+  path_stops : (k : ℕ) (rest : Path) → IsPath p k rest → IsStopped p.rule p.text p.place rest s → IsCause p needs s
+  value_stops : IsFault strict p.text p.place s → (needs ≡ true) ⊎ SomeLack p.rule p.text p.paths → IsCause p needs s
 
 -- why the walk stops inside the value at a point
 pub record IsStop (p : Point) (needs : Bool) (s : Stop) : Type 0 where
   pub nearest : NoneNearer p s
   pub cause : IsCause p needs s
 
--- no container of this kind with an item begins at i: each node that asks for one is stopped so
+-- no container of this kind with an item begins at i: each node that asks for one is stopped so, under each rule
 abbrev pub IsNoEntry : List ℕ → ℕ → Kind → Stop → Type 0
-IsNoEntry t i kind s = (node : Node) (rest : Path) → kind_of node ≡ kind → IsStopped t i (node ∷ rest) s
+IsNoEntry t i kind s = (rule : KeyRule) (node : Node) (rest : Path) → kind_of node ≡ kind → IsStopped rule t i (node ∷ rest) s
 
--- the children of the prefix are all of the kind that leads on in the container
+-- the children of the prefix are all of the kind that leads on in the container, in which the first item that is named is the one that counts
 pub record IsContainer (a : Container) : Type 0 where
+  pub plain : (a.point.rule ≡ First) ⊎ (a.kind ≡ Array)
   pub comes : ComesTo a.point
   pub children : IsChildren a.point.paths a.point.prefix a.children
   pub kind : (c : ℕ) (node : Node) → slice_get a.children c ≡ Some node → kind_of node ≡ a.kind
@@ -143,8 +148,8 @@ pub record IsFollowed (a : Container) (g : Progress) : Type 0 where
   pub long : length g.visited ≡ length a.children
   pub unvisited : (node : Node) → IsOpen a g.visited node → NoneNamed a.point.text a.point.place a.kind g.passed g.next node
   pub settled : (k : ℕ) (node : Node) (rest : Path) → IsPath a.point k (node ∷ rest)
-      → IsOpen a g.visited node ⊎ IsSettled a.point.text g.findings k (a.point.prefix ++ node ∷ rest)
-  pub are : AreFindings a.point.text a.point.paths g.findings
+      → IsOpen a g.visited node ⊎ IsSettled a.point.rule a.point.text g.findings k (a.point.prefix ++ node ∷ rest)
+  pub are : AreFindings a.point.rule a.point.text a.point.paths g.findings
 
 -- so it is of the next item, too, which was passed up to its end e if more is needed
 pub record IsPassed (a : Container) (g : Progress) (e : ℕ) : Type 0 where
@@ -178,14 +183,14 @@ pub record IsFurthest (spans : List (Option Span)) (r : ℕ) : Type 0 where
   pub some : (r ≡ 0) ⊎ (k : ℕ) × (i : ℕ) × (slice_get spans k ≡ Some (Some (i, r)))
 
 -- the paths are answered with this error, whose place lies within the text
-pub record IsError (t : List ℕ) (is_bytes : Bool) (paths : List Path) (s : Stop) : Type 0 where
-  pub answer : IsAnswer t is_bytes paths (Answer.error s)
+pub record IsError (rule : KeyRule) (t : List ℕ) (is_bytes : Bool) (paths : List Path) (s : Stop) : Type 0 where
+  pub answer : IsAnswerBy rule t is_bytes paths (Answer.error s)
   pub within : s.place ≤ length t
 
 -- each path found a value or lacks its key, these are the spans, and the text is needed up to r
-pub record IsReached (t : List ℕ) (paths : List Path) (spans : List (Option Span)) (r : ℕ) : Type 0 where
+pub record IsReached (rule : KeyRule) (t : List ℕ) (paths : List Path) (spans : List (Option Span)) (r : ℕ) : Type 0 where
   pub outcomes : List Outcome
-  pub lead : AllLead t paths outcomes
+  pub lead : AllLeadBy rule t paths outcomes
   pub none_fails : NoneFails outcomes
   pub none_cut : NoneCut outcomes
   pub entries : spans ≡ map span_of outcomes

@@ -3,6 +3,7 @@ use crate::outside::memory::{MemorySink, SureSource};
 use crate::run::run;
 use crate::status::Status;
 use crate::tests::rows::check_run;
+use crate::tests::same::same;
 use std::alloc::Global;
 use std::process::Abort;
 use std::test::Fail;
@@ -60,7 +61,7 @@ const ROWS: [Row; 9] = [
 #[test]
 fn tells_cut_texts_from_wrong_ones(rt: HostRuntime) -> Result<(), Fail> {
     let alloc = rt.alloc();
-    for (input, output, ending) in ROWS {
+    for &(input, output, ending) in &ROWS {
         check_run(&rt, alloc, &[], input, output, ending)?;
     }
     Ok(())
@@ -140,7 +141,7 @@ fn check_deep(rt: &impl Abort, alloc: Global, keys_of_path: usize) -> Result<(),
         .ok()
         .ok_or("no memory")?;
     let status = run(alloc, &Vec::new(alloc), &mut source, &mut sink);
-    assert_eq!(rt; status, Status::Done);
+    same(rt, status, Status::Done);
     assert!(rt; sink.written() == line.as_slice());
     Ok(())
 }

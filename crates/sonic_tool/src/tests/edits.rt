@@ -4,6 +4,7 @@ use crate::outside::memory::{MemorySink, SureSource};
 use crate::run::run;
 use crate::status::Status;
 use crate::tests::rows::{check_run, owned};
+use crate::tests::same::same_at;
 use std::alloc::Global;
 use std::process::Abort;
 use std::test::Fail;
@@ -211,11 +212,11 @@ fn written(
 
 #[test]
 fn reads_by_pieces_of_any_size(rt: HostRuntime) -> Result<(), Fail> {
-    for (input, output) in MADE {
-        for piece in [1, 2, 7, 1000] {
+    for &(input, output) in &MADE {
+        for &piece in &[1, 2, 7, 1000] {
             let (status, text) = written(rt.alloc(), input, piece, 0)?;
-            assert_eq!(rt; status, Status::Done, "{input:?}");
-            assert_eq!(rt; &text[..], output.as_bytes(), "{input:?}");
+            same_at(&rt, status, Status::Done, input);
+            same_at(&rt, &text[..], output.as_bytes(), input);
         }
     }
     Ok(())
@@ -230,9 +231,9 @@ fn breaks_off_at_a_failing_write(rt: HostRuntime) -> Result<(), Fail> {
         let (status, text) = written(rt.alloc(), input, 4, call)?;
         let whole = text.len() == report.len();
         assert!(rt; report.starts_with(&text), "{call}");
-        assert_eq!(rt; status == Status::Done, call > 6, "{call}");
-        assert_eq!(rt; status == Status::WriteFault, call <= 6, "{call}");
-        assert_eq!(rt; whole, call >= 6, "{call}");
+        same_at(&rt, status == Status::Done, call > 6, call);
+        same_at(&rt, status == Status::WriteFault, call <= 6, call);
+        same_at(&rt, whole, call >= 6, call);
     }
     Ok(())
 }

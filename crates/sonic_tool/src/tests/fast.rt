@@ -116,7 +116,7 @@ fn writes_of_a_valid_document_what_get_does(rt: HostRuntime) -> Result<(), Fail>
 #[test]
 fn tells_why_a_document_isnt_valid(rt: HostRuntime) -> Result<(), Fail> {
     let alloc = rt.alloc();
-    for (input, error, begun) in INVALID {
+    for &(input, error, begun) in &INVALID {
         check_run(&rt, alloc, &["fast"], input, error, Status::DocumentError)?;
         check_run(&rt, alloc, &["get"], input, begun, Status::Done)?;
     }
@@ -130,7 +130,7 @@ fn tells_a_bad_line_before_the_document(rt: HostRuntime) -> Result<(), Fail> {
 
 #[test]
 fn is_asked_for_by_its_word_alone(rt: HostRuntime) -> Result<(), Fail> {
-    for (words, input, output, ending) in BESIDE {
+    for &(words, input, output, ending) in &BESIDE {
         check_run(&rt, rt.alloc(), words, input, output, ending)?;
     }
     Ok(())

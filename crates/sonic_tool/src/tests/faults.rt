@@ -208,7 +208,7 @@ fn reports_each_fault_at_its_place(rt: HostRuntime) -> Result<(), Fail> {
     let alloc = rt.alloc();
     let tables: [&[Fault]; 6] = [&VALUES, &KEYS, &MEMBERS, &NUMBERS, &STRINGS, &SURROGATES];
     for table in tables {
-        for (input, line) in table {
+        for &(input, line) in table {
             check_run(&rt, alloc, &[], input, line, Status::DocumentError)?;
         }
     }

@@ -107,7 +107,7 @@ const NO_SCHEMA: [&[u8]; 10] = [
 
 #[test]
 fn fills_schemas(rt: HostRuntime) -> Result<(), Fail> {
-    for (input, output) in FILLED {
+    for &(input, output) in &FILLED {
         check_run(&rt, rt.alloc(), &["fill"], input, output, Status::Done)?;
     }
     Ok(())
@@ -115,7 +115,7 @@ fn fills_schemas(rt: HostRuntime) -> Result<(), Fail> {
 
 #[test]
 fn tells_why_a_schema_isnt_filled(rt: HostRuntime) -> Result<(), Fail> {
-    for (input, output) in UNFILLED {
+    for &(input, output) in &UNFILLED {
         check_run(
             &rt,
             rt.alloc(),
@@ -130,7 +130,7 @@ fn tells_why_a_schema_isnt_filled(rt: HostRuntime) -> Result<(), Fail> {
 
 #[test]
 fn tells_a_line_that_is_no_schema(rt: HostRuntime) -> Result<(), Fail> {
-    for input in NO_SCHEMA {
+    for &input in &NO_SCHEMA {
         check_run(
             &rt,
             rt.alloc(),

@@ -1,6 +1,7 @@
 // The examples of docs/FORMAT.md, in their order, and the numbers of the statuses.
 use super::rows::check_run;
 use crate::status::Status;
+use crate::tests::same::same;
 use std::test::Fail;
 
 // Words, an input, its report, and the status.
@@ -215,7 +216,7 @@ const EXAMPLES: [Example; 38] = [
 #[test]
 fn writes_the_examples_of_the_format(rt: HostRuntime) -> Result<(), Fail> {
     let alloc = rt.alloc();
-    for (words, input, output, status) in EXAMPLES {
+    for &(words, input, output, status) in &EXAMPLES {
         check_run(&rt, alloc, words, input, output, status)?;
     }
     Ok(())
@@ -234,6 +235,6 @@ fn ends_with_the_numbers_of_the_format(rt: HostRuntime) {
         Status::NoMemory,
     ];
     for (number, status) in statuses.iter().enumerate() {
-        assert_eq!(rt; *status as usize, number);
+        same(&rt, *status as usize, number);
     }
 }

@@ -5,6 +5,7 @@ use crate::outside::stdio::InputSource;
 use crate::run::run;
 use crate::status::Status;
 use crate::tests::rows::{Broken, check_run, owned};
+use crate::tests::same::same_at;
 use std::alloc::Global;
 use std::process::Abort;
 use std::test::Fail;
@@ -80,15 +81,15 @@ fn check_unread(
         .ok()
         .ok_or("no memory")?;
     let status = run(alloc, &owned, &mut InputSource::new(Broken), &mut sink);
-    assert_eq!(rt; status, ending, "{words:?}");
-    assert_eq!(rt; sink.written(), output.as_bytes(), "{words:?}");
+    same_at(rt, status, ending, words);
+    same_at(rt, sink.written(), output.as_bytes(), words);
     Ok(())
 }
 
 #[test]
 fn counts_what_both_walks_find(rt: HostRuntime) -> Result<(), Fail> {
     let alloc = rt.alloc();
-    for (count, output) in COUNTS {
+    for &(count, output) in &COUNTS {
         check_run(&rt, alloc, &["gen", count], b"[1", output, Status::Done)?;
         check_unread(&rt, alloc, &["gen", count], output, Status::Done)?;
     }
@@ -97,7 +98,7 @@ fn counts_what_both_walks_find(rt: HostRuntime) -> Result<(), Fail> {
 
 #[test]
 fn takes_no_other_words(rt: HostRuntime) -> Result<(), Fail> {
-    for words in OTHERS {
+    for &words in &OTHERS {
         check_unread(&rt, rt.alloc(), words, "! usage\n", Status::BadUsage)?;
     }
     Ok(())

@@ -4,6 +4,7 @@ use crate::outside::memory::{MemorySink, SureSource};
 use crate::run::run;
 use crate::status::Status;
 use crate::tests::rows::{check_run, owned};
+use crate::tests::same::same_at;
 use std::process::Abort;
 use std::test::Fail;
 
@@ -73,7 +74,7 @@ const BROKEN: [Row; 18] = [
 
 #[test]
 fn lists_the_items_of_a_container(rt: HostRuntime) -> Result<(), Fail> {
-    for (input, output) in WHOLE {
+    for &(input, output) in &WHOLE {
         check_run(&rt, rt.alloc(), &["list"], input, output, Status::Done)?;
     }
     Ok(())
@@ -81,7 +82,7 @@ fn lists_the_items_of_a_container(rt: HostRuntime) -> Result<(), Fail> {
 
 #[test]
 fn lists_what_fits_before_an_error(rt: HostRuntime) -> Result<(), Fail> {
-    for (input, output) in BROKEN {
+    for &(input, output) in &BROKEN {
         check_run(
             &rt,
             rt.alloc(),
@@ -110,8 +111,8 @@ fn breaks_off_at_a_failing_write(rt: HostRuntime) -> Result<(), Fail> {
         let status = run(alloc, &words, &mut source, &mut sink);
         let whole = sink.written().len() == report.len();
         assert!(rt; report.starts_with(sink.written()), "{call}");
-        assert_eq!(rt; status == Status::DocumentError, call > 17, "{call}");
-        assert_eq!(rt; whole, call >= 17, "{call}");
+        same_at(&rt, status == Status::DocumentError, call > 17, call);
+        same_at(&rt, whole, call >= 17, call);
     }
     Ok(())
 }

@@ -6,6 +6,7 @@ use crate::outside::source::{Failed, Source};
 use crate::run::run;
 use crate::status::Status;
 use crate::tests::rows::owned;
+use crate::tests::same::{same, same_at};
 use std::alloc::Global;
 use std::test::Fail;
 
@@ -42,13 +43,13 @@ fn writes_nothing_where_a_read_fails(rt: HostRuntime) -> Result<(), Fail> {
     for call in 1..=last {
         let mut sink = small_sink(alloc, 1, 0)?;
         let status = get(alloc, &mut example(alloc, 1, call)?, &mut sink)?;
-        assert_eq!(rt; status, Status::ReadFault, "call {call}");
-        assert_eq!(rt; sink.written(), b"".as_slice(), "call {call}");
+        same_at(&rt, status, Status::ReadFault, call);
+        same_at(&rt, sink.written(), b"".as_slice(), call);
     }
     let mut sink = small_sink(alloc, 1, 0)?;
     let mut source = example(alloc, 1, last.saturating_add(1))?;
-    assert_eq!(rt; get(alloc, &mut source, &mut sink)?, Status::Done);
-    assert_eq!(rt; sink.written(), REPORT);
+    same(&rt, get(alloc, &mut source, &mut sink)?, Status::Done);
+    same(&rt, sink.written(), REPORT);
     Ok(())
 }
 
@@ -56,22 +57,19 @@ fn writes_nothing_where_a_read_fails(rt: HostRuntime) -> Result<(), Fail> {
 #[test]
 fn writes_a_prefix_where_a_write_fails(rt: HostRuntime) -> Result<(), Fail> {
     let alloc = rt.alloc();
-    for (piece, finish) in [(1usize, 19u64), (4, 6)] {
+    for &(piece, finish) in &[(1usize, 19u64), (4, 6)] {
         for call in 1..=finish.saturating_add(1) {
             let mut sink = small_sink(alloc, piece, call)?;
             let status = get(alloc, &mut example(alloc, 9, 0)?, &mut sink)?;
             let count = piece.saturating_mul(call as usize - 1).min(18);
-            assert_eq!(rt;
-                status == Status::Done,
-                call > finish,
-                "{piece}, call {call}"
-            );
-            assert_eq!(rt;
+            same_at(&rt, status == Status::Done, call > finish, (piece, call));
+            same_at(
+                &rt,
                 status == Status::WriteFault,
                 call <= finish,
-                "{piece}, call {call}"
+                (piece, call),
             );
-            assert_eq!(rt; sink.written(), &REPORT[..count], "{piece}, call {call}");
+            same_at(&rt, sink.written(), &REPORT[..count], (piece, call));
         }
     }
     Ok(())
@@ -110,8 +108,8 @@ fn reads_pieces_of_any_size(rt: HostRuntime) -> Result<(), Fail> {
     for turn in 0..100 {
         let mut source = Uneven { at: 0, turn };
         let mut sink = small_sink(alloc, 1, 0)?;
-        assert_eq!(rt; get(alloc, &mut source, &mut sink)?, Status::Done, "{turn}");
-        assert_eq!(rt; sink.written(), REPORT, "{turn}");
+        same_at(&rt, get(alloc, &mut source, &mut sink)?, Status::Done, turn);
+        same_at(&rt, sink.written(), REPORT, turn);
     }
     Ok(())
 }
@@ -139,7 +137,7 @@ fn lacks_20_000_keys_in_32_mb(rt: HostRuntime) -> Result<(), Fail> {
     for _ in 0..20_000 {
         lines.extend_from_slice(b"-\n")?;
     }
-    assert_eq!(rt; get(alloc, &mut source, &mut sink)?, Status::Done);
+    same(&rt, get(alloc, &mut source, &mut sink)?, Status::Done);
     assert!(rt; sink.written() == lines.as_slice());
     Ok(())
 }

@@ -6,6 +6,7 @@ use crate::outside::sink::Sink;
 use crate::outside::source::Failed;
 use crate::outside::stdio::{InputSource, OutputSink};
 use crate::outside::writing::write_all;
+use crate::tests::same::{same, same_at};
 use std::alloc::Global;
 use std::io;
 use std::io::{ErrorKind, Read, Write};
@@ -16,7 +17,7 @@ use std::test::Fail;
 fn check_pieces(rt: &impl Abort, alloc: Global, text: &[u8], piece: usize) -> Result<(), Fail> {
     let mut source = SureSource::new(Vec::from_slice(alloc, text)?, piece.max(1));
     let read = read_all(alloc, &mut source)?;
-    assert_eq!(rt; read.as_slice(), text, "by {piece}");
+    same_at(rt, read.as_slice(), text, piece);
     Ok(())
 }
 
@@ -94,7 +95,7 @@ impl Write for Stumbling {
 fn check_input(rt: &impl Abort, alloc: Global, fails: u64, kind: ErrorKind) -> Result<(), Fail> {
     let mut source = InputSource::new(Stumbling::new(alloc, fails, kind));
     let error = read_all(alloc, &mut source).err();
-    assert_eq!(rt; error, Some(ReadError::Fault), "at {fails}");
+    same_at(rt, error, Some(ReadError::Fault), fails);
     Ok(())
 }
 
@@ -102,7 +103,11 @@ fn check_input(rt: &impl Abort, alloc: Global, fails: u64, kind: ErrorKind) -> R
 fn reads_from_a_reader(rt: HostRuntime) -> Result<(), Fail> {
     let alloc = rt.alloc();
     let mut source = InputSource::new(Stumbling::new(alloc, 0, ErrorKind::Other));
-    assert_eq!(rt; read_all(alloc, &mut source)?.as_slice(), b"[7]".as_slice());
+    same(
+        &rt,
+        read_all(alloc, &mut source)?.as_slice(),
+        b"[7]".as_slice(),
+    );
     check_input(&rt, alloc, 1, ErrorKind::Other)?;
     check_input(&rt, alloc, 2, ErrorKind::Interrupted)?;
     check_input(&rt, alloc, 4, ErrorKind::WouldBlock)
@@ -124,8 +129,8 @@ fn check_output(
     written: &[u8],
 ) -> Result<(), Fail> {
     let result = deliver(&mut OutputSink::new(&mut writer), &[b"[", b"7]"]);
-    assert_eq!(rt; result, ending);
-    assert_eq!(rt; writer.written.as_slice(), written);
+    same(rt, result, ending);
+    same(rt, writer.written.as_slice(), written);
     Ok(())
 }
 
@@ -145,5 +150,5 @@ fn writes_to_a_writer(rt: HostRuntime) -> Result<(), Fail> {
 
 #[test]
 fn takes_everything(rt: HostRuntime) {
-    assert_eq!(rt; deliver(&mut SureSink::new(), &[b"[1,", b"2]"]), Ok(()));
+    same(&rt, deliver(&mut SureSink::new(), &[b"[1,", b"2]"]), Ok(()));
 }

@@ -4,6 +4,7 @@ use crate::outside::stdio::InputSource;
 use crate::run::run;
 use crate::status::Status;
 use crate::sure::run_surely;
+use crate::tests::same::{same, same_at};
 use std::alloc::Global;
 use std::io;
 use std::io::{ErrorKind, Read};
@@ -66,8 +67,8 @@ pub fn check_run(
         .ok()
         .ok_or("no memory")?;
     let status = run(alloc, &words, &mut source, &mut sink);
-    assert_eq!(rt; status, ending, "{input:?}");
-    assert_eq!(rt; sink.written(), output.as_bytes(), "{input:?}");
+    same_at(rt, status, ending, input);
+    same_at(rt, sink.written(), output.as_bytes(), input);
     Ok(())
 }
 
@@ -396,14 +397,15 @@ fn gives_arrays_of_any_depth(rt: HostRuntime) -> Result<(), Fail> {
     let mut input = Vec::from_slice(alloc, b"[]\n\n")?;
     repeated(&mut input, "[")?;
     let (status, text) = written(alloc, Vec::from_slice(alloc, &input)?, 99)?;
-    assert_eq!(rt; status, Status::DocumentError);
-    assert_eq!(rt;
+    same(&rt, status, Status::DocumentError);
+    same(
+        &rt,
         text.as_slice(),
-        b"! eof EofWhileParsing 1 100000 99999\n".as_slice()
+        b"! eof EofWhileParsing 1 100000 99999\n".as_slice(),
     );
     repeated(&mut input, "]")?;
     let (status, text) = written(alloc, input, 200_008)?;
-    assert_eq!(rt; status, Status::Done);
+    same(&rt, status, Status::Done);
     let mut line = Vec::from_slice(alloc, b"200000 ")?;
     repeated(&mut line, "[")?;
     repeated(&mut line, "]")?;
@@ -423,11 +425,11 @@ fn walks_to_any_depth(rt: HostRuntime) -> Result<(), Fail> {
     let pairs = [("[", "]"), ("{\"\":", "}"), ("[{\"\":", "}]")];
     for (opening, closing) in pairs {
         let closed = nested(alloc, "[]\n\n", opening, closing)?;
-        assert_eq!(rt; status_of(alloc, closed)?, Status::Done, "{opening}");
+        same_at(&rt, status_of(alloc, closed)?, Status::Done, opening);
         let cut = nested(alloc, "[]\n\n", opening, "")?;
-        assert_eq!(rt; status_of(alloc, cut)?, Status::DocumentError, "{opening}");
+        same_at(&rt, status_of(alloc, cut)?, Status::DocumentError, opening);
         let second = nested(alloc, "[1]\n\n[7,", opening, closing)?;
-        assert_eq!(rt; status_of(alloc, second)?, Status::Done, "{opening}");
+        same_at(&rt, status_of(alloc, second)?, Status::Done, opening);
     }
     Ok(())
 }
@@ -441,8 +443,8 @@ fn check_deep(
 ) -> Result<(), Fail> {
     let bytes = nested(alloc, "[]\n\n", opening, closing)?;
     let (status, text) = written(alloc, bytes, 99)?;
-    assert_eq!(rt; status, Status::DocumentError, "{opening}");
-    assert_eq!(rt; text.as_slice(), output.as_bytes(), "{opening}");
+    same_at(rt, status, Status::DocumentError, opening);
+    same_at(rt, text.as_slice(), output.as_bytes(), opening);
     Ok(())
 }
 
@@ -472,9 +474,9 @@ fn path_line(alloc: Global, indexes: usize) -> Result<Vec<u8>, Fail> {
 fn takes_paths_of_at_most_255_indexes(rt: HostRuntime) -> Result<(), Fail> {
     let alloc = rt.alloc();
     let longest = path_line(alloc, 255)?;
-    assert_eq!(rt; status_of(alloc, longest)?, Status::DocumentError);
+    same(&rt, status_of(alloc, longest)?, Status::DocumentError);
     let longer = path_line(alloc, 256)?;
-    assert_eq!(rt; status_of(alloc, longer)?, Status::BadLines);
+    same(&rt, status_of(alloc, longer)?, Status::BadLines);
     Ok(())
 }
 
@@ -491,8 +493,8 @@ fn check_blanks(
         .ok()
         .ok_or("no memory")?;
     let status = run(alloc, &owned(alloc, &["get"])?, &mut source, &mut sink);
-    assert_eq!(rt; status, ending, "{times}");
-    assert_eq!(rt; sink.written(), output.as_bytes(), "{times}");
+    same_at(rt, status, ending, times);
+    same_at(rt, sink.written(), output.as_bytes(), times);
     Ok(())
 }
 
@@ -517,8 +519,8 @@ fn check_failing_call(
         .ok()
         .ok_or("no memory")?;
     let status = run(alloc, &words, &mut source, &mut sink);
-    assert_eq!(rt; status, Status::WriteFault, "call {fails}");
-    assert_eq!(rt; sink.written(), written.as_bytes(), "call {fails}");
+    same_at(rt, status, Status::WriteFault, fails);
+    same_at(rt, sink.written(), written.as_bytes(), fails);
     Ok(())
 }
 
@@ -550,8 +552,8 @@ fn prints_nothing_where_a_read_fails(rt: HostRuntime) -> Result<(), Fail> {
         .ok_or("no memory")?;
     let mut source = InputSource::new(Broken);
     let status = run(alloc, &words, &mut source, &mut sink);
-    assert_eq!(rt; status, Status::ReadFault);
-    assert_eq!(rt; sink.written(), b"".as_slice());
+    same(&rt, status, Status::ReadFault);
+    same(&rt, sink.written(), b"".as_slice());
     Ok(())
 }
 
@@ -566,7 +568,7 @@ fn reads_nothing_for_other_words(rt: HostRuntime) -> Result<(), Fail> {
         &mut InputSource::new(Broken),
         &mut SureSink::new(),
     );
-    assert_eq!(rt; status, Status::BadUsage);
+    same(&rt, status, Status::BadUsage);
     Ok(())
 }
 
@@ -576,6 +578,6 @@ fn a_new_sink_is_empty(rt: HostRuntime) -> Result<(), Fail> {
     let sink = MemorySink::new(alloc, 8, 1, Vec::new(alloc))
         .ok()
         .ok_or("no memory")?;
-    assert_eq!(rt; sink.written(), b"".as_slice());
+    same(&rt, sink.written(), b"".as_slice());
     Ok(())
 }

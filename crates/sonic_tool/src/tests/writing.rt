@@ -2,6 +2,7 @@
 use crate::outside::memory::{MemorySink, SureSource};
 use crate::run::run;
 use crate::status::Status;
+use crate::tests::same::same;
 use std::alloc::Global;
 use std::process::Abort;
 use std::test::Fail;
@@ -35,17 +36,17 @@ fn written(
 fn check(rt: &impl Abort, alloc: Global, large: &Large) -> Result<(), Fail> {
     let finish = large.writes.saturating_add(1);
     let (status, text) = written(alloc, large, 100_000, finish.saturating_add(1))?;
-    assert_eq!(rt; status, Status::Done);
+    same(rt, status, Status::Done);
     assert!(rt; text == large.report, "all");
     let (status, text) = written(alloc, large, 100_000, finish)?;
-    assert_eq!(rt; status, Status::WriteFault);
+    same(rt, status, Status::WriteFault);
     assert!(rt; text == large.report, "all but the finish");
     let (status, text) = written(alloc, large, 100_000, large.writes)?;
-    assert_eq!(rt; status, Status::WriteFault);
+    same(rt, status, Status::WriteFault);
     assert!(rt; text.len() < large.report.len(), "all but the last write");
     assert!(rt; large.report.starts_with(&text), "all but the last write");
     let (status, text) = written(alloc, large, 999, 0)?;
-    assert_eq!(rt; status, Status::Done);
+    same(rt, status, Status::Done);
     assert!(rt; text == large.report, "by small pieces");
     Ok(())
 }
@@ -97,8 +98,8 @@ fn writes_a_long_value_by_itself(rt: HostRuntime) -> Result<(), Fail> {
         writes: 3,
     };
     let (status, text) = written(alloc, &large, 100_000, 2)?;
-    assert_eq!(rt; status, Status::WriteFault);
-    assert_eq!(rt; text.as_slice(), b"1 7\n70002 ".as_slice());
+    same(&rt, status, Status::WriteFault);
+    same(&rt, text.as_slice(), b"1 7\n70002 ".as_slice());
     check(&rt, alloc, &large)
 }
 
@@ -122,9 +123,9 @@ fn one_line(alloc: Global, length: usize, writes: u64) -> Result<Large, Fail> {
 fn writes_what_fits_by_one_call(rt: HostRuntime) -> Result<(), Fail> {
     let alloc = rt.alloc();
     let full = one_line(alloc, 65_529, 1)?;
-    assert_eq!(rt; full.report.len(), 65_536);
+    same(&rt, full.report.len(), 65_536);
     check(&rt, alloc, &full)?;
     let over = one_line(alloc, 65_530, 2)?;
-    assert_eq!(rt; over.report.len(), 65_537);
+    same(&rt, over.report.len(), 65_537);
     check(&rt, alloc, &over)
 }

@@ -2,13 +2,14 @@ use Rattle.sonic_lazy.proofs.answer.reach.Goals as goal
 use Rattle.std.proofs.Common.{◌≡◌, inr}
 use Rattle.sonic_lazy.proofs.AnswerLemmas.Walk.{is_reached, root_prefix, root_reported}
 use Rattle.sonic_text.specs.Places.{after_space}
+use Rattle.sonic_pointer.specs.declared.rule.KeyRule.TheVariants.{First}
 
 pub follow-requires-clause-some : goal.follow-requires-clause-some
 follow-requires-clause-some c = rw (c.view.ensures.paths, c.view.ensures.prefix) (root_prefix c.args.tree.now c.requires.some)
 
 pub follow-requires-clause-are : goal.follow-requires-clause-are
 follow-requires-clause-are c =
-    rw (c.view.ensures.paths, c.in_ok-walk.ensures.findings) (root_reported c.in_ok-walk.walk.text c.args.tree.now c.args.size c.requires.size)
+    rw (c.view.ensures.paths, c.in_ok-walk.ensures.findings) (root_reported First c.in_ok-walk.walk.text c.args.tree.now c.args.size c.requires.size)
 
 pub returns-clause-reached : goal.returns-clause-reached
 returns-clause-reached c =

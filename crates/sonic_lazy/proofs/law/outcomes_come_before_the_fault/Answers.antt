@@ -5,6 +5,6 @@ use Rattle.sonic_lazy.proofs.PathLemmas.Outcome.{ends_before_fault}
 -- a path ends before the fault
 pub returns : goal.returns
 returns c = record {
-  fails = λ t path s r fault leads. ends_before_fault path leads fault refl;
-  lacks = λ t path q r fault leads. ends_before_fault path leads fault refl;
+  fails = λ r t path s f fault leads. ends_before_fault path leads fault refl;
+  lacks = λ r t path q f fault leads. ends_before_fault path leads fault refl;
 }

@@ -44,7 +44,7 @@ pub fill_child-fill-requires : goal.fill_child-fill-requires
 fill_child-fill-requires t c =
     let text = rw c.in-Ok-Some.field-0-is at c.in-Ok-Some.ensures.text in
     let leads = rw c.in-Ok-Some.field-0-is at c.in-Ok-Some.ensures.leads in
-    let begun = child_begun leads c.requires.begun in
+    let begun = child_begun _ leads c.requires.begun in
     let value = begun.whole.1 in (
       omega (arith, c.decreases, items-later leads.before.fit, head-later leads.item.head, value-longer value, value_within value, ap length text),
       rw (text, c.child-below.ensures.paths, c.child-below.ensures.prefix) begun,

@@ -3,7 +3,7 @@ use Rattle.std.proofs.Common.{◌≡◌}
 use Rattle.std.proofs.lemmas.List.{at_drop_more}
 use Rattle.std.proofs.lemmas.Result.{err_from_is_err_and}
 use Rattle.sonic_lazy.proofs.GetLemmas.{no_node, rest_stopped, leads_whole}
-use Rattle.sonic_lazy.specs.Paths.Evaluates.{goes_on}
+use Rattle.sonic_lazy.specs.Paths.EvaluatesBy.{goes_on}
 use Rattle.sonic_parser.proofs.FaultLemmas.{stop_weaker}
 use Rattle.sonic_pointer.specs.Nodes.{path_of}
 

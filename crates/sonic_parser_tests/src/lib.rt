@@ -1,0 +1,34 @@
+//! What no clause of `sonic_parser` says: that calls answer the worked examples, and succeed where
+//! nothing is wrong.
+#![tactic(auto)]
+
+// The skipper at each place of a block of bytes.
+#[cfg(test)]
+mod blocks;
+// Each call once.
+#[cfg(test)]
+mod calls;
+// Values as deep as memory allows.
+#[cfg(test)]
+mod depth;
+// Each fault, with its place and its code.
+#[cfg(test)]
+mod faults;
+// Values of another type than is wanted.
+#[cfg(test)]
+mod mismatches;
+// A plain program beside the skipper.
+#[cfg(test)]
+mod reference;
+// Assertions as calls.
+#[cfg(test)]
+mod same;
+// White space by blocks.
+#[cfg(test)]
+mod space;
+// Strings that are read as text.
+#[cfg(test)]
+mod strings;
+// The unchecked skips beside the checked ones.
+#[cfg(test)]
+mod unchecked;

@@ -1,6 +1,0 @@
-use Rattle.sonic_value.specs.declared.value.Value.{size-Value}
-use Rattle.sonic_value.proofs.tests.reference.+fill.Given as goal
-
--- the depth of the data
-abbrev pub decreases-fill : goal.decreases-fill
-decreases-fill l = size-Value l.data.now
