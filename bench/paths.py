@@ -73,4 +73,5 @@ def main(program, folder, runs):
                 row(f"{kind}, {name}, millions of instructions", [instructions(words, it) / 1e6 for it in counted], "%.0f")
 
 
-main(sys.argv[1], sys.argv[2], int(sys.argv[3]))
+if __name__ == "__main__":
+    main(sys.argv[1], sys.argv[2], int(sys.argv[3]))

@@ -16,6 +16,7 @@ from dataclasses import dataclass, field
 # The words of a command and its input.
 COMMANDS = {
     "get": (["get"], '["u"]\n["unknown_key"]\n["a","b\\u0063"]\n\n{"u": 123, "a": {"bc": [null, {"k":"found"}]}}'),
+    "get, last key": (["get", "--keys", "last"], '["u"]\n["a","b\\u0063"]\n\n{"u": 123, "a": 1, "a": {"bc": [null, {"k":"found"}]}}'),
     "get, one line": (["get"], '["a"]\n\n{"a": tru}'),
     "list": (["list"], '{"a\\n": 1, "b": {"c":[]}}'),
     "list, cut": (["list"], "[1, [2]"),
@@ -28,7 +29,8 @@ COMMANDS = {
 }
 # The calls of refused_calls.txt, by the words that ask for them.
 CALLS = """
-FastStr::new FastStr::clone FastStr::slice RawNumber::from_str validate get get_many find_many
+FastStr::new FastStr::clone FastStr::slice RawNumber::from_str validate get get_many get_many_with
+find_many
 LazyValue::as_str LazyValue::as_raw_faststr ObjectJsonIter::next ArrayJsonIter::next skip_one
 OwnedLazyValue::from_str OwnedLazyValue::from_lazy OwnedLazyValue::clone OwnedLazyValue::to_string
 load get_mut pointer_mut as_object_mut with_mut edit LazyArray::with_capacity push

@@ -87,7 +87,7 @@ pub lacks_slots : {p : Point} {f : Filling} {node : Node} {q : ℕ} → ComesTo 
 lacks_slots {node = node} {q} comes lack k rest h = slot_lacked (comes.up (node ∷ rest) (lacks q) (lack rest))
 
 -- in a whole value a path that is stopped fails
-stopped_fails : {t : List ℕ} {i : ℕ} {path : Path} {s : Stop} {rule : KeyRule} → HasWhole t i → IsStopped rule t i path s → EvaluatesBy rule t i path (fails s)
+pub stopped_fails : {t : List ℕ} {i : ℕ} {path : Path} {s : Stop} {rule : KeyRule} → HasWhole t i → IsStopped rule t i path s → EvaluatesBy rule t i path (fails s)
 stopped_fails x (fails_so e) = e
 stopped_fails {path = path} x (cut_so e) = absurd (value_never_both x.1 (cut_is_fault path e))
 
@@ -184,7 +184,7 @@ same_kind (key k) (index m) e = absurd cc
 same_kind (index n) (key l) e = absurd cc
 
 -- two paths of a tree mix nowhere
-paths_unmixed : {paths : List Path} {p q : Path} → IsUnmixed paths → Contains paths p → Contains paths q → MixNowhere p q
+pub paths_unmixed : {paths : List Path} {p q : Path} → IsUnmixed paths → Contains paths p → Contains paths q → MixNowhere p q
 paths_unmixed unmixed x y = λ prefix r s a b e f.
     same_kind a b (unmixed prefix a b (record { rest = r; path = rw e at x }) (record { rest = s; path = rw f at y }))
 

@@ -16,6 +16,8 @@ pub mod ItemLemmas
 pub mod IteratorLemmas
 -- A container has one list of items, with one end or one error.
 pub mod ListingLemmas
+-- What the marks of prefixes say of values that have to be whole.
+pub mod MarkLemmas
 -- Where a path leads in the text of a value.
 pub mod PartLemmas
 -- Where a node leads on to, and the one outcome of a path.

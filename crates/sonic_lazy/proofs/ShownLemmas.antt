@@ -1,10 +1,11 @@
 -- The spans of an answer are shown by lazy values.
 use Rattle.std.proofs.Common.{◌≡◌, ℕ, List, [], ◌∷◌, Bool}
 use Rattle.std.specs.Prelude.{Option, Some, None, option_map}
-use Rattle.sonic_lazy.specs.Answers.{IsAnswer, Answer, Span}
+use Rattle.sonic_lazy.specs.Answers.{IsAnswerBy, Answer, Span}
 use Rattle.sonic_lazy.specs.LazyValues.{raw_bytes}
-use Rattle.sonic_lazy.specs.Shown.{Shows, shows_none, shows_span, ShowAll, no_more_values, one_more_value, AreValues, HaveTexts, span_text}
+use Rattle.sonic_lazy.specs.Shown.{Shows, shows_none, shows_span, ShowAll, no_more_values, one_more_value, AreValuesBy, HaveTexts, span_text}
 use Rattle.sonic_lazy.specs.declared.lazyvalue.LazyValue.{LazyValue}
+use Rattle.sonic_pointer.specs.declared.rule.KeyRule.{KeyRule}
 use Rattle.sonic_text.specs.Paths.{Path}
 
 -- a value with the text of a span shows it
@@ -22,8 +23,8 @@ all_shown t (entry ∷ entries) [] e = absurd cc
 all_shown t (entry ∷ entries) (value ∷ values) e = one_more_value (one_shown t entry value cc) (all_shown t entries values cc)
 
 -- so they are the answer
-pub are_values : {t : List ℕ} {is_bytes : Bool} {paths : List Path} {entries : List (Option Span)} {values : List (Option LazyValue)}
-    → IsAnswer t is_bytes paths (Answer.spans entries) → HaveTexts t values entries → AreValues t is_bytes paths values
+pub are_values : {t : List ℕ} {is_bytes : Bool} {paths : List Path} {entries : List (Option Span)} {values : List (Option LazyValue)} {rule : KeyRule}
+    → IsAnswerBy rule t is_bytes paths (Answer.spans entries) → HaveTexts t values entries → AreValuesBy rule t is_bytes paths values
 are_values {t} {entries = entries} {values} x e = record { entries = entries; answer = x; shown = all_shown t entries values e }
 
 pub ruleset answers = are_values

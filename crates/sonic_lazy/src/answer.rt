@@ -5,10 +5,9 @@ ghost use Rattle.std.specs.Str.{IsUtf8};
 ghost use Rattle.sonic_error.specs.declared.code.ErrorCode.TheVariants.{InvalidUTF8};
 ghost use Rattle.sonic_error.specs.Texts.{valid_up_to};
 ghost use Rattle.sonic_parser.specs.Faults.{IsStopFor};
-ghost use Rattle.sonic_lazy.specs.Answers.{IsAnswer, Answer};
+ghost use Rattle.sonic_lazy.specs.Answers.{IsAnswerBy, Answer};
 ghost use Rattle.sonic_lazy.specs.Internal.Located.{HaveStatuses, span_at, spans_of};
 ghost use Rattle.sonic_lazy.specs.Internal.Walk.{root_point, IsStop, IsError, IsFurthest, IsReached};
-ghost use Rattle.sonic_pointer.specs.declared.rule.KeyRule.TheVariants.{First};
 
 use crate::located::Located;
 use crate::state::Walk;
@@ -16,7 +15,7 @@ use crate::walk::follow;
 use sonic_error::ErrorCode;
 use sonic_input::Read;
 use sonic_parser::Fault;
-use sonic_pointer::PointerTree;
+use sonic_pointer::{KeyRule, PointerTree};
 use sonic_text::Stop;
 use std::alloc::Global;
 
@@ -28,7 +27,7 @@ struct Reached<'de> {
     reach: usize,
 }
 
-// The values that the paths of a tree are answered with, in their order, or the one error.
+// The values that the paths of a tree are answered with under a rule, in their order, or the one error.
 //
 // What follows the last byte that is needed plays no part.
 pub(crate) fn answer(
@@ -36,18 +35,19 @@ pub(crate) fn answer(
     read: Read<'_>,
     is_bytes: bool,
     tree: &PointerTree,
+    rule: KeyRule,
 ) -> Result<Vec<Option<Located>>, Fault>
     requires { read.place ≡ 0 }
     ensures ok { IfOk result (λ found.
-        IsAnswer read.entry.text is_bytes tree.now (Answer.spans (spans_of found.items))) }
+        IsAnswerBy rule read.entry.text is_bytes tree.now (Answer.spans (spans_of found.items))) }
     ensures statuses { IfOk result (λ found. HaveStatuses read.entry.text found.items) }
-    ensures err { IfErr result (IsStopFor (IsError First read.entry.text is_bytes tree.now)) }
+    ensures err { IfErr result (IsStopFor (IsError rule read.entry.text is_bytes tree.now)) }
 {
     let size = tree.size();
     if size == 0 {
         return Ok(Vec::new(alloc));
     }
-    let Reached { text, found, reach } = reach(alloc, read, tree, size)?;
+    let Reached { text, found, reach } = reach(alloc, read, tree, size, rule)?;
     if is_bytes {
         check(text, reach)?;
     }
@@ -60,18 +60,20 @@ fn reach<'de>(
     read: Read<'de>,
     tree: &PointerTree,
     size: usize,
+    rule: KeyRule,
 ) -> Result<Reached<'de>, Fault>
     requires start { read.place ≡ 0 }
     requires size { size ≡ length tree.now }
     requires some { tree.now ≢ [] }
     ensures text { IfOk result (λ x. x.text.now ≡ read.entry.text) }
     ensures reached { IfOk result (λ x.
-        IsReached First read.entry.text tree.now (spans_of x.found.items) x.reach) }
+        IsReached rule read.entry.text tree.now (spans_of x.found.items) x.reach) }
     ensures statuses { IfOk result (λ x. HaveStatuses read.entry.text x.found.items) }
-    ensures err { IfErr result (IsStopFor (IsStop (root_point First read.entry.text tree.now) false)) }
+    ensures err { IfErr result (IsStopFor (IsStop (root_point rule read.entry.text tree.now) false)) }
 {
-    let mut walk = Walk::new(alloc, read, size)?;
-    follow(&mut walk, &tree.view(), false)?;
+    let view = tree.view();
+    let mut walk = Walk::new(alloc, read, size, rule, view.prefixes())?;
+    follow(&mut walk, &view, false)?;
     let (text, end, lacking) = (walk.text(), walk.place(), walk.lacks_key());
     let found = walk.into_spans();
     let reach = reach_of(&found, lacking, end);

@@ -19,7 +19,7 @@ use crate::span::Span;
 use crate::steps::Steps;
 use sonic_error::{Error, ErrorCode};
 use sonic_input::{JsonInput, Read};
-use sonic_pointer::{PointerNode, PointerTree};
+use sonic_pointer::{KeyRule, PointerNode, PointerTree};
 use std::alloc::Global;
 
 /// The span of the value to which one path leads in an input: of what [`get`](crate::get) answers,
@@ -85,7 +85,7 @@ pub fn find_many<'de, I: JsonInput<'de>>(
     ensures honest { IfErr result (IsHonest strict (I.JsonInput.content json) 0) }
 {
     clear(out);
-    let found = locate_many(alloc, json, tree)?;
+    let found = locate_many(alloc, json, tree, KeyRule::First)?;
     fill(out, &found);
     Ok(())
 }

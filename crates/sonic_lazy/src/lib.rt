@@ -23,6 +23,10 @@ mod lazyvalue;
 mod located;
 // Where paths lead in an input, as spans of it.
 mod finding;
+// Objects in which another member than the first may count.
+mod gathered;
+// What each prefix of a tree had last.
+mod marks;
 // What many paths find in an input.
 mod many;
 // What many paths find in an input that is known to begin with a value.
@@ -68,7 +72,7 @@ pub use law::{
     utf8_has_the_same_items,
 };
 pub use lazyvalue::LazyValue;
-pub use many::get_many;
+pub use many::{get_many, get_many_with};
 pub use many_unchecked::{find_many_unchecked, get_many_unchecked};
 pub use one::{get, get_from_bytes, get_from_faststr, get_from_slice, get_from_str};
 pub use rawnumber::RawNumber;

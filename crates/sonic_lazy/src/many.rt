@@ -3,11 +3,11 @@ ghost use Rattle.std.specs.Prelude.{◌≡◌, option_map, IfOk, IfErr, IfSome};
 ghost use Rattle.sonic_error.specs.Errors.{IsPlainError};
 ghost use Rattle.sonic_text.specs.Strings.{strict};
 ghost use Rattle.sonic_parser.specs.Honest.{IsHonest};
-ghost use Rattle.sonic_lazy.specs.Answers.{IsAnswer, Answer};
-ghost use Rattle.sonic_lazy.specs.Causes.{IsAnswerable, IsRefusal};
+ghost use Rattle.sonic_lazy.specs.Answers.{IsAnswerBy, Answer};
+ghost use Rattle.sonic_lazy.specs.Causes.{IsAnswerable, IsAnswerableBy, IsRefusal, IsRefusalBy};
 ghost use Rattle.sonic_lazy.specs.LazyValues.{raw_bytes};
 ghost use Rattle.sonic_lazy.specs.Internal.Located.{IsStatus, HaveStatuses, AreParts, span_at, spans_of};
-ghost use Rattle.sonic_lazy.specs.Shown.{AreValues, HaveTexts, span_text};
+ghost use Rattle.sonic_lazy.specs.Shown.{AreValues, AreValuesBy, HaveTexts, span_text};
 ghost use Rattle.sonic_lazy.specs.Wholes.{IsPart};
 
 use crate::answer::answer;
@@ -16,30 +16,31 @@ use crate::lazyvalue::LazyValue;
 use crate::located::Located;
 use sonic_error::{Error, ErrorCode};
 use sonic_input::{JsonInput, Read};
-use sonic_pointer::PointerTree;
+use sonic_pointer::{KeyRule, PointerTree};
 use std::alloc::{AllocError, Global};
 
-// The values that the paths of a tree find, in their order, with `None` for one that lacks its key.
+// The values that the paths of a tree find under a rule, in their order, with `None` for one that lacks its key.
 //
 // What follows the last byte that the paths need plays no part.
 pub(crate) fn locate_many<'de, I: JsonInput<'de>>(
     alloc: Global,
     json: I,
     tree: &PointerTree,
+    rule: KeyRule,
 ) -> Result<Vec<Option<Located>>, Error>
-    ensures ok { IfOk result (λ found. IsAnswer (I.JsonInput.content json) I.JsonInput.is_bytes
+    ensures ok { IfOk result (λ found. IsAnswerBy rule (I.JsonInput.content json) I.JsonInput.is_bytes
         tree.now (Answer.spans (spans_of found.items))) }
     ensures statuses { IfOk result (λ found. HaveStatuses (I.JsonInput.content json) found.items) }
     ensures parts { IfOk result (λ found. AreParts (I.JsonInput.content json) found.items) }
-    ensures err { IfErr result (λ error. IsRefusal (I.JsonInput.content json) I.JsonInput.is_bytes
+    ensures err { IfErr result (λ error. IsRefusalBy rule (I.JsonInput.content json) I.JsonInput.is_bytes
         tree.now error) }
-    ensures complete { IsAnswerable (I.JsonInput.content json) I.JsonInput.is_bytes tree.now
+    ensures complete { IsAnswerableBy rule (I.JsonInput.content json) I.JsonInput.is_bytes tree.now
         → IfErr result (λ error. IsPlainError error ErrorCode.NoMemory) }
     ensures honest { IfErr result (IsHonest strict (I.JsonInput.content json) 0) }
 {
     let text = json.to_u8_slice();
     let read = Read::unscanned(json.to_json_slice());
-    match answer(alloc, read, json.need_utf8_valid(), tree) {
+    match answer(alloc, read, json.need_utf8_valid(), tree, rule) {
         Ok(found) => Ok(found),
         Err(fault) => Err(fault.error(text)),
     }
@@ -86,7 +87,6 @@ fn value<'de, I: JsonInput<'de>>(json: I, located: Option<Located>) -> Option<La
 ///
 /// With the paths `["a"]`, `["b"]` and `["c", 1]` over `{"a":1,"c":[2,3]}` it is the values `1`,
 /// none and `3`.
-#[tactic(auto, using(crate::proofs::ShownLemmas::answers))]
 pub fn get_many<'de, I: JsonInput<'de>>(
     alloc: Global,
     json: I,
@@ -100,7 +100,35 @@ pub fn get_many<'de, I: JsonInput<'de>>(
         → IfErr result (λ error. IsPlainError error ErrorCode.NoMemory) }
     ensures honest { IfErr result (IsHonest strict (I.JsonInput.content json) 0) }
 {
-    let found = locate_many(alloc, json, tree)?;
+    get_many_with(alloc, json, tree, KeyRule::First)
+}
+
+/// What the paths of a tree lead to under a rule for equal keys, in the order in which they were added.
+///
+/// [`get_many`] is it under the first. An object in which a key is looked for under another rule has to be
+/// whole: under [`KeyRule::Last`] the last member with the key counts, and under [`KeyRule::Refuse`]
+/// there may be one alone: a second one is the error `DuplicateKey` at its quote, unless a path leads
+/// nowhere before it. Keys that no path names may repeat. What is looked for below a member that doesn't
+/// count plays no part.
+///
+/// With the path `["a"]` over `{"a":1,"a":2}` it is the value `1` by `First`, `2` by `Last`, and by `Refuse`
+/// the error at 7. Over `{"a":1,` it is `1` by `First`, and by the others the end of the text.
+#[tactic(auto, using(crate::proofs::ShownLemmas::answers))]
+pub fn get_many_with<'de, I: JsonInput<'de>>(
+    alloc: Global,
+    json: I,
+    tree: &PointerTree,
+    rule: KeyRule,
+) -> Result<Vec<Option<LazyValue<'de>>>, Error>
+    ensures ok { IfOk result (λ values.
+        AreValuesBy rule (I.JsonInput.content json) I.JsonInput.is_bytes tree.now values.items) }
+    ensures err { IfErr result (λ error. IsRefusalBy rule (I.JsonInput.content json)
+        I.JsonInput.is_bytes tree.now error) }
+    ensures complete { IsAnswerableBy rule (I.JsonInput.content json) I.JsonInput.is_bytes tree.now
+        → IfErr result (λ error. IsPlainError error ErrorCode.NoMemory) }
+    ensures honest { IfErr result (IsHonest strict (I.JsonInput.content json) 0) }
+{
+    let found = locate_many(alloc, json, tree, rule)?;
     match values(alloc, json, &found) {
         Ok(values) => Ok(values),
         Err(_) => Err(Error::plain(ErrorCode::NoMemory)),

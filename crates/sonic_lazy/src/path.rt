@@ -102,7 +102,7 @@ pub(crate) fn lead_on(steps: &mut Steps<'_>, node: &PointerNode<'_>) -> Result<b
 }
 
 // The kind of container that a node asks for.
-fn kind_of_node(node: &PointerNode<'_>) -> Kind
+pub(crate) fn kind_of_node(node: &PointerNode<'_>) -> Kind
     ensures { result ≡ kind_of (node_of node.now) }
 {
     match node {

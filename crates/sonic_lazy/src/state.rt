@@ -1,19 +1,24 @@
 // What a walk through a text has come to.
-ghost use Rattle.std.specs.Prelude.{◌≡◌, ◌<◌, ◌≤◌, ◌^◌, ℕ, List, None, true, false, length, replicate, IfOk, IfErr, OnOk};
+ghost use Rattle.std.specs.Prelude.{◌≡◌, ◌≢◌, ◌⊎◌, ◌<◌, ◌≤◌, ◌^◌, ◌+◌, ℕ, List, Some, None, true, false, length, replicate, set, slice_get, IfOk, IfErr, OnOk};
 ghost use Rattle.std.specs.List.{Contains};
 ghost use Rattle.sonic_text.specs.Places.{after_space};
 ghost use Rattle.sonic_text.specs.Strings.{IsString, strict};
-ghost use Rattle.sonic_text.specs.Values.{IsValue, IsKey, ItemsFit};
+ghost use Rattle.sonic_text.specs.Places.{byte};
+ghost use Rattle.sonic_text.specs.Values.{opening, IsValue, IsKey, ItemsFit};
 ghost use Rattle.sonic_text.specs.Faults.{IsFault, IsKeyFault};
 ghost use Rattle.sonic_parser.specs.Containers.{IsEnd, IsSeparated, IsSeparatorFault};
 ghost use Rattle.sonic_parser.specs.Faults.{IsStopFor};
-ghost use Rattle.sonic_lazy.specs.Internal.Located.{IsStatus, HaveStatuses, spans_of};
+ghost use Rattle.sonic_pointer.specs.declared.rule.KeyRule.TheVariants.{First, Refuse};
+ghost use Rattle.sonic_lazy.specs.declared.marks.Mark.{Mark};
+ghost use Rattle.sonic_lazy.specs.Internal.Located.{IsStatus, HaveStatuses, span_at, spans_of};
 ghost use Rattle.sonic_lazy.specs.Internal.Walk.{IsNoEntry, IsFilled};
 
 use crate::located::Located;
+use crate::marks::Mark;
 use crate::steps::Steps;
 use sonic_input::Read;
 use sonic_parser::{Fault, ParseStatus};
+use sonic_pointer::KeyRule;
 use sonic_text::{Kind, Stop, StringEnd};
 use std::alloc::{AllocError, Global};
 use std::marker::Model;
@@ -27,6 +32,10 @@ pub(crate) struct Walk<'de> {
     spans: Vec<Option<Located>>,
     // Whether some path lacks its key.
     lacking: bool,
+    // Which of several equal keys counts.
+    rule: KeyRule,
+    // What each prefix of the tree had last, unless the first of equal keys counts.
+    marks: Vec<Mark>,
 }
 
 impl<'de> Model for Walk<'de> {
@@ -42,23 +51,75 @@ impl<'de> Model for Walk<'de> {
 }
 
 impl<'de> Walk<'de> {
-    // A walk that begins at the root of the reader's text, for this many paths.
-    pub(crate) fn new(alloc: Global, read: Read<'de>, size: usize) -> Result<Walk<'de>, AllocError>
+    // A walk that begins at the root of the reader's text, for this many paths, which have so many
+    // prefixes.
+    pub(crate) fn new(
+        alloc: Global,
+        read: Read<'de>,
+        size: usize,
+        rule: KeyRule,
+        prefixes: usize,
+    ) -> Result<Walk<'de>, AllocError>
         requires { read.place ≡ 0 }
         ensures text { IfOk result (λ walk. walk.text ≡ read.entry.text) }
         ensures place { IfOk result (λ walk. walk.place ≡ after_space read.entry.text 0) }
         ensures findings { IfOk result (λ walk.
             walk.findings ≡ record { spans = replicate size None; lacking = false }) }
+        ensures rule { IfOk result (λ walk. walk.rule ≡ rule) }
+        ensures marked { IfOk result (λ walk. rule ≢ First → length walk.marks ≡ prefixes) }
+        ensures unmarked { IfOk result (λ walk. (n : ℕ) (m : Mark)
+            → slice_get walk.marks n ≡ Some m → m.value.start ≡ 0) }
     {
         let steps = Steps::checked(alloc, read);
         let spans = vec![in alloc; None; size]?;
         let lacking = false;
+        let marks = marks(alloc, rule, prefixes)?;
         Ok(Walk {
             alloc,
             steps,
             spans,
             lacking,
+            rule,
+            marks,
         })
+    }
+
+    // Whether a container of this kind has to be whole before a node leads on in it.
+    pub(crate) fn gathers(&self, kind: Kind) -> bool
+        ensures whole { result ≡ true → (self.now.rule ≢ First) × (kind ≡ Kind.Object) }
+        ensures plain { result ≡ false → (self.now.rule ≡ First) ⊎ (kind ≡ Kind.Array) }
+    {
+        match (self.rule, kind) {
+            (KeyRule::First, _) | (_, Kind::Array) => false,
+            (_, Kind::Object) => true,
+        }
+    }
+
+    // Whether a second member with the key of another is refused.
+    pub(crate) fn refuses(&self) -> bool
+        ensures refuses { result ≡ true → self.now.rule ≡ Refuse }
+        ensures counts { result ≡ false → self.now.rule ≢ Refuse }
+    {
+        match self.rule {
+            KeyRule::Refuse => true,
+            KeyRule::First | KeyRule::Last => false,
+        }
+    }
+
+    // What the prefix of this number had last.
+    pub(crate) fn mark(&self, number: usize) -> Mark
+        requires { number < length self.now.marks }
+        ensures { slice_get self.now.marks number ≡ Some result }
+    {
+        self.marks[number]
+    }
+
+    // Marks what the prefix of this number has.
+    pub(crate) fn set_mark(&mut self, number: usize, mark: Mark)
+        requires { number < length self.old.marks }
+        ensures { self.new ≡ record self.old { marks = set self.old.marks number mark } }
+    {
+        self.marks[number] = mark;
     }
 
     // The place that the walk has come to.
@@ -108,6 +169,19 @@ impl<'de> Walk<'de> {
         self.steps.enter(kind)
     }
 
+    // Goes past the bracket of the container of this kind at the cursor: whether an item is expected,
+    // at which the cursor then is, or after the closing bracket.
+    pub(crate) fn open(&mut self, kind: Kind) -> bool
+        requires { byte self.old.text self.old.place ≡ opening kind }
+        ensures item { result ≡ true
+            → ItemsFit strict self.old.text kind self.old.place 0 self.new.place }
+        ensures empty { result ≡ false
+            → IsEnd self.old.text kind (self.old.place + 1) self.new.place }
+        ensures moved { self.new ≡ record self.old { place = self.new.place } }
+    {
+        self.steps.open(kind)
+    }
+
     // Goes on after an item of a container of this kind: whether another one comes.
     pub(crate) fn next_item(&mut self, kind: Kind) -> Result<bool, Stop>
         ensures item { IfOk result (λ more. more ≡ true
@@ -148,6 +222,20 @@ impl<'de> Walk<'de> {
         fill(&mut self.spans, orders, Located { start, end, status });
     }
 
+    // Keeps a value that was read before for the paths of these numbers.
+    pub(crate) fn keep_value(&mut self, orders: &[usize], value: Located)
+        requires known { (k : ℕ) → Contains orders.now k → k < length self.old.findings.spans }
+        requires status { IsStatus self.old.text value.start value.end value.status }
+        ensures filled { IsFilled orders.now self.old.findings.spans self.new.findings.spans
+            (span_at value) }
+        ensures kept { self.new ≡ record self.old {
+          findings =
+              record self.old.findings { spans = self.new.findings.spans };
+        } }
+    {
+        fill(&mut self.spans, orders, value);
+    }
+
     // Notes that some path lacks its key.
     pub(crate) fn note_lack(&mut self)
         ensures { self.new ≡ record self.old {
@@ -165,6 +253,18 @@ impl<'de> Walk<'de> {
     {
         let Walk { spans, steps, .. } = self;
         spans
+    }
+}
+
+// A mark for each prefix, where the rule asks for them.
+fn marks(alloc: Global, rule: KeyRule, prefixes: usize) -> Result<Vec<Mark>, AllocError>
+    ensures marked { IfOk result (λ marks. rule ≢ First → length marks.items ≡ prefixes) }
+    ensures unmarked { IfOk result (λ marks. (n : ℕ) (m : Mark)
+        → slice_get marks.items n ≡ Some m → m.value.start ≡ 0) }
+{
+    match rule {
+        KeyRule::First => Ok(Vec::new(alloc)),
+        KeyRule::Last | KeyRule::Refuse => vec![in alloc; Mark::none(); prefixes],
     }
 }
 

@@ -10,9 +10,10 @@ ghost use Rattle.sonic_parser.specs.Faults.{IsStopFor};
 ghost use Rattle.sonic_lazy.specs.Internal.Located.{IsStatus};
 ghost use Rattle.sonic_lazy.specs.Paths.{kind_of};
 ghost use Rattle.sonic_lazy.specs.Internal.Walk.{IsStop, ComesTo, AreFindings, IsLater, AllSettled, BelowSettled, IsContainer, IsFollowed, IsPassed, IsWanted, IsItem, SomeOpen};
-ghost use Rattle.sonic_lazy.specs.Internal.View.{point_at, container_at, progress_at};
-ghost use Rattle.sonic_pointer.specs.declared.rule.KeyRule.TheVariants.{First};
+ghost use Rattle.sonic_lazy.specs.Internal.Marks.{KeepsMarks};
+ghost use Rattle.sonic_lazy.specs.Internal.View.{point_at, container_at, marking_at, progress_at};
 
+use crate::gathered::follow_whole;
 use crate::state::Walk;
 use crate::visited::Visited;
 use sonic_error::ErrorCode;
@@ -22,13 +23,13 @@ use sonic_text::{Kind, Stop};
 
 // A container in which the children of a vertex of the tree are looked for.
 #[derive(Drop)]
-struct Level<'l, 't> {
-    view: &'l TreeView<'t>,
+pub(crate) struct Level<'l, 't> {
+    pub(crate) view: &'l TreeView<'t>,
     // The place of its bracket.
-    start: usize,
-    kind: Kind,
+    pub(crate) start: usize,
+    pub(crate) kind: Kind,
     // Whether it has to be read to its end.
-    needs: bool,
+    pub(crate) needs: bool,
 }
 
 // Follows the paths that begin with the prefix of the view in the value at the cursor.
@@ -39,13 +40,16 @@ struct Level<'l, 't> {
 pub(crate) fn follow(walk: &mut Walk<'_>, view: &TreeView<'_>, finish: bool) -> Result<(), Fault>
     requires comes { ComesTo (point_at walk.old view.now) }
     requires some { HasPrefix view.now.paths view.now.prefix }
-    requires are { AreFindings First walk.old.text view.now.paths walk.old.findings }
-    ensures later { OnOk result (IsLater First walk.old.text view.now.paths walk.old.findings
+    requires are { AreFindings walk.old.rule walk.old.text view.now.paths walk.old.findings }
+    requires marks { KeepsMarks (marking_at walk.old view.now) walk.old.place }
+    ensures later { OnOk result (IsLater walk.old.rule walk.old.text view.now.paths walk.old.findings
         walk.new.findings) }
     ensures settled { OnOk result (AllSettled (point_at walk.old view.now) walk.new.findings) }
     ensures whole { OnOk result ((finish ≡ true) ⊎ (walk.new.findings.lacking ≡ true)
         → IsValue strict walk.old.text walk.old.place walk.new.place) }
+    ensures marks { OnOk result (KeepsMarks (marking_at walk.new view.now) walk.new.place) }
     ensures text { OnOk result (walk.new.text ≡ walk.old.text) }
+    ensures rule { OnOk result (walk.new.rule ≡ walk.old.rule) }
     ensures err { IfErr result (IsStopFor (IsStop (point_at walk.old view.now) finish)) }
 {
     let start = walk.place();
@@ -61,6 +65,9 @@ pub(crate) fn follow(walk: &mut Walk<'_>, view: &TreeView<'_>, finish: bool) -> 
         kind: kind_of_children(view),
         needs: is_asked(finish, orders),
     };
+    if walk.gathers(level.kind) {
+        return follow_whole(walk, &level);
+    }
     if !items(walk, &level)? {
         return Ok(());
     }
@@ -77,7 +84,7 @@ fn is_asked(finish: bool, orders: &[usize]) -> bool
 }
 
 // The kind of container that the children of the view ask for.
-fn kind_of_children(view: &TreeView<'_>) -> Kind
+pub(crate) fn kind_of_children(view: &TreeView<'_>) -> Kind
     requires { IsChildren view.now.paths view.now.prefix view.now.children }
     ensures { (c : ℕ) (node : Node) → slice_get view.now.children c ≡ Some node → kind_of node ≡ result }
 {
@@ -93,12 +100,13 @@ fn kind_of_children(view: &TreeView<'_>) -> Kind
 #[cycle(walk)]
 fn items(walk: &mut Walk<'_>, level: &Level<'_, '_>) -> Result<bool, Fault>
     requires start { level.now.start ≡ walk.old.place }
-    requires container { IsContainer (container_at walk.old.text level.now) }
+    requires container { IsContainer (container_at walk.old.rule walk.old.text level.now) }
     requires some { level.now.view.now.children ≢ List.[] }
-    requires are { AreFindings First walk.old.text level.now.view.now.paths walk.old.findings }
-    ensures later { OnOk result (IsLater First walk.old.text level.now.view.now.paths walk.old.findings
+    requires are { AreFindings walk.old.rule walk.old.text level.now.view.now.paths walk.old.findings }
+    requires marks { KeepsMarks (marking_at walk.old level.now.view.now) walk.old.place }
+    ensures later { OnOk result (IsLater walk.old.rule walk.old.text level.now.view.now.paths walk.old.findings
         walk.new.findings) }
-    ensures settled { OnOk result (BelowSettled (container_at walk.old.text level.now).point
+    ensures settled { OnOk result (BelowSettled (container_at walk.old.rule walk.old.text level.now).point
         walk.new.findings) }
     ensures whole { IfOk result (λ whole. whole ≡ true
         → IsValue strict walk.old.text walk.old.place walk.new.place) }
@@ -106,8 +114,10 @@ fn items(walk: &mut Walk<'_>, level: &Level<'_, '_>) -> Result<bool, Fault>
         → IsStatus walk.old.text walk.old.place walk.new.place ParseStatus.None) }
     ensures unneeded { IfOk result (λ whole. whole ≡ false
         → (level.now.needs ≡ false) × (walk.new.findings.lacking ≡ false)) }
+    ensures marks { OnOk result (KeepsMarks (marking_at walk.new level.now.view.now) walk.new.place) }
     ensures text { OnOk result (walk.new.text ≡ walk.old.text) }
-    ensures err { IfErr result (IsStopFor (IsStop (container_at walk.old.text level.now).point
+    ensures rule { OnOk result (walk.new.rule ≡ walk.old.rule) }
+    ensures err { IfErr result (IsStopFor (IsStop (container_at walk.old.rule walk.old.text level.now).point
         level.now.needs)) }
 {
     walk.enter(level.kind)?;
@@ -135,16 +145,19 @@ fn item(
     visited: &mut Visited,
     passed: usize,
 ) -> Result<(), Fault>
-    requires before { IsFollowed (container_at walk.old.text level.now)
+    requires before { IsFollowed (container_at walk.old.rule walk.old.text level.now)
         (progress_at passed walk.old.place visited.old walk.old.findings) }
-    requires wanted { IsWanted (container_at walk.old.text level.now)
+    requires wanted { IsWanted (container_at walk.old.rule walk.old.text level.now)
         (progress_at passed walk.old.place visited.old walk.old.findings) }
-    ensures passed { OnOk result (IsPassed (container_at walk.old.text level.now)
+    requires marks { KeepsMarks (marking_at walk.old level.now.view.now) walk.old.place }
+    ensures passed { OnOk result (IsPassed (container_at walk.old.rule walk.old.text level.now)
         (progress_at passed walk.old.place visited.new walk.new.findings) walk.new.place) }
-    ensures later { OnOk result (IsLater First walk.old.text level.now.view.now.paths walk.old.findings
+    ensures later { OnOk result (IsLater walk.old.rule walk.old.text level.now.view.now.paths walk.old.findings
         walk.new.findings) }
+    ensures marks { OnOk result (KeepsMarks (marking_at walk.new level.now.view.now) walk.new.place) }
     ensures text { OnOk result (walk.new.text ≡ walk.old.text) }
-    ensures err { IfErr result (IsStopFor (IsStop (container_at walk.old.text level.now).point
+    ensures rule { OnOk result (walk.new.rule ≡ walk.old.rule) }
+    ensures err { IfErr result (IsStopFor (IsStop (container_at walk.old.rule walk.old.text level.now).point
         level.now.needs)) }
 {
     let child = head(walk, level, passed)?;
@@ -170,8 +183,12 @@ fn is_wanted(walk: &Walk<'_>, level: &Level<'_, '_>, visited: &Visited) -> bool
 }
 
 // Passes what comes before the value of the item at the cursor: the number of the child that it is.
-fn head(walk: &mut Walk<'_>, level: &Level<'_, '_>, passed: usize) -> Result<Option<usize>, Stop>
-    ensures item { IfOk result (λ child. IsItem (container_at walk.old.text level.now) passed
+pub(crate) fn head(
+    walk: &mut Walk<'_>,
+    level: &Level<'_, '_>,
+    passed: usize,
+) -> Result<Option<usize>, Stop>
+    ensures item { IfOk result (λ child. IsItem (container_at walk.old.rule walk.old.text level.now) passed
         walk.old.place walk.new.place child) }
     ensures moved { OnOk result (walk.new ≡ record walk.old { place = walk.new.place }) }
     ensures later { OnOk result (walk.old.place ≤ walk.new.place) }

@@ -32,6 +32,9 @@ mod rawnumbers;
 // A plain program beside the walk.
 #[cfg(test)]
 mod reference;
+// Equal keys, by each rule.
+#[cfg(test)]
+mod rules;
 // Assertions as calls.
 #[cfg(test)]
 mod same;

@@ -1,5 +1,5 @@
 // Each path followed by itself, as plain as it gets, beside the walk that follows them all at once.
-ghost use Rattle.std.specs.Prelude.{◌≡◌, ◌≢◌, ◌+◌, ◌<◌, ◌≤◌, ℕ, List, [], ◌∷◌, Ok, true, false, length, IfOk, IfErr, IfSome, IfNone, OnOk};
+ghost use Rattle.std.specs.Prelude.{◌≡◌, ◌≢◌, ◌+◌, ◌<◌, ◌≤◌, ◌⊎◌, ℕ, List, [], ◌∷◌, Ok, true, false, length, IfOk, IfErr, IfSome, IfNone, OnOk};
 ghost use Rattle.sonic_text.specs.Paths.{Node};
 ghost use Rattle.sonic_text.specs.Strings.{strict};
 ghost use Rattle.sonic_text.specs.Values.{IsValue};
@@ -7,16 +7,16 @@ ghost use Rattle.sonic_text.specs.Faults.{IsFault, IsKeyFault};
 ghost use Rattle.sonic_pointer.specs.Nodes.{node_of, path_of};
 ghost use Rattle.sonic_parser.specs.Faults.{IsStopFor};
 ghost use Rattle.sonic_parser.specs.Parsers.{moved};
-ghost use Rattle.sonic_lazy.specs.Paths.{found, lacks, fails, cut, fails_at, empty_code, kind_of, nowhere, wanted_of, IsNamed, LeadsOn, Evaluates};
+ghost use Rattle.sonic_lazy.specs.Paths.{found, lacks, fails, cut, fails_at, empty_code, kind_of, nowhere, wanted_of, IsNamed, LeadsOn, LeadsBy, EvaluatesBy};
 
 use crate::lookups::{Paths, tree_of};
 use crate::same::same_at;
-use sonic_error::{ErrorCode, Note, Wanted};
+use sonic_error::{Error, ErrorCode, Note, Wanted};
 use sonic_input::{JsonSlice, Read};
-use sonic_lazy::{Span, find_many};
+use sonic_lazy::{LazyValue, Span, find_many, get_many_with};
 use sonic_parser::{Fault, Parser};
 use sonic_pointer::PointerNode::{Index, Key};
-use sonic_pointer::{PointerNode, PointerTree};
+use sonic_pointer::{KeyRule, PointerNode, PointerTree};
 use sonic_text::{Kind, Stop, byte_at, same_key, skip_space, type_of};
 use std::alloc::{AllocError, Global};
 use std::process::Abort;
@@ -119,8 +119,8 @@ fn seek(alloc: Global, parser: &mut Parser<'_>, node: &PointerNode<'_>) -> Resul
     }
 }
 
-// The place of the value that the node leads to, if it leads to one.
-fn step(
+// The place of the value that the node leads to by the first of equal keys, if it leads to one.
+fn plain_step(
     alloc: Global,
     text: &[u8],
     place: usize,
@@ -138,6 +138,132 @@ fn step(
         Ok(false) => Ok(None),
         Err(Fault::At(_)) => Ok(None),
         Err(Fault::OutOfMemory) => Err(AllocError),
+    }
+}
+
+// Where a node leads under a rule.
+#[derive(Clone, Copy)]
+enum Way {
+    // On to the value here.
+    On(usize),
+    // Nowhere, as its key comes twice, and that is refused at the second one, which is here.
+    Twice(usize),
+    // Nowhere.
+    Nowhere,
+}
+
+// Whether the first item that a node names is the one that counts: an array has no two with one index.
+fn first_counts(node: &PointerNode<'_>, rule: KeyRule) -> bool
+    ensures yes { result ≡ true
+        → (rule ≡ KeyRule.First) ⊎ (kind_of (node_of node.now) ≡ Kind.Array) }
+    ensures no { result ≡ false
+        → (rule ≢ KeyRule.First) × (kind_of (node_of node.now) ≡ Kind.Object) }
+{
+    match node {
+        Key(_) => rule == KeyRule::First,
+        Index(_) => true,
+    }
+}
+
+// Where a key has led, after one more item at `head`, with its value at `value`.
+fn after_item(way: Way, rule: KeyRule, named: bool, head: usize, value: usize) -> Way
+    ensures other { named ≡ false → result ≡ way }
+    ensures last { named ≡ true → rule ≡ KeyRule.Last → result ≡ Way.On value }
+    ensures first { named ≡ true → rule ≡ KeyRule.Refuse → way ≡ Way.Nowhere
+        → result ≡ Way.On value }
+    ensures second { named ≡ true → rule ≡ KeyRule.Refuse → (v : ℕ) → way ≡ Way.On v
+        → result ≡ Way.Twice head }
+    ensures more { named ≡ true → rule ≡ KeyRule.Refuse → (q : ℕ) → way ≡ Way.Twice q
+        → result ≡ way }
+    ensures either { (v : ℕ) → result ≡ Way.On v → (v ≡ value) ⊎ (way ≡ Way.On v) }
+{
+    if !named {
+        return way;
+    }
+    match (rule, way) {
+        (KeyRule::Refuse, Way::On(_)) => Way::Twice(head),
+        (KeyRule::Refuse, Way::Twice(_)) => way,
+        _ => Way::On(value),
+    }
+}
+
+// Goes over all items of the whole value here, and says where the node leads among them.
+fn look(
+    alloc: Global,
+    parser: &mut Parser<'_>,
+    node: &PointerNode<'_>,
+    rule: KeyRule,
+) -> Result<Way, Fault>
+    requires reads { parser.old.lossy ≡ strict }
+    requires whole { (end : ℕ) × IsValue strict parser.old.text parser.old.place end }
+    requires counts { rule ≢ KeyRule.First }
+    ensures on { (v : ℕ) → result ≡ Ok (Way.On v)
+        → LeadsBy rule parser.old.text parser.old.place (node_of node.now) v }
+    ensures within { (v : ℕ) → result ≡ Ok (Way.On v) → v ≤ length parser.old.text }
+    ensures twice { (q : ℕ) → result ≡ Ok (Way.Twice q) → (rest : List Node)
+        → EvaluatesBy rule parser.old.text parser.old.place (node_of node.now ∷ rest)
+        (fails_at q ErrorCode.DuplicateKey) }
+    ensures nowhere { result ≡ Ok Way.Nowhere → (v : ℕ)
+        → ¬ LeadsOn parser.old.text parser.old.place (node_of node.now) v }
+    ensures err { IfErr result (IsStopFor (λ s. ⊥)) }
+{
+    let kind = kind_of(node);
+    if byte_at(parser.text(), parser.offset()) != kind.opening() {
+        return Ok(Way::Nowhere);
+    }
+    if !parser.enter(kind) {
+        return Ok(Way::Nowhere);
+    }
+    let mut way = Way::Nowhere;
+    let mut passed = 0;
+    'items: loop {
+        let head = parser.offset();
+        let named = is_named(parser, node, passed)?;
+        let value = parser.offset();
+        parser.skip_value(alloc)?;
+        way = after_item(way, rule, named, head, value);
+        if !parser.next_item(kind)? {
+            return Ok(way);
+        }
+        passed += 1;
+    }
+}
+
+// Where the node leads under a rule. A key that isn't the first one that counts leads nowhere in a value that has a fault.
+fn step(
+    alloc: Global,
+    text: &[u8],
+    place: usize,
+    node: &PointerNode<'_>,
+    rule: KeyRule,
+) -> Result<Way, AllocError>
+    requires { place ≤ length text.now }
+    ensures on { (v : ℕ) → result ≡ Ok (Way.On v)
+        → LeadsBy rule text.now place (node_of node.now) v }
+    ensures within { (v : ℕ) → result ≡ Ok (Way.On v) → v ≤ length text.now }
+    ensures twice { (q : ℕ) → result ≡ Ok (Way.Twice q) → (rest : List Node)
+        → EvaluatesBy rule text.now place (node_of node.now ∷ rest)
+        (fails_at q ErrorCode.DuplicateKey) }
+    ensures nowhere { result ≡ Ok Way.Nowhere → (v : ℕ)
+        → ¬ LeadsBy rule text.now place (node_of node.now) v }
+    ensures whole { result ≡ Ok Way.Nowhere → (end : ℕ) → IsValue strict text.now place end
+        → (v : ℕ) → ¬ LeadsOn text.now place (node_of node.now) v }
+{
+    if first_counts(node, rule) {
+        return match plain_step(alloc, text, place, node)? {
+            Some(next) => Ok(Way::On(next)),
+            None => Ok(Way::Nowhere),
+        };
+    }
+    match value_end(alloc, text, place) {
+        Ok(_) => {}
+        Err(Fault::At(_)) => return Ok(Way::Nowhere),
+        Err(Fault::OutOfMemory) => return Err(AllocError),
+    }
+    let mut parser = parser_at(text, place);
+    match look(alloc, &mut parser, node, rule) {
+        Ok(way) => Ok(way),
+        Err(_) => Err(AllocError),
     }
 }
 
@@ -185,9 +311,10 @@ fn refusal(text: &[u8], start: usize, kind: Kind) -> Option<ErrorCode>
 // What is reported of a path that is used up, of the value here.
 fn value_here(alloc: Global, text: &[u8], place: usize) -> Result<Reported, AllocError>
     requires { place ≤ length text.now }
-    ensures found { (i j : ℕ) → result ≡ Ok (Reported.Found i j)
-        → Evaluates text.now place [] (found i j) }
-    ensures cut { (s : Stop) → result ≡ Ok (Reported.Cut s) → Evaluates text.now place [] (cut s) }
+    ensures found { (i j : ℕ) → result ≡ Ok (Reported.Found i j) → (rule : KeyRule)
+        → EvaluatesBy rule text.now place [] (found i j) }
+    ensures cut { (s : Stop) → result ≡ Ok (Reported.Cut s) → (rule : KeyRule)
+        → EvaluatesBy rule text.now place [] (cut s) }
     ensures lacks { (q : ℕ) → result ≢ Ok (Reported.Lacks q) }
     ensures fails { (s : Stop) → result ≢ Ok (Reported.Fails s) }
 {
@@ -204,16 +331,19 @@ fn miss(
     text: &[u8],
     place: usize,
     node: &PointerNode<'_>,
+    rule: KeyRule,
 ) -> Result<Reported, AllocError>
     requires within { place ≤ length text.now }
-    requires nowhere { (v : ℕ) → ¬ LeadsOn text.now place (node_of node.now) v }
+    requires nowhere { (v : ℕ) → ¬ LeadsBy rule text.now place (node_of node.now) v }
+    requires whole { (end : ℕ) → IsValue strict text.now place end
+        → (v : ℕ) → ¬ LeadsOn text.now place (node_of node.now) v }
     ensures found { (i j : ℕ) → result ≢ Ok (Reported.Found i j) }
     ensures lacks { (q : ℕ) → result ≡ Ok (Reported.Lacks q) → (rest : List Node)
-        → Evaluates text.now place (node_of node.now ∷ rest) (lacks q) }
+        → EvaluatesBy rule text.now place (node_of node.now ∷ rest) (lacks q) }
     ensures fails { (s : Stop) → result ≡ Ok (Reported.Fails s) → (rest : List Node)
-        → Evaluates text.now place (node_of node.now ∷ rest) (fails s) }
+        → EvaluatesBy rule text.now place (node_of node.now ∷ rest) (fails s) }
     ensures cut { (s : Stop) → result ≡ Ok (Reported.Cut s) → (rest : List Node)
-        → Evaluates text.now place (node_of node.now ∷ rest) (cut s) }
+        → EvaluatesBy rule text.now place (node_of node.now ∷ rest) (cut s) }
 {
     match value_end(alloc, text, place) {
         Ok(end) => {
@@ -228,42 +358,48 @@ fn miss(
     }
 }
 
-// Where a path leads in the value at a place.
+// Where a path leads under a rule in the value at a place.
 fn follow(
     alloc: Global,
     text: &[u8],
     place: usize,
     path: &[PointerNode<'_>],
+    rule: KeyRule,
 ) -> Result<Reported, AllocError>
     requires { place ≤ length text.now }
     ensures found { (i j : ℕ) → result ≡ Ok (Reported.Found i j)
-        → Evaluates text.now place (path_of path.now) (found i j) }
+        → EvaluatesBy rule text.now place (path_of path.now) (found i j) }
     ensures lacks { (q : ℕ) → result ≡ Ok (Reported.Lacks q)
-        → Evaluates text.now place (path_of path.now) (lacks q) }
+        → EvaluatesBy rule text.now place (path_of path.now) (lacks q) }
     ensures fails { (s : Stop) → result ≡ Ok (Reported.Fails s)
-        → Evaluates text.now place (path_of path.now) (fails s) }
+        → EvaluatesBy rule text.now place (path_of path.now) (fails s) }
     ensures cut { (s : Stop) → result ≡ Ok (Reported.Cut s)
-        → Evaluates text.now place (path_of path.now) (cut s) }
+        → EvaluatesBy rule text.now place (path_of path.now) (cut s) }
 {
     let Some((node, rest)) = path.split_first() else {
         return value_here(alloc, text, place);
     };
-    match step(alloc, text, place, node)? {
-        Some(next) => follow(alloc, text, next, rest),
-        None => miss(alloc, text, place, node),
+    match step(alloc, text, place, node, rule)? {
+        Way::On(next) => follow(alloc, text, next, rest, rule),
+        Way::Twice(quote) => {
+            let code = ErrorCode::DuplicateKey;
+            Ok(Reported::Fails(Stop { place: quote, code }))
+        }
+        Way::Nowhere => miss(alloc, text, place, node, rule),
     }
 }
 
-// Where each path leads, in order.
+// Where each path leads under a rule, in order.
 fn follow_all(
     alloc: Global,
     text: &[u8],
     paths: &[&[PointerNode<'_>]],
+    rule: KeyRule,
 ) -> Result<Vec<Reported>, AllocError> {
     let start = skip_space(text, 0);
     let mut all = Vec::new(alloc);
     for path in paths {
-        all.push(follow(alloc, text, start, path)?)?;
+        all.push(follow(alloc, text, start, path, rule)?)?;
     }
     Ok(all)
 }
@@ -309,16 +445,17 @@ fn span(reported: &Reported) -> Option<Span> {
 // The spans that paths are answered with, or the one stop.
 type Answered = Result<Vec<Option<Span>>, Stop>;
 
-// What paths are answered over bytes.
+// What paths are answered over bytes, under a rule.
 fn plain_answer(
     alloc: Global,
     text: &[u8],
     paths: &[&[PointerNode<'_>]],
+    rule: KeyRule,
 ) -> Result<Answered, AllocError> {
     if paths.is_empty() {
         return Ok(Ok(Vec::new(alloc)));
     }
-    let all = follow_all(alloc, text, paths)?;
+    let all = follow_all(alloc, text, paths, rule)?;
     if let Some(stop) = nearest(&all) {
         return Ok(Err(stop));
     }
@@ -336,6 +473,14 @@ fn plain_answer(
         return Ok(Err(Stop { place, code }));
     }
     Ok(Ok(all.iter().map(span).collect(alloc)?))
+}
+
+// Checks that an error has the plain program's code and place. At the end of a text the offset of
+// an error is that of the last byte.
+fn check_error(rt: &impl Abort, text: &[u8], paths: Paths, error: Error, stop: Stop) {
+    let last = text.len().saturating_sub(1);
+    same_at(rt, error.code(), stop.code, (text, paths));
+    same_at(rt, error.offset(), stop.place.min(last), (text, paths));
 }
 
 const LISTS: [Paths; 11] = [
@@ -385,8 +530,7 @@ fn text_of_number(
     Ok(text)
 }
 
-// Checks that the walk finds in a text what the plain program finds, or the same error. At the end
-// of a text the offset of an error is that of the last byte.
+// Checks that the walk finds in a text what the plain program finds, or the same error.
 fn check_text(
     rt: &impl Abort,
     alloc: Global,
@@ -397,14 +541,10 @@ fn check_text(
     let mut found = vec![in alloc; None; tree.size()]?;
     match (
         find_many(alloc, text, tree, &mut found),
-        plain_answer(alloc, text, paths)?,
+        plain_answer(alloc, text, paths, KeyRule::First)?,
     ) {
         (Ok(()), Ok(spans)) => assert!(rt; found == spans, "{text:?} {paths:?}"),
-        (Err(error), Err(stop)) => {
-            let last = text.len().saturating_sub(1);
-            same_at(rt, error.code(), stop.code, (text, paths));
-            same_at(rt, error.offset(), stop.place.min(last), (text, paths));
-        }
+        (Err(error), Err(stop)) => check_error(rt, text, paths, error, stop),
         (Ok(()), Err(_)) => panic!(rt; "no error in {text:?} for {paths:?}"),
         (Err(_), Ok(_)) => panic!(rt; "an error in {text:?} for {paths:?}"),
     }
@@ -459,6 +599,151 @@ fn finds_in_all_texts_of_few_pieces_what_the_plain_program_finds(
 ) -> Result<(), Fail> {
     for &paths in &LISTS {
         check_paths(&rt, rt.alloc(), &PIECES, paths)?;
+    }
+    Ok(())
+}
+
+// Lists for texts with equal keys.
+const RULED: [Paths; 4] = [
+    &[&[Key("a")]],
+    &[&[Key("a"), Key("a")], &[Key("b")]],
+    &[&[Key("a")], &[Key("a"), Index(0)]],
+    &[&[Index(0), Key("a")], &[Index(1), Key("a")]],
+];
+
+// The bytes that make containers, with keys of one letter.
+const TOKENS: [&[u8]; 7] = [b"{", b"}", b"[", b"]", b",", b"\"a\":", b"\"b\":"];
+
+// Longer pieces, of which a few make objects in objects with equal keys.
+const MEMBERS: [&[u8]; 7] = [b"{\"a\":", b",\"a\":", b",\"b\":", b"}", b"[", b"]", b","];
+
+// And lists for what is below them.
+const BELOW: [Paths; 3] = [
+    &[&[Key("a"), Key("a")], &[Key("a"), Key("b")]],
+    &[&[Key("a"), Key("a")], &[Key("b"), Key("b")]],
+    &[&[Key("a"), Index(0)], &[Key("a")], &[Key("b")]],
+];
+
+// Pieces that hold whole values too, so that a member with one of equal keys hides another.
+const VALUES: [&[u8]; 7] = [
+    b"{\"a\":",
+    b",\"a\":",
+    b",\"b\":",
+    b"}",
+    b"{\"b\":0}",
+    b"[0]",
+    b"{}",
+];
+
+// The eighth piece is a number: that of its place among the pieces, so that no two are equal.
+const NUMBERS: [&[u8]; 7] = [b"1", b"2", b"3", b"4", b"5", b"6", b"7"];
+
+// How many texts of eight pieces there are of each length.
+const COUNTS: [usize; 8] = [1, 8, 64, 512, 4_096, 32_768, 262_144, 2_097_152];
+
+// The text number `n` among all those of `length` pieces and numbers.
+fn numbered_text(
+    alloc: Global,
+    pieces: &[&[u8]; 7],
+    mut n: usize,
+    length: usize,
+) -> Result<Vec<u8>, Fail> {
+    let mut text = Vec::new(alloc);
+    for number in NUMBERS.iter().take(length) {
+        match pieces.get(n % 8) {
+            Some(piece) => text.extend_from_slice(piece)?,
+            None => text.extend_from_slice(number)?,
+        }
+        n /= 8;
+    }
+    Ok(text)
+}
+
+// Whether a value is what stands in the text at a span, or neither is there.
+fn stands_at(text: &[u8], value: &Option<LazyValue<'_>>, span: &Option<Span>) -> bool {
+    match (value, span) {
+        (Some(value), Some(Span { start, end })) => {
+            text.get(*start..*end) == Some(value.as_raw_str().as_bytes())
+        }
+        (None, None) => true,
+        _ => false,
+    }
+}
+
+// Checks that values are what stands in the text at the spans.
+fn check_spans(
+    rt: &impl Abort,
+    text: &[u8],
+    paths: Paths,
+    values: &[Option<LazyValue<'_>>],
+    spans: &[Option<Span>],
+) {
+    same_at(rt, values.len(), spans.len(), (text, paths));
+    for (value, span) in values.iter().zip(spans) {
+        let stands = stands_at(text, value, span);
+        assert!(rt; stands, "{text:?} {paths:?} {span:?}");
+    }
+}
+
+// Checks that a look-up under a rule answers what the plain program does.
+fn check_rule(
+    rt: &impl Abort,
+    alloc: Global,
+    text: &[u8],
+    (paths, tree): (Paths, &PointerTree),
+    rule: KeyRule,
+) -> Result<(), Fail> {
+    match (
+        get_many_with(alloc, text, tree, rule),
+        plain_answer(alloc, text, paths, rule)?,
+    ) {
+        (Ok(values), Ok(spans)) => check_spans(rt, text, paths, &values, &spans),
+        (Err(error), Err(stop)) => check_error(rt, text, paths, error, stop),
+        (Ok(_), Err(_)) => panic!(rt; "no error in {text:?} for {paths:?} under {rule:?}"),
+        (Err(_), Ok(_)) => panic!(rt; "an error in {text:?} for {paths:?} under {rule:?}"),
+    }
+    Ok(())
+}
+
+// Checks all texts of up to seven pieces and numbers under each rule.
+fn check_rules(
+    rt: &impl Abort,
+    alloc: Global,
+    pieces: &[&[u8]; 7],
+    paths: Paths,
+) -> Result<(), Fail> {
+    let tree = tree_of(rt, alloc, paths);
+    for (length, count) in COUNTS.iter().enumerate() {
+        for n in 0..*count {
+            let text = numbered_text(alloc, pieces, n, length)?;
+            check_rule(rt, alloc, &text, (paths, &tree), KeyRule::First)?;
+            check_rule(rt, alloc, &text, (paths, &tree), KeyRule::Last)?;
+            check_rule(rt, alloc, &text, (paths, &tree), KeyRule::Refuse)?;
+        }
+    }
+    Ok(())
+}
+
+#[test]
+fn answers_all_texts_of_few_tokens_under_each_rule(rt: HostRuntime) -> Result<(), Fail> {
+    for &paths in &RULED {
+        check_rules(&rt, rt.alloc(), &TOKENS, paths)?;
+    }
+    Ok(())
+}
+
+#[test]
+fn answers_all_texts_of_few_members_under_each_rule(rt: HostRuntime) -> Result<(), Fail> {
+    for &paths in &RULED {
+        check_rules(&rt, rt.alloc(), &MEMBERS, paths)?;
+    }
+    Ok(())
+}
+
+#[test]
+fn answers_all_texts_of_few_values_under_each_rule(rt: HostRuntime) -> Result<(), Fail> {
+    for &paths in &BELOW {
+        check_rules(&rt, rt.alloc(), &VALUES, paths)?;
     }
     Ok(())
 }

@@ -4,6 +4,7 @@ mod LeavingLemmas
 mod NodeLemmas
 mod PathLemmas
 mod PiecesLemmas
+mod PrefixLemmas
 mod VertexLemmas
 mod ShapeLemmas
 pub mod TreeLemmas

@@ -47,6 +47,10 @@ spot_at spots number = slice_index_or spots number (record { prefix = []; orders
 abbrev pub prefix_at : List Spot → ℕ → Path
 prefix_at spots number = (spot_at spots number).prefix
 
+-- the prefixes of all vertices, by their numbers
+abbrev pub prefixes_of : List Spot → List Path
+prefixes_of spots = map (λ (spot : Spot). spot.prefix) spots
+
 -- the last node of a path that isn't empty
 abbrev pub last_node : Path → Node
 last_node path = slice_index_or path (length path - 1) (index 0)

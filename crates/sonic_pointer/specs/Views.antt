@@ -1,14 +1,19 @@
 -- A vertex of a tree, as its callers see it.
-use Rattle.std.specs.Prelude.{◌≡◌, Bool, true, false, List}
+use Rattle.std.specs.Prelude.{◌≡◌, ℕ, Bool, true, false, List, Some, slice_get}
 use Rattle.sonic_text.specs.Paths.{Node}
 use Rattle.sonic_pointer.specs.Nodes.{is_key}
 use Rattle.sonic_pointer.specs.Paths.{HasNext}
 use Rattle.sonic_pointer.specs.declared.branch.Branch.{Branch}
 use Rattle.sonic_pointer.specs.declared.branch.Branch.TheVariants.{Leaf, Keys, Indexes}
 
--- the tree's paths, a prefix of them, and the nodes that follow it
+-- each prefix of a list has one number in it
+abbrev pub HaveOneNumber : List (List Node) → Type 0
+HaveOneNumber prefixes = (i j : ℕ) (prefix : List Node) → slice_get prefixes i ≡ Some prefix → slice_get prefixes j ≡ Some prefix → i ≡ j
+
+-- the tree's paths, the prefixes of these by their numbers, one of them, and the nodes that follow it
 pub record View : Type 0 where
   pub paths : List (List Node)
+  pub prefixes : List (List Node)
   pub prefix : List Node
   pub children : List Node
 

@@ -4,7 +4,7 @@ ghost use Rattle.sonic_text.specs.Strings.{IsString, strict};
 ghost use Rattle.sonic_text.specs.Paths.{Node, key, index};
 ghost use Rattle.sonic_pointer.specs.Nodes.{node_of};
 ghost use Rattle.sonic_pointer.specs.Paths.{HasNext, IsOrders, IsChildren};
-ghost use Rattle.sonic_pointer.specs.Views.{IsBranch};
+ghost use Rattle.sonic_pointer.specs.Views.{HaveOneNumber, IsBranch};
 
 use crate::branch::Branch;
 use crate::node::PointerNode;
@@ -15,8 +15,8 @@ use std::marker::Model;
 
 /// A prefix of the paths in a tree, with the nodes that follow it.
 ///
-/// A clause sees the tree's paths, the prefix and its children, the nodes that follow the prefix
-/// in some path. No call takes memory.
+/// A clause sees the tree's paths, the prefixes of these by their numbers, the prefix and its
+/// children, the nodes that follow the prefix in some path. No call takes memory.
 ///
 /// ```text
 /// let mut tree = PointerTree::new(alloc);
@@ -66,6 +66,25 @@ impl<'t> TreeView<'t> {
         position.orders()
     }
 
+    /// The number of this prefix among the [`prefixes`](TreeView::prefixes) of the tree, from 0 on.
+    ///
+    /// What is kept for each prefix stands under it in one list: under 0 what is kept for the root.
+    pub fn number(&self) -> usize
+        ensures { slice_get self.now.prefixes result ≡ Some self.now.prefix }
+    {
+        self.at
+    }
+
+    /// How many different prefixes the paths of the tree have, the empty one among them.
+    ///
+    /// The paths `["a", 1]` and `["a"]` have three: the root's, `["a"]` and `["a", 1]`.
+    pub fn prefixes(&self) -> usize
+        ensures count { result ≡ length self.now.prefixes }
+        ensures one { HaveOneNumber self.now.prefixes }
+    {
+        self.shape.vertices.len() + 1
+    }
+
     /// What follows here.
     ///
     /// After the paths `["a", 1]` and `["a"]` it is `Keys` for the root and `Indexes` for `["a"]`.
@@ -92,6 +111,7 @@ impl<'t> TreeView<'t> {
         requires { i < length self.now.children }
         ensures node { slice_get self.now.children i ≡ Some (node_of result.0) }
         ensures paths { result.1.paths ≡ self.now.paths }
+        ensures prefixes { result.1.prefixes ≡ self.now.prefixes }
         ensures prefix { result.1.prefix ≡ self.now.prefix ++ node_of result.0 ∷ [] }
     {
         let at = self.shape.children(self.at).get(i);

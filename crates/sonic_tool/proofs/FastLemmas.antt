@@ -5,6 +5,7 @@ use Rattle.sonic_lazy.proofs.DocumentLemmas.{reason_one}
 use Rattle.sonic_lazy.specs.Documents.{IsInvalidError, out_of_memory, invalid as invalid_by}
 use Rattle.sonic_text.specs.Paths.{Path}
 use Rattle.sonic_tool.proofs.EditLemmas.{one_verdict}
+use Rattle.sonic_pointer.specs.declared.rule.KeyRule.TheVariants.{First}
 use Rattle.sonic_tool.proofs.GetLemmas.{Same, SomeText, HaveOneReport, paths_report_one, paths_report_some, input_report_one, input_report_some}
 use Rattle.sonic_tool.proofs.ReplyLemmas.{line_at}
 use Rattle.sonic_tool.specs.Commands.Fast.{ReportsValid, invalid, valid, IsFastReport}
@@ -17,12 +18,12 @@ valid_report_one : HaveOneReport ReportsValid
 valid_report_one document paths text other status ending (invalid s i q z) (invalid r j p y) = (p ∙ rw (reason_one j i) (sym q), y ∙ sym z)
 valid_report_one document paths text other status ending (invalid s i q z) (valid v r) = absurd ((one_verdict document).never_both s v i)
 valid_report_one document paths text other status ending (valid v r) (invalid s i q z) = absurd ((one_verdict document).never_both s v i)
-valid_report_one document paths text other status ending (valid v r) (valid w s) = paths_report_one document paths text other status ending r s
+valid_report_one document paths text other status ending (valid v r) (valid w s) = paths_report_one First document paths text other status ending r s
 
 -- and some
 valid_report_some : (document : List ℕ) (paths : List Path) → SomeText (ReportsValid document paths)
 valid_report_some document paths = elim (one_verdict document).some_reason [
-  | inl v ↦ (let r = paths_report_some document paths in (r.0, r.1, valid v r.2))
+  | inl v ↦ (let r = paths_report_some First document paths in (r.0, r.1, valid v r.2))
   | inr (s, i) ↦ (_, _, invalid s i refl refl)
 ]
 

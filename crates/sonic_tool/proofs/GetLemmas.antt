@@ -2,13 +2,14 @@
 use Rattle.std.proofs.Common.{◌≡◌, inl, inr, ℕ, Bool, true, List, [], map, drop, arith, refl, sym, ◌∙◌}
 use Rattle.std.specs.declared.option.Option.{Option}
 use Rattle.sonic_text.specs.Paths.{Path}
-use Rattle.sonic_lazy.specs.Answers.{Span, span_of, Answer, IsAnswer, no_more, no_path, finding, spans, error}
-use Rattle.sonic_lazy.specs.Causes.{IsAnswerable}
+use Rattle.sonic_lazy.specs.Answers.{Span, span_of, Answer, IsAnswerBy, no_more, no_path, finding, spans, error}
+use Rattle.sonic_lazy.specs.Causes.{IsAnswerableBy}
 use Rattle.sonic_lazy.specs.Causes.IsAnswerableBy.{nothing_asked, all_reported}
-use Rattle.sonic_lazy.proofs.AnswerLemmas.One.{answer_one}
+use Rattle.sonic_lazy.proofs.AnswerLemmas.One.{answer_by_one}
+use Rattle.sonic_pointer.specs.declared.rule.KeyRule.{KeyRule}
 use Rattle.sonic_tool.specs.declared.status.Status.{Status}
 use Rattle.sonic_tool.specs.declared.status.Status.TheVariants.{Done}
-use Rattle.sonic_tool.specs.Commands.Get.{IsAnswerReport, ReportsPaths, IsPathsReport, IsGetReport, IsAnswerableInput}
+use Rattle.sonic_tool.specs.Commands.Get.{IsAnswerReport, ReportsPathsBy, IsPathsReport, IsGetReport, IsAnswerableInput}
 use Rattle.sonic_tool.specs.Commands.Get.IsAnswerReport.{entry_lines, error_line}
 use Rattle.sonic_tool.specs.Commands.Get.IsPathsReport.{bad_line, answered}
 use Rattle.sonic_paths.specs.Lines.{AreLines, IsFirstBadLine}
@@ -42,16 +43,16 @@ HaveOneReport Reports =
     → Same text status other ending
 
 -- so have they by `get`
-pub paths_report_one : HaveOneReport ReportsPaths
-paths_report_one document paths text other status ending r s =
-    let e : s.answer ≡ r.answer = (answer_one document true paths).one s.answer r.answer s.answers r.answers in
+pub paths_report_one : (rule : KeyRule) → HaveOneReport (ReportsPathsBy rule)
+paths_report_one rule document paths text other status ending r s =
+    let e : s.answer ≡ r.answer = (answer_by_one rule document true paths).one s.answer r.answer s.answers r.answers in
     let moved : IsAnswerReport document r.answer other ending = rw e at s.report in
     answer_report_one r.report moved
 
 -- and some
-pub paths_report_some : (document : List ℕ) (paths : List Path) → SomeText (ReportsPaths document paths)
-paths_report_some document paths =
-    let one = answer_one document true paths in
+pub paths_report_some : (rule : KeyRule) (document : List ℕ) (paths : List Path) → SomeText (ReportsPathsBy rule document paths)
+paths_report_some rule document paths =
+    let one = answer_by_one rule document true paths in
     let r = answer_report_some document one.some.0 in
     (r.0, r.1, record { answer = one.some.0; answers = one.some.1; report = r.2 })
 
@@ -85,21 +86,23 @@ input_report_some some input =
     ]
 
 -- so an input has one report by `get`
-pub get_report_one : {input text other : List ℕ} {status ending : Status} → IsGetReport input text status → IsGetReport input other ending → Same text status other ending
-get_report_one = input_report_one paths_report_one
+pub get_report_one : (rule : KeyRule) {input text other : List ℕ} {status ending : Status} → IsGetReport rule input text status → IsGetReport rule input other ending
+    → Same text status other ending
+get_report_one rule = input_report_one (paths_report_one rule)
 
 -- an input has some report by `get`
-pub get_report_some : (input : List ℕ) → SomeText (IsGetReport input)
-get_report_some = input_report_some paths_report_some
+pub get_report_some : (rule : KeyRule) (input : List ℕ) → SomeText (IsGetReport rule input)
+get_report_some rule = input_report_some (paths_report_some rule)
 
 -- paths that can be answered are answered with spans
-with_spans : {t : List ℕ} {is_bytes : Bool} {paths : List Path} → IsAnswerable t is_bytes paths → (entries : List (Option Span)) × IsAnswer t is_bytes paths (spans entries)
+with_spans : {rule : KeyRule} {t : List ℕ} {is_bytes : Bool} {paths : List Path} → IsAnswerableBy rule t is_bytes paths
+    → (entries : List (Option Span)) × IsAnswerBy rule t is_bytes paths (spans entries)
 with_spans (nothing_asked e) = ([], rw e (record { outcomes = []; lead = no_more; come_to = no_path }))
 with_spans (all_reported os r leads fails cuts reach utf8) =
     (map span_of os, record { outcomes = os; lead = leads; come_to = finding fails cuts reach utf8 refl })
 
 -- an input that is answerable has a report with the status 0
-pub answerable_report : {input : List ℕ} → IsAnswerableInput input → (text : List ℕ) × IsGetReport input text Done
+pub answerable_report : {rule : KeyRule} {input : List ℕ} → IsAnswerableInput rule input → (text : List ℕ) × IsGetReport rule input text Done
 answerable_report {input} i =
     let a = with_spans i.answerable in
     (_, answered i.head i.say (record { answer = spans a.0; answers = a.1; report = entry_lines refl refl }))

@@ -9,8 +9,9 @@ use Rattle.sonic_error.specs.declared.error.Error.{Error}
 use Rattle.sonic_error.specs.Errors.{IsErrorAt}
 use Rattle.sonic_lazy.specs.declared.lazyvalue.LazyValue.{LazyValue}
 use Rattle.sonic_lazy.specs.Answers.{Span, spans, error}
-use Rattle.sonic_lazy.specs.Shown.{Shows, shows_none, shows_span, ShowAll, no_more_values, one_more_value, AreValues}
-use Rattle.sonic_lazy.specs.Causes.{IsRefusal, out_of_memory}
+use Rattle.sonic_lazy.specs.Shown.{Shows, shows_none, shows_span, ShowAll, no_more_values, one_more_value, AreValuesBy}
+use Rattle.sonic_lazy.specs.Causes.{IsRefusalBy, out_of_memory}
+use Rattle.sonic_pointer.specs.declared.rule.KeyRule.{KeyRule}
 use Rattle.sonic_lazy.specs.Causes.IsRefusalBy.{answered as refused}
 use Rattle.std.specs.declared.vec.Vec.{Vec}
 use Rattle.sonic_paths.specs.Lines.{SaysPaths}
@@ -20,7 +21,7 @@ use Rattle.sonic_tool.specs.declared.status.Status.{Status}
 use Rattle.sonic_tool.specs.declared.status.Status.TheVariants.{Done}
 use Rattle.sonic_tool.specs.ErrorLines.{line_of_error}
 use Rattle.sonic_tool.specs.Internal.Replies.{text_of, line_of_value, IsLineOf, IsBadLineReply, IsValuesReply, IsErrorReply, IsAnswerReply}
-use Rattle.sonic_tool.specs.Commands.Get.{ReportsPaths, IsPathsReport, line_of_entry}
+use Rattle.sonic_tool.specs.Commands.Get.{ReportsPathsBy, IsPathsReport, line_of_entry}
 use Rattle.sonic_tool.specs.Commands.Get.IsAnswerReport.{entry_lines, error_line}
 use Rattle.sonic_tool.specs.Commands.Get.IsPathsReport.{bad_line}
 
@@ -55,14 +56,14 @@ pub line_at : {document text : List ℕ} {code : ErrorCode} {place : ℕ} {refus
     → text ≡ line_of_error document code place
 line_at at line = rw (← at.code, ← at.line, ← at.column, ← at.offset) line.is
 
-module _ {document : List ℕ} {paths : List Path} {reply : Reply} where
+module _ {document : List ℕ} {paths : List Path} {reply : Reply} {rule : KeyRule} where
   -- the lines of the values are the report of the paths
-  report_values : {values : List (Option LazyValue)} → AreValues document true paths values → IsValuesReply values reply
-      → ReportsPaths document paths (text_of reply) reply.status
+  report_values : {values : List (Option LazyValue)} → AreValuesBy rule document true paths values → IsValuesReply values reply
+      → ReportsPathsBy rule document paths (text_of reply) reply.status
   report_values v r = record { answer = spans v.entries; answers = v.answer; report = entry_lines (r.text ∙ lines_same v.shown) r.status }
 
   -- so is the line of the error
-  report_refusal : {refusal : Error} → IsRefusal document true paths refusal → IsErrorReply refusal reply → ReportsPaths document paths (text_of reply) reply.status
+  report_refusal : {refusal : Error} → IsRefusalBy rule document true paths refusal → IsErrorReply refusal reply → ReportsPathsBy rule document paths (text_of reply) reply.status
   report_refusal (out_of_memory plain) r = absurd (r.line.memory plain.code)
   report_refusal (refused stop answers at) r = record {
     answer = error stop;
@@ -71,8 +72,8 @@ module _ {document : List ℕ} {paths : List Path} {reply : Reply} where
   }
 
 -- so an answer of the paths is reported
-pub report_of_answer : {document : List ℕ} {paths : List Path} {A : Type 0} (reply : Reply) (answer : Result (Vec (Option LazyValue) A) Error) → IfOk answer (λ values. AreValues document true paths values.items)
-    → IfErr answer (IsRefusal document true paths) → IsAnswerReply answer reply → ReportsPaths document paths (text_of reply) reply.status
+pub report_of_answer : {document : List ℕ} {paths : List Path} {A : Type 0} {rule : KeyRule} (reply : Reply) (answer : Result (Vec (Option LazyValue) A) Error) → IfOk answer (λ values. AreValuesBy rule document true paths values.items)
+    → IfErr answer (IsRefusalBy rule document true paths) → IsAnswerReply answer reply → ReportsPathsBy rule document paths (text_of reply) reply.status
 report_of_answer reply (Ok values) ok err r = report_values ok r
 report_of_answer reply (Err refusal) ok err r = report_refusal err r
 

@@ -3,12 +3,14 @@ use Rattle.std.proofs.Common.{◌≡◌, ◌⊎◌, ◌∙◌, inl, inr, ℕ, �
 use Rattle.std.specs.Prelude.{◌==◌, if◌then◌else◌}
 use Rattle.std.proofs.lemmas.Bool.{cases_lt}
 use Rattle.std.specs.Str.Parse.{digits_value}
+use Rattle.sonic_pointer.specs.declared.rule.KeyRule.{KeyRule}
+use Rattle.sonic_pointer.specs.declared.rule.KeyRule.TheVariants.{First, Last, Refuse}
 use Rattle.sonic_tool.specs.declared.commands.Command.{Command}
 use Rattle.sonic_tool.specs.declared.commands.Command.TheVariants.{Get, List as Items, Edit, Fill, Fast, Gen}
 use Rattle.sonic_tool.specs.declared.outside.reading.TheConstants.{LIMIT}
 use Rattle.sonic_tool.specs.declared.status.Status.{Status}
 use Rattle.sonic_tool.specs.declared.status.Status.TheVariants.{Done, NoMemory}
-use Rattle.sonic_tool.specs.Commands.{Asks, no_word, get_word, list_word, edit_word, fill_word, fast_word, gen_words, Reads}
+use Rattle.sonic_tool.specs.Commands.{Asks, no_word, get_word, list_word, edit_word, fill_word, fast_word, gen_words, keys_words, rule_word, Reads}
 use Rattle.sonic_tool.specs.Commands.Get.{IsAnswerableInput}
 use Rattle.sonic_tool.specs.Laws.{HasOneReport}
 use Rattle.sonic_tool.specs.Reports.{Writes, IsReport}
@@ -21,13 +23,24 @@ use Rattle.sonic_tool.proofs.GeneratedLemmas.{gen_report_one, gen_report_some}
 use Rattle.sonic_tool.proofs.GetLemmas.{Same, SomeText, get_report_one, get_report_some, answerable_report}
 use Rattle.sonic_tool.proofs.ListLemmas.{list_report_one, list_report_some}
 
+-- the rule that a word names, by its first letter
+abbrev rule_by : List ℕ → KeyRule
+rule_by word =
+    let letter = get_or word 0 0 in
+    if letter == 108 then Last else if letter == 114 then Refuse else First
+
+rule_back : (rule : KeyRule) → rule_by (rule_word rule) ≡ rule
+rule_back First = refl
+rule_back Last = refl
+rule_back Refuse = refl
+
 -- the command that words ask for, if they ask for one, by the first letters of the first word and by the digits of the next
 abbrev asked_by : List (List ℕ) → Command
 asked_by words =
     let word = get_or words 0 [] in
     let letter = get_or word 0 0 in
     if letter == 108 then Items else if letter == 101 then Edit else if letter == 102 then if get_or word 1 0 == 97 then Fast else Fill
-    else if get_or word 2 0 == 110 then Gen (digits_value 10 (get_or words 1 [])) else Get
+    else if get_or word 2 0 == 110 then Gen (digits_value 10 (get_or words 1 [])) else Get (rule_by (get_or words 2 []))
 
 asks_this : {words : List (List ℕ)} {a : Command} → Asks words a → a ≡ asked_by words
 asks_this (no_word e) = sym (ap asked_by e)
@@ -36,6 +49,7 @@ asks_this (list_word e) = sym (ap asked_by e)
 asks_this (edit_word e) = sym (ap asked_by e)
 asks_this (fill_word e) = sym (ap asked_by e)
 asks_this (fast_word e) = sym (ap asked_by e)
+asks_this (keys_words {r} e) = sym (ap asked_by e ∙ ap Get (rule_back r))
 asks_this (gen_words {n} e least most) = sym (ap asked_by e ∙ ap Gen (value_of_decimal n most))
 
 -- words ask for one command
@@ -45,7 +59,7 @@ asks_one x y = asks_this x ∙ sym (asks_this y)
 -- each command writes one report
 writes_one : (command : Command) (input text other : List ℕ) (status ending : Status) → Writes command input text status → Writes command input other ending
     → Same text status other ending
-writes_one Get input text other status ending r s = get_report_one r s
+writes_one (Get rule) input text other status ending r s = get_report_one rule r s
 writes_one Items input text other status ending r s = list_report_one r s
 writes_one Edit input text other status ending r s = edit_report_one r s
 writes_one Fill input text other status ending r s = fill_report_one r s
@@ -54,7 +68,7 @@ writes_one (Gen n) input text other status ending r s = gen_report_one r s
 
 -- of each input
 writes_some : (command : Command) (input : List ℕ) → SomeText (Writes command input)
-writes_some Get input = get_report_some input
+writes_some (Get rule) input = get_report_some rule input
 writes_some Items input = list_report_some input
 writes_some Edit input = edit_report_some input
 writes_some Fill input = fill_report_some input
@@ -104,11 +118,11 @@ has_one_report words input =
     record { text = r.0; status = r.1; report = r.2; only = λ other ending s. report_one r.2 s }
 
 -- an input that is answerable is answered with the status 0
-pub answered_done : {words : List (List ℕ)} {input : List ℕ} → Asks words Get → IsAnswerableInput input → (text : List ℕ) × IsReport words input text Done
+pub answered_done : {words : List (List ℕ)} {rule : KeyRule} {input : List ℕ} → Asks words (Get rule) → IsAnswerableInput rule input → (text : List ℕ) × IsReport words input text Done
 answered_done asks i = let r = answerable_report i in (r.0, written asks (λ _. i.within) r.1)
 
 -- so a run ends that ends with the status of each report or out of memory
 pub done_surely : {words : List (List ℕ)} {input : List ℕ} {ending : Status}
-    → ((text : List ℕ) (status : Status) → IsReport words input text status → (ending ≡ status) ⊎ (ending ≡ NoMemory)) → Asks words Get → IsAnswerableInput input
-    → (ending ≡ Done) ⊎ (ending ≡ NoMemory)
-done_surely ends asks i = let r = answered_done asks i in ends r.0 Done r.1
+    → ((text : List ℕ) (status : Status) → IsReport words input text status → (ending ≡ status) ⊎ (ending ≡ NoMemory)) → (rule : KeyRule) → Asks words (Get rule)
+    → IsAnswerableInput rule input → (ending ≡ Done) ⊎ (ending ≡ NoMemory)
+done_surely ends rule asks i = let r = answered_done asks i in ends r.0 Done r.1

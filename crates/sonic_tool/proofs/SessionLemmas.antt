@@ -4,6 +4,7 @@ use Rattle.std.specs.Prelude.{IfSome}
 use Rattle.std.specs.declared.option.Option.{Option}
 use Rattle.std.specs.Io.KnownBytes.{IsAtEnd}
 use Rattle.sonic_lazy.specs.Answers.{Answer}
+use Rattle.sonic_pointer.specs.declared.rule.KeyRule.{KeyRule}
 use Rattle.sonic_tool.specs.declared.commands.Command.{Command}
 use Rattle.sonic_tool.specs.declared.commands.Command.TheVariants.{Get, List as Items, Edit, Fill, Fast, Gen}
 use Rattle.sonic_tool.specs.declared.outside.reading.TheConstants.{LIMIT}
@@ -74,7 +75,7 @@ paths_status of_document (bad_line h b t) = inr (inr refl)
 paths_status {input = input} of_document (answered {paths = paths} {d = d} h a r) = of_document (drop d input) paths r
 
 -- so does a report by `get`
-get_status : {input text : List ℕ} {ending : Status} → IsGetReport input text ending → IsOfInput ending
+get_status : {rule : KeyRule} {input text : List ℕ} {ending : Status} → IsGetReport rule input text ending → IsOfInput ending
 get_status = paths_status (λ document paths r. answer_status r.report)
 
 -- what comes of a document that is judged whole
@@ -138,7 +139,7 @@ pub record IsPrepared (run : Session) (text : List ℕ) (ending : Status) : Type
 
 -- what a command writes goes with a status of a whole input
 written_status : (command : Command) (input text : List ℕ) (ending : Status) → Writes command input text ending → IsOfInput ending
-written_status Get input text ending r = get_status r
+written_status (Get rule) input text ending r = get_status r
 written_status Items input text ending r = list_status r
 written_status Edit input text ending r = edit_status r
 written_status Fill input text ending r = fill_status r
@@ -205,7 +206,7 @@ the_report run {ending} r input text status known report =
 
 -- so it says what an input is answered that is answerable
 answers_all : (run : Session) {ending : Status} → ReportsOnly run ending → AnswersAll run ending
-answers_all run only input known asks i = let r = answered_done asks i in (only input r.0 Done known r.1).1
+answers_all run only rule input known asks i = let r = answered_done asks i in (only input r.0 Done known r.1).1
 
 -- a run whose report was written
 pub delivered : {run : Session} {text : List ℕ} {ending : Status} → IsPrepared run text ending → Took run.before.written run.after.written text

@@ -7,14 +7,23 @@ pub mod Get
 pub mod Items
 use Rattle.std.specs.Prelude.{◌≡◌, ◌≢◌, List, [], ◌∷◌, ℕ, ◌≤◌, codes}
 use Rattle.std.specs.Fmt.{decimal}
+use Rattle.sonic_pointer.specs.declared.rule.KeyRule.{KeyRule}
+use Rattle.sonic_pointer.specs.declared.rule.KeyRule.TheVariants.{First, Last, Refuse}
 use Rattle.sonic_tool.specs.declared.commands.Command.{Command}
 use Rattle.sonic_tool.specs.declared.commands.Command.TheVariants as command
 use Rattle.sonic_tool.specs.declared.commands.TheConstants.{MOST}
 
--- the words ask for this command: no word asks for `get`, as the one word `get` does
+-- the word that names a rule for equal keys
+abbrev pub rule_word : KeyRule → List ℕ
+rule_word First = codes "first"
+rule_word Last = codes "last"
+rule_word Refuse = codes "refuse"
+
+-- the words ask for this command: no word asks for `get` by first equal keys, as the one word `get` does
 pub data Asks (words : List (List ℕ)) : Command → Type 0 where
-  no_word : words ≡ [] → Asks words command.Get
-  get_word : words ≡ codes "get" ∷ [] → Asks words command.Get
+  no_word : words ≡ [] → Asks words (command.Get First)
+  get_word : words ≡ codes "get" ∷ [] → Asks words (command.Get First)
+  keys_words : {r : KeyRule} → words ≡ codes "get" ∷ codes "--keys" ∷ rule_word r ∷ [] → Asks words (command.Get r)
   list_word : words ≡ codes "list" ∷ [] → Asks words command.List
   edit_word : words ≡ codes "edit" ∷ [] → Asks words command.Edit
   fill_word : words ≡ codes "fill" ∷ [] → Asks words command.Fill

@@ -15,7 +15,7 @@ use Rattle.sonic_tool.specs.Commands.Items.{IsListReport}
 
 -- what each command writes of an input
 abbrev pub Writes : Command → List ℕ → List ℕ → Status → Type 0
-Writes command.Get input text status = IsGetReport input text status
+Writes (command.Get rule) input text status = IsGetReport rule input text status
 Writes command.List input text status = IsListReport input text status
 Writes command.Edit input text status = IsEditReport input text status
 Writes command.Fill input text status = IsFillReport input text status

@@ -2,6 +2,7 @@
 use Rattle.std.specs.Prelude.{◌≡◌, ◌≢◌, ◌⊎◌, ℕ, ◌+◌, List, length, IfSome, Some}
 use Rattle.std.specs.Io.KnownBytes.{IsAtEnd}
 use Rattle.std.specs.declared.option.Option.{Option}
+use Rattle.sonic_pointer.specs.declared.rule.KeyRule.{KeyRule}
 use Rattle.sonic_tool.specs.declared.commands.Command.TheVariants.{Get}
 use Rattle.sonic_tool.specs.declared.outside.reading.TheConstants.{LIMIT}
 use Rattle.sonic_tool.specs.declared.status.Status.{Status}
@@ -60,9 +61,10 @@ ReportsOnly run ending =
     (input text : List ℕ) (status : Status) → run.before.left ≡ Some input → IsReport run.words input text status
     → Took run.before.written run.after.written text × (ending ≡ status)
 
--- where the input is known and the words ask for `get`, and each path finds a value or lacks its key, the status is 0
+-- where the input is known and the words ask for `get` under a rule, and each path finds a value or lacks its key by that, the status is 0
 abbrev pub AnswersAll : Session → Status → Type 0
-AnswersAll run ending = (input : List ℕ) → run.before.left ≡ Some input → Asks run.words Get → IsAnswerableInput input → ending ≡ Done
+AnswersAll run ending =
+    (rule : KeyRule) (input : List ℕ) → run.before.left ≡ Some input → Asks run.words (Get rule) → IsAnswerableInput rule input → ending ≡ Done
 
 -- a prefix of a report of the input was written
 pub record BreaksOff (run : Session) : Type 0 where

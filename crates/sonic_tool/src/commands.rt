@@ -1,7 +1,7 @@
 //! The commands, and the words of a command line that ask for them.
-ghost use Rattle.std.specs.Prelude.{◌≡◌, ◌≤◌, ℕ, ◌∷◌, [], map, string_bytes, IfSome, IfNone};
+ghost use Rattle.std.specs.Prelude.{◌≡◌, ◌≢◌, ◌≤◌, ℕ, ◌∷◌, [], map, string_bytes, IfSome, IfNone};
 ghost use Rattle.std.specs.Fmt.{decimal};
-ghost use Rattle.sonic_tool.specs.Commands.{Asks, IsListed};
+ghost use Rattle.sonic_tool.specs.Commands.{Asks, IsListed, rule_word};
 ghost use Rattle.sonic_tool.specs.declared.commands.TheConstants.{MOST};
 
 // What `edit` writes: what the edits of an input's head make of its document.
@@ -17,11 +17,14 @@ pub(crate) mod get;
 // What `list` writes: the items of the container that an input is.
 pub(crate) mod list;
 
+use sonic_pointer::KeyRule;
+
 /// What a run is asked to write of its input.
 #[derive(Clone, Copy, Debug, PartialEq, Eq)]
 pub enum Command {
-    /// Where the paths of the head lead in the document. No word and the word `get` ask for it.
-    Get,
+    /// Where the paths of the head lead in the document, under a rule for equal keys. No word and the
+    /// word `get` ask for it by the first ones, and `get --keys` with the rule's name by another.
+    Get(KeyRule),
     /// The elements of an array or the members of an object. The word `list` asks for it.
     List,
     /// The document as the edits of the head make it. The word `edit` asks for it.
@@ -44,9 +47,10 @@ pub(crate) fn asked_command(words: &[String]) -> Option<Command>
     ensures unlisted { IfNone result (¬ IsListed (map string_bytes words.now)) }
 {
     match words {
-        [] => Some(Command::Get),
+        [] => Some(Command::Get(KeyRule::First)),
         [word] => named_command(word.as_str()),
         [word, count] => counted_command(word.as_str(), count.as_str()),
+        [word, option, rule] => ruled_command(word.as_str(), option.as_str(), rule.as_str()),
         _ => None,
     }
 }
@@ -57,11 +61,42 @@ fn named_command(word: &str) -> Option<Command>
     ensures unlisted { IfNone result (¬ IsListed (word.now ∷ [])) }
 {
     match word {
-        "get" => Some(Command::Get),
+        "get" => Some(Command::Get(KeyRule::First)),
         "list" => Some(Command::List),
         "edit" => Some(Command::Edit),
         "fill" => Some(Command::Fill),
         "fast" => Some(Command::Fast),
+        _ => None,
+    }
+}
+
+// The command that a word, an option and the name of a rule ask for.
+fn ruled_command(word: &str, option: &str, rule: &str) -> Option<Command>
+    ensures asked { IfSome result (λ command.
+        Asks (word.now ∷ option.now ∷ rule.now ∷ []) command) }
+    ensures unlisted { IfNone result (¬ IsListed (word.now ∷ option.now ∷ rule.now ∷ [])) }
+{
+    if word != "get" {
+        return None;
+    }
+    if option != "--keys" {
+        return None;
+    }
+    match named_rule(rule) {
+        Some(rule) => Some(Command::Get(rule)),
+        None => None,
+    }
+}
+
+// The rule for equal keys that has this name.
+fn named_rule(word: &str) -> Option<KeyRule>
+    ensures some { IfSome result (λ rule. word.now ≡ rule_word rule) }
+    ensures none { IfNone result ((rule : KeyRule) → word.now ≢ rule_word rule) }
+{
+    match word {
+        "first" => Some(KeyRule::First),
+        "last" => Some(KeyRule::Last),
+        "refuse" => Some(KeyRule::Refuse),
         _ => None,
     }
 }

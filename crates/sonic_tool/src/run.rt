@@ -18,7 +18,8 @@ use std::borrow::CowStr;
 /// Reads the whole input, where a command asks for it, and writes the report.
 ///
 /// `words` are the words of the command line after the program's name. No word and the one word
-/// `get` ask for the command that follows the paths of the input's head, `list` for the items of
+/// `get` ask for the command that follows the paths of the input's head, by first equal keys; the three
+/// words `get`, `--keys` and `first`, `last` or `refuse` for the same under that rule; `list` for the items of
 /// the container that the input is, `edit` for the document as the edits of the input's head make it,
 /// `fill` for the schema in the first line as the rest fills it, and `fast` for what `get` asks for
 /// where the document is valid as a whole. The two words `gen` and a number from 1 to `MOST` ask for
@@ -114,7 +115,7 @@ fn answer<'i>(alloc: Global, request: &'i Request) -> Result<Reply<'i>, AllocErr
     match request {
         Request::Usage => Ok(Reply::one(alloc, Status::BadUsage, CowStr::Borrowed("! usage\n"))),
         Request::Large => Ok(Reply::one(alloc, Status::TooLarge, CowStr::Borrowed("! large\n"))),
-        Request::Input(Command::Get, input) => get::report(alloc, input),
+        Request::Input(Command::Get(rule), input) => get::report(alloc, input, *rule),
         Request::Input(Command::List, input) => list::report(alloc, input),
         Request::Input(Command::Edit, input) => edit::report(alloc, input),
         Request::Input(Command::Fill, input) => fill::report(alloc, input),

@@ -1,5 +1,6 @@
 //! Runs that no fault stops.
 ghost use Rattle.std.specs.Prelude.{◌≡◌, ◌⊎◌, ◌≤◌, ℕ, List, map, string_bytes};
+ghost use Rattle.sonic_pointer.specs.declared.rule.KeyRule.{KeyRule};
 ghost use Rattle.sonic_tool.specs.declared.commands.Command.TheVariants.{Get};
 ghost use Rattle.sonic_tool.specs.Commands.{Asks};
 ghost use Rattle.sonic_tool.specs.Commands.Get.{IsAnswerableInput};
@@ -19,8 +20,8 @@ pub fn run_surely(alloc: Global, words: &[String], input: Vec<u8>, piece: usize)
     ensures status { (text : List ℕ) (status : Status)
         → IsReport (map string_bytes words.now) input.items text status
         → (result ≡ status) ⊎ (result ≡ Status.NoMemory) }
-    ensures complete { Asks (map string_bytes words.now) Get → IsAnswerableInput input.items
-        → (result ≡ Status.Done) ⊎ (result ≡ Status.NoMemory) }
+    ensures complete { (rule : KeyRule) → Asks (map string_bytes words.now) (Get rule)
+        → IsAnswerableInput rule input.items → (result ≡ Status.Done) ⊎ (result ≡ Status.NoMemory) }
 {
     let mut source = SureSource::new(input, piece);
     run(alloc, words, &mut source, &mut SureSink::new())

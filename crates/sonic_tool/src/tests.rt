@@ -7,6 +7,7 @@ mod faults;
 mod fills;
 mod format;
 mod generated;
+mod keys;
 mod lists;
 mod memory;
 mod outside;

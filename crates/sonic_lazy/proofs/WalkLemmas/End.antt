@@ -11,8 +11,9 @@ use Rattle.sonic_lazy.proofs.WalkLemmas.Path.{contained, path_of_child, still_se
 use Rattle.sonic_lazy.proofs.WalkLemmas.Start.{cut_at_end}
 use Rattle.sonic_lazy.proofs.WalkLemmas.Step.{OpenStopped, open_node, open_cause, open_stops, none_ahead}
 use Rattle.sonic_lazy.specs.Answers.{Span}
-use Rattle.sonic_lazy.specs.Internal.Located.{IsStatus}
+use Rattle.sonic_lazy.specs.Internal.Located.{IsStatus, HaveStatuses}
 use Rattle.sonic_lazy.specs.Internal.Walk.{Findings, Point, ComesTo, IsPath, AreFindings, IsLater, IsSettled, was_found, was_lacked, BelowSettled, IsCause, value_stops, path_stops, IsStop, fails_so, SomeLack, Container, Progress, SomeOpen, IsOpen, IsWanted, IsPassed, IsFilled}
+use Rattle.sonic_lazy.specs.declared.located.Located.{Located}
 use Rattle.sonic_lazy.specs.Paths.{found, lacks, past_end, EvaluatesBy, LeadsUnder}
 use Rattle.sonic_lazy.specs.Paths.EvaluatesBy.{found_here, leads_nowhere}
 use Rattle.sonic_parser.specs.Containers.{IsEnd}
@@ -104,6 +105,16 @@ container_status {kind = kind} is = (λ e. absurd cc, λ x. let b = items_open i
 pub order_within : {t : List ℕ} {paths : List Path} {prefix : Path} {orders : List ℕ} {f : Findings} {rule : KeyRule} (k : ℕ) → IsOrders paths prefix orders
     → AreFindings rule t paths f → Contains orders k → k < length f.spans
 order_within {paths = paths} {prefix} k o are h = omega (arith, slice_get_within paths k prefix ((o.exact k).0 h), are.long)
+
+-- where a value with its status is kept, each value has its status
+pub filled_statuses : (t : List ℕ) {orders : List ℕ} {before now : List (Option Located)} {x : Located} → IsFilled orders before now x → HaveStatuses t before
+    → IsStatus t x.start x.end x.status → HaveStatuses t now
+filled_statuses t {x = x} fill have is = λ k y h. elim (fill.each k) [
+  | inl same ↦ have k y (sym same ∙ h)
+  | inr here ↦
+      let one : x ≡ y = same_Some x y (same_Some (Some x) (Some y) (sym here.1 ∙ h)) in
+      rw one at is
+]
 
 -- a prefix that is a path leads to the value's span
 prefix_found : {p : Point} {j : ℕ} → ComesTo p → IsValue strict p.text p.place j → LeadsUnder p.rule p.text p.prefix (found p.place j)

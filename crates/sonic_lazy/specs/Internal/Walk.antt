@@ -13,6 +13,7 @@ use Rattle.sonic_text.specs.Values.{IsValue, ItemsFit}
 use Rattle.sonic_text.specs.Documents.{IsRootFault}
 use Rattle.sonic_text.specs.Faults.{IsFault}
 use Rattle.sonic_pointer.specs.Paths.{HasNext, IsChildren}
+use Rattle.sonic_lazy.specs.declared.marks.Mark.{Mark}
 use Rattle.sonic_lazy.specs.Answers.{Span, span_of, AllLeadBy, NoneFails, NoneCut, IsReach, Answer, IsAnswerBy}
 use Rattle.sonic_lazy.specs.Paths.{Outcome, found, lacks, fails, cut, kind_of, IsNamed, NoneNamed, EvaluatesBy, LeadsUnder}
 
@@ -21,11 +22,13 @@ pub record Findings : Type 0 where
   pub spans : List (Option Span)
   pub lacking : Bool
 
--- a walk: the text, the place that it has come to, and what it has found
+-- a walk: the text, the place that it has come to, what it has found, the rule for equal keys, and what each prefix had last
 pub record Walking : Type 0 where
   pub text : List ℕ
   pub place : ℕ
   pub findings : Findings
+  pub rule : KeyRule
+  pub marks : List Mark
 
 -- a rule for equal keys, a prefix of the paths of a tree, and the place of the value to which it leads in a text
 pub record Point : Type 0 where

@@ -5,8 +5,10 @@ use Rattle.std.specs.List.{flat_map}
 use Rattle.std.specs.declared.option.Option.{Option}
 use Rattle.sonic_text.specs.declared.stop.Stop.{Stop}
 use Rattle.sonic_text.specs.Paths.{Path}
-use Rattle.sonic_lazy.specs.Answers.{Span, Answer, spans, error, IsAnswer}
-use Rattle.sonic_lazy.specs.Causes.{IsAnswerable}
+use Rattle.sonic_lazy.specs.Answers.{Span, Answer, spans, error, IsAnswerBy}
+use Rattle.sonic_lazy.specs.Causes.{IsAnswerableBy}
+use Rattle.sonic_pointer.specs.declared.rule.KeyRule.{KeyRule}
+use Rattle.sonic_pointer.specs.declared.rule.KeyRule.TheVariants.{First}
 use Rattle.sonic_tool.specs.declared.outside.reading.TheConstants.{LIMIT}
 use Rattle.sonic_tool.specs.declared.status.Status.{Status}
 use Rattle.sonic_tool.specs.declared.status.Status.TheVariants.{Done, DocumentError, BadLines}
@@ -27,11 +29,15 @@ pub data IsAnswerReport (document : List ℕ) : Answer → List ℕ → Status �
   error_line : {stop : Stop} {text : List ℕ} {status : Status} → text ≡ line_of_error document stop.code stop.place → status ≡ DocumentError
       → IsAnswerReport document (error stop) text status
 
--- what `get` writes of a document, in which it follows these paths
-pub record ReportsPaths (document : List ℕ) (paths : List Path) (text : List ℕ) (status : Status) : Type 0 where
+-- what `get` writes of a document, in which it follows these paths under a rule for equal keys
+pub record ReportsPathsBy (rule : KeyRule) (document : List ℕ) (paths : List Path) (text : List ℕ) (status : Status) : Type 0 where
   pub answer : Answer
-  pub answers : IsAnswer document true paths answer
+  pub answers : IsAnswerBy rule document true paths answer
   pub report : IsAnswerReport document answer text status
+
+-- and by first equal keys
+abbrev pub ReportsPaths : List ℕ → List Path → List ℕ → Status → Type 0
+ReportsPaths = ReportsPathsBy First
 
 -- what is written of an input whose head says paths, where these are the reports of its document
 pub data IsPathsReport (Reports : List ℕ → List Path → List ℕ → Status → Type 0) (input : List ℕ) : List ℕ → Status → Type 0 where
@@ -42,16 +48,16 @@ pub data IsPathsReport (Reports : List ℕ → List Path → List ℕ → Status
   answered : {lines : List (List ℕ)} {paths : List Path} {d : ℕ} {text : List ℕ} {status : Status} → IsHead input 0 lines d → AreLines lines paths
       → Reports (drop d input) paths text status → IsPathsReport Reports input text status
 
--- what `get` writes of an input
-abbrev pub IsGetReport : List ℕ → List ℕ → Status → Type 0
-IsGetReport = IsPathsReport ReportsPaths
+-- what `get` writes of an input under a rule
+abbrev pub IsGetReport : KeyRule → List ℕ → List ℕ → Status → Type 0
+IsGetReport rule = IsPathsReport (ReportsPathsBy rule)
 
--- the input is within the limit, each line of its head says a path, and in the document after it each path finds a value or lacks its key, as far as the text is needed for that
-pub record IsAnswerableInput (input : List ℕ) : Type 0 where
+-- the input is within the limit, each line of its head says a path, and in the document after it each path finds a value or lacks its key under the rule, as far as the text is needed for that
+pub record IsAnswerableInput (rule : KeyRule) (input : List ℕ) : Type 0 where
   pub within : length input ≤ LIMIT
   pub lines : List (List ℕ)
   pub document : ℕ
   pub head : IsHead input 0 lines document
   pub paths : List Path
   pub say : AreLines lines paths
-  pub answerable : IsAnswerable (drop document input) true paths
+  pub answerable : IsAnswerableBy rule (drop document input) true paths

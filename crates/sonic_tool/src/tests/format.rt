@@ -7,7 +7,7 @@ use std::test::Fail;
 // Words, an input, its report, and the status.
 type Example = (&'static [&'static str], &'static [u8], &'static str, Status);
 
-const EXAMPLES: [Example; 38] = [
+const EXAMPLES: [Example; 42] = [
     (
         &[],
         b"[\"a\"]\n[\"b\",1]\n[\"c\"]\n\n{\"a\": \"x\", \"b\": [2, 30]}",
@@ -19,6 +19,30 @@ const EXAMPLES: [Example; 38] = [
         b"[\"a\"]\n[\"b\",1]\n[\"c\"]\n\n{\"a\": \"x\", \"b\": [2, 30]}",
         "3 \"x\"\n2 30\n-\n",
         Status::Done,
+    ),
+    (
+        &["get", "--keys", "last"],
+        b"[\"a\"]\n[\"b\"]\n\n{\"a\":1,\"a\":2,\"b\":3}",
+        "1 2\n1 3\n",
+        Status::Done,
+    ),
+    (
+        &["get", "--keys", "refuse"],
+        b"[\"a\"]\n[\"b\"]\n\n{\"a\":1,\"a\":2,\"b\":3}",
+        "! syntax DuplicateKey 1 8 7\n",
+        Status::DocumentError,
+    ),
+    (
+        &["get", "--keys", "refuse"],
+        b"[\"b\"]\n\n{\"a\":1,\"a\":2,\"b\":3}",
+        "1 3\n",
+        Status::Done,
+    ),
+    (
+        &["get", "--keys", "last"],
+        b"[\"a\"]\n\n{\"a\":1,",
+        "! eof EofWhileParsing 1 7 6\n",
+        Status::DocumentError,
     ),
     (
         &[],

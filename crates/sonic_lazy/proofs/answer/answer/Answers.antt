@@ -5,12 +5,11 @@ use Rattle.sonic_lazy.proofs.AnswerLemmas.Walk.{answers_spans, answers_broken, s
 use Rattle.sonic_parser.proofs.FaultLemmas.{stop_weaker}
 use Rattle.sonic_lazy.proofs.WalkLemmas.Start.{none_counted}
 use Rattle.sonic_lazy.proofs.answer.answer.Goals.{then-is_bytes+in_ok-check, else-is_bytes}
-use Rattle.sonic_pointer.specs.declared.rule.KeyRule.TheVariants.{First}
 
 pub returns-then-size-eq0-clause-ok : goal.returns-then-size-eq0-clause-ok
 returns-then-size-eq0-clause-ok c =
     let none = none_counted c.args.tree.now (sym c.size-size.ensures ∙ c.if-size-eq0.true) in
-    rw c.new.ensures.items (no_paths First c.args.read.text c.args.is_bytes c.args.tree.now none)
+    rw c.new.ensures.items (no_paths c.args.rule c.args.read.text c.args.is_bytes c.args.tree.now none)
 
 pub returns-in_err-text-clause-err : goal.returns-in_err-text-clause-err
 returns-in_err-text-clause-err c =

@@ -36,7 +36,7 @@ returns-in_ok-end-in-Object-clause-item c =
     record {
       node = key x.0;
       head = rw c.in-Object.is record { label = Some x.0; head = key_head x.2; name = refl };
-      is = key_child (container_at c.args.walk.now.text c.args.level.now) c.of_key.result x.0 x.1 some none;
+      is = key_child (container_at c.args.walk.now.rule c.args.walk.now.text c.args.level.now) c.of_key.result x.0 x.1 some none;
     }
 
 pub returns-in_ok-end-in-Object-clause-later : goal.returns-in_ok-end-in-Object-clause-later
@@ -46,5 +46,5 @@ pub returns-in-Array-clause-item : goal.returns-in-Array-clause-item
 returns-in-Array-clause-item c = record {
   node = index c.args.passed;
   head = rw c.in-Array.is record { label = None; head = no_head refl; name = refl };
-  is = index_child (container_at c.args.walk.now.text c.args.level.now) c.of_index.result c.args.passed c.of_index.ensures.some c.of_index.ensures.none;
+  is = index_child (container_at c.args.walk.now.rule c.args.walk.now.text c.args.level.now) c.of_index.result c.args.passed c.of_index.ensures.some c.of_index.ensures.none;
 }

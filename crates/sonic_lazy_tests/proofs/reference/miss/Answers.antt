@@ -10,13 +10,13 @@ pub returns-in-Some-clause-fails : goal.returns-in-Some-clause-fails
 returns-in-Some-clause-fails c = λ s e rest.
     let reported = rw c.kind_of.ensures at (c.in-Some.ensures.fails (c.in-Ok.end - 1)) in
     let stop : record { place = c.in-Ok.end - 1; code = c.in-Some.code } ≡ s = cc e in
-    rw (← stop) (leads_nowhere c.in-Ok.ensures.ok c.requires.nowhere (sym reported))
+    rw (← stop) (leads_nowhere c.in-Ok.ensures.ok (c.requires.whole c.in-Ok.end c.in-Ok.ensures.ok) (sym reported))
 
 pub returns-in-None-clause-lacks : goal.returns-in-None-clause-lacks
 returns-in-None-clause-lacks c = λ q e rest.
     let reported = rw c.kind_of.ensures at (c.in-None.ensures.lacks (c.in-Ok.end - 1)) in
     let place : c.in-Ok.end - 1 ≡ q = cc e in
-    rw (← place) (leads_nowhere c.in-Ok.ensures.ok c.requires.nowhere (sym reported))
+    rw (← place) (leads_nowhere c.in-Ok.ensures.ok (c.requires.whole c.in-Ok.end c.in-Ok.ensures.ok) (sym reported))
 
 pub returns-in-Err-At-clause-cut : goal.returns-in-Err-At-clause-cut
 returns-in-Err-At-clause-cut c = λ s e rest.

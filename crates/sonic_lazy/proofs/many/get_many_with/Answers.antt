@@ -1,6 +1,6 @@
 use Rattle.std.proofs.Common.{refl}
 use Rattle.std.proofs.lemmas.Result.{err_from_is_err_and}
-use Rattle.sonic_lazy.proofs.many.get_many.Goals as goal
+use Rattle.sonic_lazy.proofs.many.get_many_with.Goals as goal
 
 pub returns-in_err-found-clause-complete : goal.returns-in_err-found-clause-complete
 returns-in_err-found-clause-complete g c = λ can.

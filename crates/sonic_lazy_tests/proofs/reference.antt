@@ -1,0 +1,2 @@
+-- Where a node leads among the items that were passed, and when they all were.
+mod WayLemmas
