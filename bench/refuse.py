@@ -36,6 +36,7 @@ OwnedLazyValue::from_str OwnedLazyValue::from_lazy OwnedLazyValue::clone OwnedLa
 load get_mut pointer_mut as_object_mut with_mut edit LazyArray::with_capacity push
 LazyObject::with_capacity append_pair add_path Value::from_str Value::clone Value::to_string
 get_by_schema parse_by_schema path_of_line read_paths edit_of_line read_edits edit_all
+read_all MemorySink::new
 """.split()
 # A number that no run comes to: nothing is refused.
 NONE = 10**9
@@ -45,7 +46,7 @@ NO_MEMORY = 7
 # So many numbers are tried side by side, each over crates of its own.
 LANES = max(1, (os.cpu_count() or 1) - 1)
 # What the library's crates are needed for.
-LIBRARIES = "error text input parser pointer paths lazy owned edits value"
+LIBRARIES = "error text input io parser pointer paths lazy owned edits value"
 
 
 @dataclass

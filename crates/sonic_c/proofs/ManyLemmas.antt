@@ -5,10 +5,10 @@ use Rattle.sonic_error.specs.Errors.{IsPlainError}
 use Rattle.sonic_error.specs.declared.code.ErrorCode.TheVariants.{NoMemory}
 use Rattle.sonic_error.specs.declared.error.Error.{Error}
 use Rattle.sonic_text.specs.Paths.{Path}
-use Rattle.sonic_lazy.specs.Answers.{IsAnswer, spans}
-use Rattle.sonic_lazy.specs.Causes.{IsAnswerable, IsAnswerError, IsRefusal, out_of_memory, answered}
-use Rattle.sonic_lazy.specs.Spans.{pairs_of}
-use Rattle.sonic_lazy.specs.declared.span.Span.{Span as Slot}
+use Rattle.sonic_find.specs.Answers.{IsAnswer, spans}
+use Rattle.sonic_find.specs.Causes.{IsAnswerable, IsAnswerError, IsRefusal, out_of_memory, answered}
+use Rattle.sonic_find.specs.Spans.{pairs_of}
+use Rattle.sonic_find.specs.declared.span.Span.{Span as Slot}
 use Rattle.sonic_paths.specs.Lines.{SaysPaths}
 use Rattle.sonic_paths.specs.declared.lines.Head.{Head}
 use Rattle.sonic_paths.specs.declared.lines.Head.TheVariants.{Paths, Bad}

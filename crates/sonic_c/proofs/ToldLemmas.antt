@@ -4,9 +4,9 @@ use Rattle.sonic_error.specs.Errors.{IsErrorAt}
 use Rattle.sonic_error.specs.declared.error.Error.{Error}
 use Rattle.sonic_text.specs.Paths.{Path}
 use Rattle.sonic_text.specs.declared.stop.Stop.{Stop}
-use Rattle.sonic_lazy.specs.Causes.{IsGetRefusal, no_memory as refused_memory, refused}
-use Rattle.sonic_lazy.specs.Spans.{IsFinding, IsSureFinding}
-use Rattle.sonic_lazy.specs.declared.span.Span.{Span as Slot}
+use Rattle.sonic_find.specs.Causes.{IsGetRefusal, no_memory as refused_memory, refused}
+use Rattle.sonic_find.specs.Spans.{IsFinding, IsSureFinding}
+use Rattle.sonic_find.specs.declared.span.Span.{Span as Slot}
 use Rattle.sonic_paths.specs.Lines.{IsNodeLine}
 use Rattle.sonic_paths.proofs.LineNodes.{node_line_one}
 use Rattle.sonic_c.specs.Codes.{numbers_of}

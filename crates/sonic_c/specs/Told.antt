@@ -3,18 +3,18 @@ use Rattle.std.specs.Prelude.{◌≡◌, ◌⊎◌, ◌≢◌, ℕ, ◌+◌, ◌
 use Rattle.sonic_error.specs.Errors.{error_code}
 use Rattle.sonic_error.specs.declared.error.Error.{Error}
 use Rattle.sonic_error.specs.declared.code.ErrorCode.TheVariants.{NoMemory}
-use Rattle.sonic_lazy.specs.declared.span.Span.{Span as Slot}
+use Rattle.sonic_find.specs.declared.span.Span.{Span as Slot}
 use Rattle.sonic_error.specs.Places.{offset_of, line_of, column_of}
 use Rattle.sonic_text.specs.declared.stop.Stop.{Stop}
 use Rattle.sonic_text.specs.Paths.{Path}
-use Rattle.sonic_lazy.specs.Answers.{Span as Found, Answer, IsAnswer, IsGetAnswer}
-use Rattle.sonic_lazy.specs.Documents.{IsInvalid}
+use Rattle.sonic_find.specs.Answers.{Span as Found, Answer, IsAnswer, IsGetAnswer}
+use Rattle.sonic_find.specs.Documents.{IsInvalid}
 use Rattle.sonic_paths.specs.declared.lines.Head.TheVariants.{Paths, Bad}
 use Rattle.sonic_paths.specs.Lines.{IsNodeLine, SaysPaths}
 use Rattle.sonic_c.specs.declared.span.Span.{Span}
 use Rattle.sonic_c.specs.declared.fault.Fault.{Fault}
-use Rattle.sonic_lazy.specs.Causes.{IsAnswerable, IsGettable}
-use Rattle.sonic_lazy.specs.Spans.{pairs_of}
+use Rattle.sonic_find.specs.Causes.{IsAnswerable, IsGettable}
+use Rattle.sonic_find.specs.Spans.{pairs_of}
 use Rattle.sonic_c.specs.declared.status.TheConstants.{WRONG_COUNT, OK, DOCUMENT_ERROR, BAD_LINES, NO_MEMORY}
 use Rattle.sonic_c.specs.Codes.{code_number, numbers_of}
 

@@ -6,7 +6,7 @@ use crate::fault::{Fault, tell};
 use crate::span::Span;
 use crate::status::{BAD_LINES, NO_MEMORY, OK};
 use sonic_error::Error;
-use sonic_lazy::{find, find_unchecked};
+use sonic_find::{find, find_unchecked};
 use sonic_paths::path_of_line;
 use std::alloc::Global;
 
@@ -70,7 +70,7 @@ pub extern "C" fn sonic_get_unchecked(
 }
 
 // Tells what was found, or the error.
-fn tell_found(found: Result<sonic_lazy::Span, Error>, span: &mut Span, error: &mut Fault) -> u32
+fn tell_found(found: Result<sonic_find::Span, Error>, span: &mut Span, error: &mut Fault) -> u32
     ensures { Tells found (record { span = span.old; error = error.old })
         (record { span = span.new; error = error.new }) result }
 {

@@ -7,7 +7,7 @@ use crate::fault::{Fault, tell};
 use crate::span::{Span, fill};
 use crate::status::{BAD_LINES, NO_MEMORY, OK, WRONG_COUNT};
 use sonic_error::Error;
-use sonic_lazy::{find_many, find_many_unchecked};
+use sonic_find::{find_many, find_many_unchecked};
 use sonic_paths::{Head, read_paths};
 use sonic_pointer::PointerTree;
 use std::alloc::Global;
@@ -131,7 +131,7 @@ fn tree_of(alloc: Global, lines: &[u8], count: usize, error: &mut Fault) -> Resu
 // Tells what was found, or the error.
 fn tell_all(
     found: Result<(), Error>,
-    slots: &[Option<sonic_lazy::Span>],
+    slots: &[Option<sonic_find::Span>],
     spans: &mut [Span],
     error: &mut Fault,
 ) -> u32

@@ -1,6 +1,6 @@
 // The spans that a caller is told.
 ghost use Rattle.std.specs.Prelude.{◌≡◌, length, map, option_map};
-ghost use Rattle.sonic_lazy.specs.Spans.{pairs_of, pair_of};
+ghost use Rattle.sonic_find.specs.Spans.{pairs_of, pair_of};
 ghost use Rattle.sonic_c.specs.Told.{shown_span};
 
 /// Where a value is in the text, from its first byte to after its last, as indexes from 0, or twice
@@ -16,7 +16,7 @@ pub struct Span {
 
 impl Span {
     // A span as a caller sees it.
-    pub(crate) fn of(span: sonic_lazy::Span) -> Span
+    pub(crate) fn of(span: sonic_find::Span) -> Span
         ensures start { result.start ≡ span.start }
         ensures end { result.end ≡ span.end }
     {
@@ -28,7 +28,7 @@ impl Span {
 }
 
 // An entry as a caller sees it.
-fn shown(entry: Option<sonic_lazy::Span>) -> Span
+fn shown(entry: Option<sonic_find::Span>) -> Span
     ensures { result ≡ shown_span (option_map pair_of entry) }
 {
     match entry {
@@ -38,7 +38,7 @@ fn shown(entry: Option<sonic_lazy::Span>) -> Span
 }
 
 // Writes the entries to the caller's array.
-pub(crate) fn fill(spans: &mut [Span], entries: &[Option<sonic_lazy::Span>])
+pub(crate) fn fill(spans: &mut [Span], entries: &[Option<sonic_find::Span>])
     requires { length entries.now ≡ length spans.old }
     ensures { spans.new ≡ map shown_span (pairs_of entries.now) }
 {

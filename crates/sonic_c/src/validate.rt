@@ -1,13 +1,13 @@
 // Whether a text is a document.
 ghost use Rattle.std.specs.Prelude.{◌≡◌, ◌≢◌, ◌⊎◌};
-ghost use Rattle.sonic_lazy.specs.Documents.{IsValidDocument};
+ghost use Rattle.sonic_find.specs.Documents.{IsValidDocument};
 ghost use Rattle.sonic_text.specs.Documents.{StartsWithUtf8Value};
 ghost use Rattle.sonic_c.specs.declared.status.TheConstants.{OK, DOCUMENT_ERROR, NO_MEMORY};
 ghost use Rattle.sonic_c.specs.Told.{TellsInvalid};
 
 use crate::fault::{Fault, tell};
 use crate::status::OK;
-use sonic_lazy::validate;
+use sonic_find::validate;
 use std::alloc::Global;
 
 /// Whether the text is one value in UTF-8 with nothing but white space round it.

@@ -7,7 +7,7 @@ use Rattle.std.specs.List.{All}
 use Rattle.sonic_edits.specs.Lines.{AreElements}
 use Rattle.sonic_edits.specs.Reading.{HasElements}
 use Rattle.sonic_lazy.proofs.WholeLemmas.{lazy_is_whole}
-use Rattle.sonic_lazy.specs.Documents.{IsDocumentValue}
+use Rattle.sonic_find.specs.Documents.{IsDocumentValue}
 use Rattle.sonic_lazy.specs.Scalars.{container, scalar_of}
 use Rattle.sonic_text.proofs.Values.{items_open, value_starts}
 use Rattle.sonic_text.specs.Places.{byte, after_space}
@@ -16,7 +16,7 @@ use Rattle.sonic_lazy.proofs.ListingLemmas.{listing_one}
 use Rattle.sonic_lazy.specs.Items.{Item, closed, Listing, EndsItems, at_broken_text, at_bracket, at_stop, IsItemAt, AreItems, no_items, one_more_item, AreClosed, closed_empty, closed_after, IsListing}
 use Rattle.sonic_lazy.specs.Iterators.{Iterating, iterator_over, ShowsElement, IsOver}
 use Rattle.sonic_lazy.specs.LazyValues.{raw_bytes}
-use Rattle.sonic_lazy.specs.Shown.{span_text}
+use Rattle.sonic_find.specs.Answers.{span_text}
 use Rattle.sonic_lazy.specs.declared.lazyvalue.LazyValue.{LazyValue}
 use Rattle.sonic_owned.proofs.DocumentLemmas.{value_one}
 use Rattle.sonic_owned.specs.Forms.{raw, Members, unnamed}

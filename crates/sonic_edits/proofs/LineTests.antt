@@ -7,10 +7,10 @@ use Rattle.sonic_edits.proofs.ElementLemmas.{never_bytes, items_elements, elemen
 use Rattle.sonic_edits.proofs.SayingLemmas.{line_elements, pair_key, parts_of, says_change, denotes_one, says_two}
 use Rattle.sonic_edits.specs.Lines.{AreElements, Denotes, IsEditLine, SaysEdit}
 use Rattle.sonic_edits.specs.Reading.{SaysChange, sets, pushes, pairs, takes}
-use Rattle.sonic_lazy.proofs.AnswerLemmas.One.{utf8_or_not}
-use Rattle.sonic_lazy.proofs.DocumentLemmas.{alone_never_invalid, document_one}
+use Rattle.sonic_find.proofs.AnswerLemmas.One.{utf8_or_not}
+use Rattle.sonic_find.proofs.DocumentLemmas.{alone_never_invalid, document_one}
 use Rattle.sonic_lazy.proofs.ListingLemmas.{listing_one}
-use Rattle.sonic_lazy.specs.Documents.{IsDocumentValue}
+use Rattle.sonic_find.specs.Documents.{IsDocumentValue}
 use Rattle.sonic_lazy.specs.Items.{closed, Listing, Ending, EndsItems, at_broken_text, at_bracket, at_stop, IsListing}
 use Rattle.sonic_owned.specs.Forms.{Form, raw}
 use Rattle.sonic_owned.specs.TreeEdits.{Change, set, push, pair, take, Edit}

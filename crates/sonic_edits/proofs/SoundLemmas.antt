@@ -7,10 +7,10 @@ use Rattle.std.specs.Str.{IsUtf8}
 use Rattle.sonic_edits.proofs.ElementLemmas.{each_item, elements_one, items_elements}
 use Rattle.sonic_edits.specs.Heads.{AreEditLines, no_more_lines, next_line}
 use Rattle.sonic_edits.specs.Lines.{AreElements, IsEditLine, SaysEdit, says_set, says_push, says_pair, says_take}
-use Rattle.sonic_lazy.proofs.DocumentLemmas.{alone_part}
-use Rattle.sonic_lazy.proofs.WholeLemmas.{utf8_of_span}
+use Rattle.sonic_find.proofs.DocumentLemmas.{alone_part}
+use Rattle.sonic_find.proofs.Utf8Lemmas.{utf8_of_span}
 use Rattle.sonic_lazy.specs.Items.{Item, IsItemAt}
-use Rattle.sonic_lazy.specs.Shown.{span_text}
+use Rattle.sonic_find.specs.Answers.{span_text}
 use Rattle.sonic_owned.specs.Edits.{IsSoundChange, AreSoundEdits}
 use Rattle.sonic_owned.specs.Forms.{Form, raw, IsSound, raw_sound}
 use Rattle.sonic_owned.specs.TreeEdits.{Edit}

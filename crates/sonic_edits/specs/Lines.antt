@@ -1,7 +1,7 @@
 -- Edit lines.
 use Rattle.std.specs.Prelude.{◌≡◌, ℕ, List, [], ◌∷◌, codes, length, map}
 use Rattle.std.specs.Str.{IsUtf8}
-use Rattle.sonic_lazy.specs.Documents.{IsDocumentValue}
+use Rattle.sonic_find.specs.Documents.{IsDocumentValue}
 use Rattle.sonic_owned.specs.Forms.{Form, raw, unnamed}
 use Rattle.sonic_owned.specs.Opened.{AreAllMembers}
 use Rattle.sonic_owned.specs.TreeEdits.{Edit, set, push, pair, take}

@@ -1,7 +1,7 @@
 -- What the reader of an edit line knows: private clauses, on which no public clause rests.
 use Rattle.std.specs.Prelude.{◌≡◌, ℕ, List, [], ◌∷◌, codes}
 use Rattle.sonic_edits.specs.Lines.{Denotes, AreElements}
-use Rattle.sonic_lazy.specs.Documents.{IsDocumentValue}
+use Rattle.sonic_find.specs.Documents.{IsDocumentValue}
 use Rattle.sonic_owned.specs.Forms.{Form, raw}
 use Rattle.sonic_owned.specs.TreeEdits.{Change, set, push, pair, take}
 

@@ -4,7 +4,7 @@ use Rattle.sonic_text.specs.declared.kind.Kind.TheVariants.{Array}
 use Rattle.sonic_lazy.specs.declared.lazyvalue.LazyValue.{LazyValue}
 use Rattle.sonic_lazy.specs.Items.{Item, closed, AreItems, IsListing}
 use Rattle.sonic_lazy.specs.LazyValues.{raw_bytes}
-use Rattle.sonic_lazy.specs.Shown.{span_text}
+use Rattle.sonic_find.specs.Answers.{span_text}
 
 -- the text of an item's value
 abbrev pub item_text : List ℕ → Item → List ℕ

@@ -8,7 +8,7 @@ use Rattle.sonic_error.specs.declared.code.Category.TheVariants.{Io, Syntax, Typ
 use Rattle.sonic_error.specs.declared.error.Error.{Error}
 use Rattle.sonic_text.specs.Paths.{Path, key}
 use Rattle.sonic_lazy.specs.declared.lazyvalue.LazyValue.{LazyValue}
-use Rattle.sonic_lazy.specs.Causes.{IsGetRefusal}
+use Rattle.sonic_find.specs.Causes.{IsGetRefusal}
 use Rattle.sonic_lazy.specs.LazyValues.{raw_bytes}
 use Rattle.sonic_lazy.specs.Scalars.{text, scalar_of}
 use Rattle.sonic_lazy.specs.Shown.{IsValueOf}

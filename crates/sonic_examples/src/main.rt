@@ -13,8 +13,7 @@ mod records;
 mod settings;
 // A log reader that takes a stream of records in pieces.
 mod stream;
-// What no clause says: that an edit keeps every byte that it doesn't concern, and that a stream gives the
-// same however it is cut.
+// What no clause says: that an edit keeps every byte that it doesn't concern.
 #[cfg(test)]
 mod tests;
 // Lazy values: their types, and paths inside them.

@@ -1,6 +1,6 @@
 // A log reader that takes three fields of each record.
 ghost use Rattle.std.specs.Prelude.{false, IfOk, IfErr};
-ghost use Rattle.sonic_lazy.specs.Causes.{IsRefusal};
+ghost use Rattle.sonic_find.specs.Causes.{IsRefusal};
 ghost use Rattle.sonic_lazy.specs.Shown.{AreValues};
 
 use sonic_error::{Error, ErrorCode};

@@ -1,2 +1,1 @@
 mod settings;
-mod stream;

@@ -9,15 +9,15 @@ use Rattle.std.proofs.lemmas.Bool.Decides.{nat_tests}
 use Rattle.sonic_error.specs.declared.code.ErrorCode.{ErrorCode}
 use Rattle.sonic_lazy.specs.Internal.Items.{IsAfterItems, before_all, after_last, IsKeyAt, IsHead, no_key, a_key, IsFound, IsFoundPart, IsKeyOf}
 use Rattle.sonic_lazy.specs.Internal.StringSpans.{IsStringSpan}
-use Rattle.sonic_lazy.specs.Internal.Steps.{HasWhole}
+use Rattle.sonic_find.specs.Internal.Steps.{HasWhole}
 use Rattle.sonic_lazy.specs.Items.{ItemsReach, IsItemAt, AreClosed, closed_after, BeginsNoItem, no_quote, text_ends, stop_at, AreStopped, no_container, no_item, no_separator, no_key as key_stops, no_value}
 use Rattle.sonic_lazy.specs.declared.items.Found.{Found}
 use Rattle.sonic_lazy.specs.declared.unescaped.StringSpan.{StringSpan}
-use Rattle.sonic_lazy.specs.Wholes.{IsPart}
-use Rattle.sonic_lazy.proofs.PathLemmas.Lead.{count_below}
-use Rattle.sonic_lazy.proofs.WholeLemmas.{utf8_of_span}
+use Rattle.sonic_find.specs.Parts.{IsPart}
+use Rattle.sonic_find.proofs.PathLemmas.Lead.{count_below}
+use Rattle.sonic_find.proofs.Utf8Lemmas.{utf8_of_span}
 use Rattle.sonic_parser.specs.Containers.{GoesOn, IsEnd, IsSeparated, IsSeparatorFault}
-use Rattle.sonic_lazy.proofs.SeparatorLemmas.{item_goes_on, member_has_key}
+use Rattle.sonic_find.proofs.SeparatorLemmas.{item_goes_on, member_has_key}
 use Rattle.sonic_text.proofs.Insides.{item_whole, item_before_end}
 use Rattle.sonic_text.proofs.Stops.{fault_within}
 use Rattle.sonic_text.proofs.Parts.{part_is, part_length}

@@ -6,11 +6,11 @@ use Rattle.std.specs.Prelude.{Option}
 use Rattle.std.specs.Str.{IsUtf8}
 use Rattle.sonic_error.specs.declared.code.ErrorCode.TheVariants.{InvalidUTF8}
 use Rattle.sonic_error.specs.Texts.{valid_up_to}
-use Rattle.sonic_lazy.proofs.AnswerLemmas.One.{utf8_or_not}
+use Rattle.sonic_find.proofs.AnswerLemmas.One.{utf8_or_not}
 use Rattle.sonic_lazy.proofs.IteratorLemmas.{never_ends}
-use Rattle.sonic_lazy.specs.Answers.{Span}
+use Rattle.sonic_find.specs.Answers.{Span}
 use Rattle.sonic_lazy.specs.Items.{Item, Ending, closed, stopped, Listing, ItemsReach, IsItemAt, AreClosed, closed_empty, closed_after, BeginsNoItem, no_quote, text_ends, code_before_item, code_of_start, stop_at, AreStopped, no_container, no_item, no_separator, no_key, no_value, EndsItems, at_broken_text, at_bracket, at_stop, AreItems, no_items, one_more_item, IsListing}
-use Rattle.sonic_lazy.specs.Laws.{ExactlyOne}
+use Rattle.sonic_find.specs.Laws.{ExactlyOne}
 use Rattle.sonic_text.proofs.Insides.{not_past_byte}
 use Rattle.sonic_text.proofs.Items.{at_key, at_value, head_one, head_never_both, key_fault_one, closing_no_comma}
 use Rattle.sonic_text.proofs.Outcomes.{value_some_outcome}

@@ -11,9 +11,9 @@ use Rattle.sonic_error.specs.declared.code.ErrorCode.TheVariants.{InvalidNumber,
 use Rattle.sonic_error.specs.declared.json_type.Note.TheVariants.{Mismatch}
 use Rattle.sonic_error.specs.declared.json_type.Wanted.TheVariants.{Number}
 use Rattle.sonic_error.specs.Errors.{IsPlainError}
-use Rattle.sonic_lazy.proofs.DocumentLemmas.{alone_one, alone_never_invalid, reason_one, document_one}
-use Rattle.sonic_lazy.specs.Documents.{IsAlone, IsInvalid}
-use Rattle.sonic_lazy.specs.Laws.{HoldsOrHasOneReason}
+use Rattle.sonic_find.proofs.DocumentLemmas.{alone_one, alone_never_invalid, reason_one, document_one}
+use Rattle.sonic_find.specs.Documents.{IsAlone, IsInvalid}
+use Rattle.sonic_find.specs.Laws.{HoldsOrHasOneReason}
 use Rattle.sonic_lazy.specs.RawNumbers.{IsNumberText, IsNumberDocument, a_number, a_quoted_number, IsNoNumber, no_document, other_type, other_string, IsNumberError, out_of_memory, no_number}
 use Rattle.sonic_parser.specs.Faults.{IsStopFor, IsErrorOf}
 use Rattle.sonic_parser.specs.declared.fault.Fault.{Fault}

@@ -11,7 +11,7 @@ use Rattle.sonic_text.specs.Places.{byte, after_space}
 use Rattle.sonic_text.specs.Strings.{strict}
 use Rattle.sonic_text.specs.Values.{opening, closing, ItemHead, IsValue, ItemsFit}
 use Rattle.sonic_text.specs.Faults.{NothingFits, code_after_item, IsFault, IsKeyFault}
-use Rattle.sonic_lazy.specs.Answers.{Span}
+use Rattle.sonic_find.specs.Answers.{Span}
 
 -- an item: what the key of a member denotes, or nothing for an element, and the span of its value
 pub record Item : Type 0 where

@@ -17,7 +17,7 @@ use Rattle.sonic_parser.specs.Honest.{IsHonest}
 use Rattle.sonic_lazy.specs.declared.lazyvalue.LazyValue.{LazyValue}
 use Rattle.sonic_lazy.specs.Items.{Item, ItemsReach, IsItemAt, code_of_start, code_before_item, closed, stopped, EndsItems}
 use Rattle.sonic_lazy.specs.LazyValues.{raw_bytes}
-use Rattle.sonic_lazy.specs.Shown.{span_text}
+use Rattle.sonic_find.specs.Answers.{span_text}
 
 -- an iterator: the kind of its container, the text that this begins, whether that came as bytes whose UTF-8 is looked at first, whether the iterator looks
 -- at what it passes, how many items it gave, and whether it has ended

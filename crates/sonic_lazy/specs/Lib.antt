@@ -1,16 +1,9 @@
-pub mod Answers
-pub mod Causes
-pub mod Documents
-pub mod FirstPaths
 pub mod Internal
 pub mod Items
 pub mod Iterators
-pub mod Laws
 pub mod LazyValues
-pub mod Paths
 pub mod RawNumbers
 pub mod Scalars
 pub mod Shown
-pub mod Spans
 pub mod StringTexts
 pub mod Wholes

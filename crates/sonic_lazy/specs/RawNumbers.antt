@@ -10,7 +10,7 @@ use Rattle.sonic_text.specs.Numbers.{IsNumber}
 use Rattle.sonic_text.specs.Places.{byte}
 use Rattle.sonic_text.specs.Strings.{contents}
 use Rattle.sonic_text.specs.Values.{type_at}
-use Rattle.sonic_lazy.specs.Documents.{IsAlone, IsInvalid}
+use Rattle.sonic_find.specs.Documents.{IsAlone, IsInvalid}
 
 -- the whole text is a number
 abbrev pub IsNumberText : List ℕ → Type 0

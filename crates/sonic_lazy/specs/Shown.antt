@@ -4,10 +4,10 @@ use Rattle.std.specs.declared.option.Option.{Option}
 use Rattle.std.specs.declared.option.Option.TheVariants.{Some, None}
 use Rattle.sonic_text.specs.Paths.{Path}
 use Rattle.sonic_lazy.specs.declared.lazyvalue.LazyValue.{LazyValue}
-use Rattle.sonic_lazy.specs.Answers.{Span, IsAnswerBy, IsGetAnswer, spans}
+use Rattle.sonic_find.specs.Answers.{Span, IsAnswerBy, IsGetAnswer, span_text, spans}
 use Rattle.sonic_lazy.specs.LazyValues.{raw_bytes}
-use Rattle.sonic_lazy.specs.Causes.{IsGetRefusal, IsGetError, IsGettable}
-use Rattle.sonic_lazy.specs.Paths.{found, Leads}
+use Rattle.sonic_find.specs.Causes.{IsGetRefusal, IsGetError, IsGettable}
+use Rattle.sonic_find.specs.Paths.{found, Leads}
 use Rattle.sonic_pointer.specs.declared.rule.KeyRule.{KeyRule}
 use Rattle.sonic_pointer.specs.declared.rule.KeyRule.TheVariants.{First}
 use Rattle.sonic_error.specs.Errors.{IsPlainError}
@@ -34,10 +34,6 @@ pub record AreValuesBy (r : KeyRule) (t : List ℕ) (is_bytes : Bool) (paths : L
 -- and by first equal keys
 abbrev pub AreValues : List ℕ → Bool → List Path → List (Option LazyValue) → Type 0
 AreValues t is_bytes paths values = AreValuesBy First t is_bytes paths values
-
--- the bytes of a span
-abbrev pub span_text : List ℕ → Span → List ℕ
-span_text t span = slice_range t span.0 span.1
 
 -- the values have the texts of the spans, one by one, and there is none where there is no span
 abbrev pub HaveTexts : List ℕ → List (Option LazyValue) → List (Option Span) → Type 0

@@ -1,11 +1,11 @@
 // The lazy value of a span that was found.
 ghost use Rattle.std.specs.Prelude.{◌≡◌, slice_range};
 ghost use Rattle.sonic_lazy.specs.LazyValues.{raw_bytes};
-ghost use Rattle.sonic_lazy.specs.Internal.Located.{IsStatus};
-ghost use Rattle.sonic_lazy.specs.Wholes.{IsPart};
+ghost use Rattle.sonic_find.specs.Internal.Located.{IsStatus};
+ghost use Rattle.sonic_find.specs.Parts.{IsPart};
 
 use crate::lazyvalue::LazyValue;
-use crate::located::Located;
+use sonic_find::Located;
 use sonic_input::JsonInput;
 
 // The value in the input where it was found.

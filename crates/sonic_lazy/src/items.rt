@@ -6,13 +6,12 @@ ghost use Rattle.sonic_text.specs.Strings.{strict};
 ghost use Rattle.sonic_text.specs.Faults.{IsKeyFault};
 ghost use Rattle.sonic_parser.specs.Faults.{IsStopFor};
 ghost use Rattle.sonic_lazy.specs.Internal.Items.{IsAfterItems, IsFound, IsHead, IsKeyAt};
-ghost use Rattle.sonic_lazy.specs.Internal.Steps.{HasWhole, IsAtKey};
+ghost use Rattle.sonic_find.specs.Internal.Steps.{HasWhole, IsAtKey};
 ghost use Rattle.sonic_lazy.specs.Items.{ItemsReach, AreClosed, BeginsNoItem, AreStopped, code_of_start, code_before_item};
 
-use crate::located::Located;
-use crate::steps::Steps;
 use crate::unescaped::StringSpan;
 use sonic_error::ErrorCode;
+use sonic_find::{Located, Steps};
 use sonic_parser::Fault;
 use sonic_text::{Kind, Stop, StringEnd, byte_at};
 

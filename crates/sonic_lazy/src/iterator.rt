@@ -51,10 +51,10 @@ impl<'de> ObjectJsonIter<'de> {
     ghost use Rattle.sonic_error.specs.Errors.{IsPlainError};
     ghost use Rattle.sonic_text.specs.Strings.{IsEscapedString};
     ghost use Rattle.sonic_lazy.specs.Internal.Items.{IsKeyOf, IsKeyText};
-    ghost use Rattle.sonic_lazy.specs.Internal.Located.{IsStatus};
+    ghost use Rattle.sonic_find.specs.Internal.Located.{IsStatus};
     ghost use Rattle.sonic_lazy.specs.Iterators.{IsHonestNext, IsNext, ShowsMember};
     ghost use Rattle.sonic_lazy.specs.LazyValues.{raw_bytes};
-    ghost use Rattle.sonic_lazy.specs.Wholes.{IsPart};
+    ghost use Rattle.sonic_find.specs.Parts.{IsPart};
 
     /// The next member: what its key denotes, and its value. `None` after the last, and for ever.
     ///

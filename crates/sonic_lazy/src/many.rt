@@ -3,48 +3,20 @@ ghost use Rattle.std.specs.Prelude.{◌≡◌, option_map, IfOk, IfErr, IfSome};
 ghost use Rattle.sonic_error.specs.Errors.{IsPlainError};
 ghost use Rattle.sonic_text.specs.Strings.{strict};
 ghost use Rattle.sonic_parser.specs.Honest.{IsHonest};
-ghost use Rattle.sonic_lazy.specs.Answers.{IsAnswerBy, Answer};
-ghost use Rattle.sonic_lazy.specs.Causes.{IsAnswerable, IsAnswerableBy, IsRefusal, IsRefusalBy};
+ghost use Rattle.sonic_find.specs.Answers.{span_text};
+ghost use Rattle.sonic_find.specs.Causes.{IsAnswerable, IsAnswerableBy, IsRefusal, IsRefusalBy};
 ghost use Rattle.sonic_lazy.specs.LazyValues.{raw_bytes};
-ghost use Rattle.sonic_lazy.specs.Internal.Located.{IsStatus, HaveStatuses, AreParts, span_at, spans_of};
-ghost use Rattle.sonic_lazy.specs.Shown.{AreValues, AreValuesBy, HaveTexts, span_text};
-ghost use Rattle.sonic_lazy.specs.Wholes.{IsPart};
+ghost use Rattle.sonic_find.specs.Internal.Located.{IsStatus, HaveStatuses, AreParts, span_at, spans_of};
+ghost use Rattle.sonic_lazy.specs.Shown.{AreValues, AreValuesBy, HaveTexts};
+ghost use Rattle.sonic_find.specs.Parts.{IsPart};
 
-use crate::answer::answer;
 use crate::entry::entry;
 use crate::lazyvalue::LazyValue;
-use crate::located::Located;
 use sonic_error::{Error, ErrorCode};
-use sonic_input::{JsonInput, Read};
+use sonic_find::{Located, locate_many};
+use sonic_input::JsonInput;
 use sonic_pointer::{KeyRule, PointerTree};
 use std::alloc::{AllocError, Global};
-
-// The values that the paths of a tree find under a rule, in their order, with `None` for one that lacks its key.
-//
-// What follows the last byte that the paths need plays no part.
-pub(crate) fn locate_many<'de, I: JsonInput<'de>>(
-    alloc: Global,
-    json: I,
-    tree: &PointerTree,
-    rule: KeyRule,
-) -> Result<Vec<Option<Located>>, Error>
-    ensures ok { IfOk result (λ found. IsAnswerBy rule (I.JsonInput.content json) I.JsonInput.is_bytes
-        tree.now (Answer.spans (spans_of found.items))) }
-    ensures statuses { IfOk result (λ found. HaveStatuses (I.JsonInput.content json) found.items) }
-    ensures parts { IfOk result (λ found. AreParts (I.JsonInput.content json) found.items) }
-    ensures err { IfErr result (λ error. IsRefusalBy rule (I.JsonInput.content json) I.JsonInput.is_bytes
-        tree.now error) }
-    ensures complete { IsAnswerableBy rule (I.JsonInput.content json) I.JsonInput.is_bytes tree.now
-        → IfErr result (λ error. IsPlainError error ErrorCode.NoMemory) }
-    ensures honest { IfErr result (IsHonest strict (I.JsonInput.content json) 0) }
-{
-    let text = json.to_u8_slice();
-    let read = Read::unscanned(json.to_json_slice());
-    match answer(alloc, read, json.need_utf8_valid(), tree, rule) {
-        Ok(found) => Ok(found),
-        Err(fault) => Err(fault.error(text)),
-    }
-}
 
 // The lazy values in an input where they were found, in their order.
 fn values<'de, I: JsonInput<'de>>(

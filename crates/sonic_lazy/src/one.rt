@@ -1,24 +1,16 @@
 // What one path finds in an input.
-ghost use Rattle.std.specs.Prelude.{◌≡◌, ◌∷◌, ◌≤◌, [], Some, true, false, length, IfOk, IfErr};
+ghost use Rattle.std.specs.Prelude.{true, false, IfErr};
 ghost use Rattle.sonic_lazy.specs.Shown.{IsLookup};
 ghost use Rattle.sonic_text.specs.Strings.{strict};
-ghost use Rattle.sonic_text.specs.Values.{IsValue};
 ghost use Rattle.sonic_pointer.specs.Nodes.{path_of};
-ghost use Rattle.sonic_parser.specs.Faults.{IsStopFor};
 ghost use Rattle.sonic_parser.specs.Honest.{IsHonest};
-ghost use Rattle.sonic_lazy.specs.Answers.{IsGetAnswer, Answer};
-ghost use Rattle.sonic_lazy.specs.Internal.Located.{IsStatus};
 
-use crate::answer::check;
 use crate::entry::entry;
 use crate::lazyvalue::LazyValue;
-use crate::located::Located;
-use crate::path::locate;
-use crate::steps::Steps;
 use bytes::Bytes;
 use sonic_error::Error;
+use sonic_find::locate_from;
 use sonic_input::{FastStr, JsonInput, Read};
-use sonic_parser::Fault;
 use sonic_pointer::PointerNode;
 use std::alloc::Global;
 
@@ -100,28 +92,4 @@ pub fn get_from_faststr<'de>(
     ensures honest { IfErr result (IsHonest strict json.now 0) }
 {
     get(alloc, json, path)
-}
-
-// The value to which a path leads, up to whose end the text is UTF-8.
-pub(crate) fn locate_from(
-    alloc: Global,
-    read: Read<'_>,
-    is_bytes: bool,
-    path: &[PointerNode<'_>],
-) -> Result<Located, Fault>
-    requires { read.place ≡ 0 }
-    ensures ok { IfOk result (λ x. IsGetAnswer read.entry.text is_bytes (path_of path.now)
-        (Answer.spans (Some (x.start, x.end) ∷ []))) }
-    ensures value { IfOk result (λ x. IsValue strict read.entry.text x.start x.end) }
-    ensures status { IfOk result (λ x. IsStatus read.entry.text x.start x.end x.status) }
-    ensures within { IfErr result (IsStopFor (λ s. s.place ≤ length read.entry.text)) }
-    ensures err { IfErr result (IsStopFor (λ s.
-        IsGetAnswer read.entry.text is_bytes (path_of path.now) (Answer.error s))) }
-{
-    let mut steps = Steps::checked(alloc, read);
-    let found = locate(&mut steps, path)?;
-    if is_bytes {
-        check(steps.text(), found.end)?;
-    }
-    Ok(found)
 }

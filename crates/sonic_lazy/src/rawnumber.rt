@@ -14,11 +14,10 @@ ghost use Rattle.sonic_text.specs.Places.{byte};
 ghost use Rattle.sonic_parser.specs.Faults.{IsStopFor};
 ghost use Rattle.sonic_lazy.specs.RawNumbers.{IsNumberText, IsNumberDocument, IsNoNumber, IsNumberError};
 
-use crate::document::pass_alone;
 use crate::lazyvalue::LazyValue;
-use crate::located::Located;
 use crate::value_trait::JsonValueTrait;
 use sonic_error::{ErrorCode, Note, Result, Wanted};
+use sonic_find::{Located, pass_alone};
 use sonic_input::{FastStr, JsonSlice, Read};
 use sonic_parser::Fault;
 use sonic_text::{Stop, skip_number, type_of, whole_i64, whole_u64};

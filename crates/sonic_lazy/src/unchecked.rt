@@ -6,10 +6,9 @@ ghost use Rattle.sonic_lazy.specs.Shown.{IsSureLookup};
 
 use crate::entry::entry;
 use crate::lazyvalue::LazyValue;
-use crate::path::locate;
-use crate::steps::Steps;
 use bytes::Bytes;
 use sonic_error::Error;
+use sonic_find::{Steps, locate};
 use sonic_input::{FastStr, JsonInput, Read};
 use sonic_pointer::PointerNode;
 

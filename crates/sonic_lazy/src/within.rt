@@ -5,9 +5,7 @@ ghost use Rattle.sonic_lazy.specs.LazyValues.{raw_bytes};
 ghost use Rattle.sonic_lazy.specs.Shown.{IsFoundIn, FindsNone};
 
 use crate::lazyvalue::LazyValue;
-use crate::located::Located;
-use crate::path::locate;
-use crate::steps::Steps;
+use sonic_find::{Located, Steps, locate};
 use sonic_input::Read;
 use sonic_pointer::PointerNode;
 

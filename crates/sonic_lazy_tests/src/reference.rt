@@ -7,7 +7,7 @@ ghost use Rattle.sonic_text.specs.Faults.{IsFault, IsKeyFault};
 ghost use Rattle.sonic_pointer.specs.Nodes.{node_of, path_of};
 ghost use Rattle.sonic_parser.specs.Faults.{IsStopFor};
 ghost use Rattle.sonic_parser.specs.Parsers.{moved};
-ghost use Rattle.sonic_lazy.specs.Paths.{found, lacks, fails, cut, fails_at, empty_code, kind_of, nowhere, wanted_of, IsNamed, LeadsOn, LeadsBy, EvaluatesBy};
+ghost use Rattle.sonic_find.specs.Paths.{found, lacks, fails, cut, fails_at, empty_code, kind_of, nowhere, wanted_of, IsNamed, LeadsOn, LeadsBy, EvaluatesBy};
 
 use crate::lookups::{Paths, tree_of};
 use crate::same::same_at;

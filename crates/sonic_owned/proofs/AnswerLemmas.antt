@@ -3,7 +3,7 @@ use Rattle.std.proofs.Common.{◌≡◌, ◌<◌, refl, [], ◌∷◌, List, len
 use Rattle.std.specs.Result.{IsErr}
 use Rattle.sonic_error.specs.Errors.{IsPlainError}
 use Rattle.sonic_error.specs.declared.code.ErrorCode.TheVariants as code
-use Rattle.sonic_lazy.specs.Paths.{kind_of}
+use Rattle.sonic_find.specs.Paths.{kind_of}
 use Rattle.sonic_lazy.specs.Scalars.{container}
 use Rattle.sonic_owned.proofs.ChangeLemmas.{opened_kind}
 use Rattle.sonic_owned.proofs.Loans.{so_none, so_lent}

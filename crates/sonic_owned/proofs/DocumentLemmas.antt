@@ -1,8 +1,8 @@
 -- The value that a document is.
 use Rattle.std.proofs.Common.{◌≡◌, ◌∙◌, sym, refl, ap, ap₂, ℕ, List, length}
 use Rattle.std.specs.Prelude.{slice_range}
-use Rattle.sonic_lazy.proofs.DocumentLemmas.{alone_one, alone_part}
-use Rattle.sonic_lazy.specs.Documents.{IsAlone, IsDocumentValue, IsValidDocument}
+use Rattle.sonic_find.proofs.DocumentLemmas.{alone_one, alone_part}
+use Rattle.sonic_find.specs.Documents.{IsAlone, IsDocumentValue, IsValidDocument}
 use Rattle.sonic_owned.specs.Forms.{Form, raw, IsSound, raw_sound}
 use Rattle.sonic_owned.specs.Owned.{IsRawDocument}
 use Rattle.sonic_text.proofs.ValueParts.{value_of_part}

@@ -4,14 +4,13 @@ use Rattle.std.proofs.lemmas.Bool.{cases_Bool, cases_order}
 use Rattle.std.proofs.lemmas.List.{append_assoc, append-nil}
 use Rattle.std.specs.Cmp.Lexicographic.{pointwise}
 use Rattle.std.specs.Prelude.{slice_range}
-use Rattle.sonic_lazy.proofs.PartLemmas.{leads_in_whole, leads_in_part, same_text_in_part}
-use Rattle.sonic_lazy.proofs.PathLemmas.Lead.{named_one, named_leads, none_leads, past_byte, none_empty, none_unopened}
-use Rattle.sonic_lazy.proofs.PathLemmas.Outcome.{nowhere_ends}
-use Rattle.sonic_lazy.specs.Answers.{Span}
+use Rattle.sonic_find.proofs.PartLemmas.{leads_in_whole, leads_in_part, same_text_in_part}
+use Rattle.sonic_find.proofs.PathLemmas.Lead.{named_one, named_leads, none_leads, past_byte, none_empty, none_unopened}
+use Rattle.sonic_find.proofs.PathLemmas.Outcome.{nowhere_ends}
+use Rattle.sonic_find.specs.Answers.{Span, span_text}
 use Rattle.sonic_lazy.specs.Items.{Item, ItemsReach, IsItemAt, AreClosed, closed_empty, closed_after, AreItems, no_items, one_more_item}
-use Rattle.sonic_lazy.specs.Laws.{Finds, LeadsInPart, outcome_in_whole}
-use Rattle.sonic_lazy.specs.Paths.{Outcome, found, lacks, fails, cut, kind_of, name_of, NoneNamed, IsNamed, LeadsOn, Evaluates, found_here, goes_on, leads_nowhere}
-use Rattle.sonic_lazy.specs.Shown.{span_text}
+use Rattle.sonic_find.specs.Laws.{Finds, LeadsInPart, outcome_in_whole}
+use Rattle.sonic_find.specs.Paths.{Outcome, found, lacks, fails, cut, kind_of, name_of, NoneNamed, IsNamed, LeadsOn, Evaluates, found_here, goes_on, leads_nowhere}
 use Rattle.sonic_owned.proofs.LeadingLemmas.{goes_in, level_nowhere, in_text_alone, LeadsAlike, alike_here}
 use Rattle.sonic_owned.proofs.Lists.{texts_equal}
 use Rattle.sonic_owned.proofs.MeantPathLemmas.{index_further, key_other}

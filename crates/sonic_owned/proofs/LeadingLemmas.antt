@@ -7,8 +7,8 @@ use Rattle.std.specs.List.{slice_get}
 use Rattle.std.specs.Option.{IfSome}
 use Rattle.sonic_owned.proofs.Lists.{texts_equal, none_not_some}
 use Rattle.sonic_owned.specs.Forms.{Form, raw, level, Members, unnamed, named}
-use Rattle.sonic_lazy.proofs.PathLemmas.Outcome.{nowhere_ends}
-use Rattle.sonic_lazy.specs.Paths.{kind_of, found_here, goes_on, leads_nowhere}
+use Rattle.sonic_find.proofs.PathLemmas.Outcome.{nowhere_ends}
+use Rattle.sonic_find.specs.Paths.{kind_of, found_here, goes_on, leads_nowhere}
 use Rattle.sonic_lazy.specs.Shown.{FindsNone}
 use Rattle.sonic_owned.specs.Leading.{Nowhere, item_at, item_of, item_in, LeadsTo, leads_on, leads_in_text}
 use Rattle.sonic_text.proofs.Values.{items_open, value_starts}

@@ -7,7 +7,7 @@ use Rattle.sonic_lazy.specs.LazyValues.{raw_bytes}
 use Rattle.sonic_lazy.specs.declared.lazyvalue.LazyValue.{LazyValue}
 use Rattle.std.specs.Cow.{cow_str_bytes}
 use Rattle.std.specs.declared.borrow.CowStr.{CowStr}
-use Rattle.sonic_lazy.specs.Shown.{span_text}
+use Rattle.sonic_find.specs.Answers.{span_text}
 use Rattle.sonic_owned.proofs.Folds.{formed, elements_of, members_of}
 use Rattle.sonic_owned.specs.Forms.{Form, raw, Members, no_member, member, unnamed, named}
 use Rattle.sonic_owned.specs.Opened.{raw_members, AreAllMembers}

@@ -4,7 +4,7 @@ use Rattle.std.proofs.lemmas.List.{append_assoc, append-nil, take_all}
 use Rattle.std.specs.Prelude.{Option, slice_range}
 use Rattle.std.specs.Str.{IsUtf8}
 use Rattle.sonic_lazy.proofs.ScalarLemmas.{scalar_means}
-use Rattle.sonic_lazy.proofs.WholeLemmas.{utf8_of_span}
+use Rattle.sonic_find.proofs.Utf8Lemmas.{utf8_of_span}
 use Rattle.sonic_lazy.specs.Items.{Item, AreItems, no_items, one_more_item}
 use Rattle.sonic_lazy.specs.Scalars.{container, scalar_of}
 use Rattle.sonic_owned.proofs.MeantPathLemmas.{BothMean, neither, item_means, child_none}

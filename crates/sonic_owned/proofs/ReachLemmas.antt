@@ -13,7 +13,7 @@ use Rattle.sonic_owned.proofs.MeantPathLemmas.{leads_meant}
 use Rattle.sonic_owned.proofs.OpeningLemmas.{opened_means}
 use Rattle.sonic_owned.specs.Forms.{Form, raw, level, Members, member, unnamed, named, scalar_of_form, FormMeans, raw_means, level_means, MembersMean, no_member_means, member_means}
 use Rattle.sonic_owned.specs.Leading.{item_at, item_of, item_in}
-use Rattle.sonic_lazy.specs.Paths.{kind_of}
+use Rattle.sonic_find.specs.Paths.{kind_of}
 use Rattle.sonic_lazy.specs.Scalars.{container as container_of}
 use Rattle.sonic_owned.specs.Opened.{IsClosedContainer, IsClosedOf, IsOpened, as_it_was, level_opened}
 use Rattle.sonic_owned.specs.Owned.{HasKeyAt, IsFirstOfKey}

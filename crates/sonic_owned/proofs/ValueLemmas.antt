@@ -16,7 +16,7 @@ use Rattle.sonic_owned.specs.declared.value.LazyObject.{LazyObject}
 use Rattle.sonic_owned.specs.declared.value.Node.{Node, roll-Node, map-Node, ind-Node}
 use Rattle.sonic_owned.specs.declared.value.Node.TheOpen.{Node-F}
 use Rattle.sonic_owned.specs.declared.value.OwnedLazyValue.{OwnedLazyValue}
-use Rattle.sonic_lazy.specs.Documents.{IsValidDocument}
+use Rattle.sonic_find.specs.Documents.{IsValidDocument}
 use Rattle.sonic_owned.proofs.Utf8Lemmas.{quoted_utf8, text_utf8}
 use Rattle.sonic_owned.proofs.TextLemmas.{text_means}
 use Rattle.sonic_text.proofs.Places.{after_space_later}

@@ -6,7 +6,7 @@ use Rattle.sonic_owned.proofs.LeadingLemmas.{goes_in, kind_nowhere, level_nowher
 use Rattle.sonic_owned.proofs.Lent.{found_by}
 use Rattle.sonic_owned.proofs.OpeningLemmas.{opened_means}
 use Rattle.sonic_owned.proofs.ReachLemmas.{item_still}
-use Rattle.sonic_lazy.specs.Paths.{kind_of}
+use Rattle.sonic_find.specs.Paths.{kind_of}
 use Rattle.sonic_lazy.specs.Scalars.{container, scalar_of}
 use Rattle.sonic_owned.specs.Forms.{Form, raw, level, Members, scalar_of_form, IsSound, raw_sound, level_sound}
 use Rattle.sonic_owned.specs.Leading.{Nowhere, item_in}

@@ -1,7 +1,7 @@
 -- Where a path leads in a value, however far it is opened (compare RFC 6901, section 4).
 use Rattle.std.specs.Prelude.{◌≡◌, ℕ, zero, suc, List, [], ◌∷◌, ◌++◌, Option, Some, None, slice_range, nat_eq, if◌then◌else◌}
 use Rattle.std.specs.Cmp.Lexicographic.{pointwise}
-use Rattle.sonic_lazy.specs.Paths.{found, Leads}
+use Rattle.sonic_find.specs.Paths.{found, Leads}
 use Rattle.sonic_owned.specs.Forms.{Form, raw, level, Members, no_member, member}
 use Rattle.sonic_text.specs.Paths.{Node, key, index, Path}
 use Rattle.sonic_text.specs.declared.kind.Kind.TheVariants.{Array, Object}

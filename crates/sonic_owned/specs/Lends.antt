@@ -5,7 +5,7 @@ use Rattle.std.specs.Option.{ghost_name_of}
 use Rattle.sonic_error.specs.Errors.{IsPlainError}
 use Rattle.sonic_error.specs.declared.code.ErrorCode.TheVariants as code
 use Rattle.sonic_error.specs.declared.error.Error.{Error}
-use Rattle.sonic_lazy.specs.Paths.{kind_of}
+use Rattle.sonic_find.specs.Paths.{kind_of}
 use Rattle.sonic_lazy.specs.Scalars.{container}
 use Rattle.sonic_owned.specs.Forms.{Form, level, Members, scalar_of_form}
 use Rattle.sonic_owned.specs.Leading.{item_in}

@@ -2,7 +2,7 @@
 use Rattle.std.specs.Prelude.{◌≡◌, ℕ, List, [], ◌∷◌}
 use Rattle.sonic_lazy.specs.Items.{Item, AreItems, AreClosed}
 use Rattle.sonic_lazy.specs.Scalars.{container, scalar_of}
-use Rattle.sonic_lazy.specs.Shown.{span_text}
+use Rattle.sonic_find.specs.Answers.{span_text}
 use Rattle.sonic_owned.specs.Forms.{Form, raw, level, Members, no_member, member}
 use Rattle.sonic_text.specs.declared.kind.Kind.{Kind}
 

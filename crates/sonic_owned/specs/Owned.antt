@@ -1,6 +1,6 @@
 -- What calls of owned values say.
 use Rattle.std.specs.Prelude.{◌≡◌, ◌<◌, ℕ, List, Some, slice_get}
-use Rattle.sonic_lazy.specs.Documents.{IsDocumentValue}
+use Rattle.sonic_find.specs.Documents.{IsDocumentValue}
 use Rattle.sonic_owned.specs.Forms.{Form, raw}
 
 -- the form is the text of the one value that the document is

@@ -3,7 +3,7 @@ use Rattle.std.specs.Prelude.{◌≡◌, ◌<◌, ◌≤◌, ◌∷◌, Bool, tr
 use Rattle.sonic_error.specs.Errors.{IsPlainError}
 use Rattle.sonic_error.specs.declared.code.ErrorCode.TheVariants.{NoMemory, RecursionLimitExceeded}
 use Rattle.sonic_error.specs.declared.error.Error.{Error}
-use Rattle.sonic_lazy.specs.Paths.{kind_of}
+use Rattle.sonic_find.specs.Paths.{kind_of}
 use Rattle.sonic_owned.specs.Edits.{IsChange}
 use Rattle.sonic_owned.specs.Forms.{Form, FormMeans}
 use Rattle.sonic_owned.specs.Leading.{LeadsTo, item_in}

@@ -1,6 +1,6 @@
 // Laws of forms.
 ghost use Rattle.std.specs.Prelude.{◌≡◌, ◌↔◌, ◌⊎◌, ℕ, List, ◌∷◌, length, Some, None};
-ghost use Rattle.sonic_lazy.specs.Documents.{IsValidDocument};
+ghost use Rattle.sonic_find.specs.Documents.{IsValidDocument};
 ghost use Rattle.sonic_lazy.specs.Scalars.{scalar_of_tree};
 ghost use Rattle.sonic_owned.specs.Edits.{IsSoundChange, IsEdit, IsRefused, AreEdits, IsFirstRefused, EditMeans, EditsMean};
 ghost use Rattle.sonic_owned.specs.Forms.{Form, IsSound, FormMeans, scalar_of_form, text};

@@ -1,7 +1,7 @@
 // Values, and the levels that they open to.
 ghost use Rattle.std.specs.Prelude.{◌≡◌, false, IfOk, IfErr};
 ghost use Rattle.sonic_error.specs.Errors.{IsPlainError};
-ghost use Rattle.sonic_lazy.specs.Documents.{IsDocumentValue, IsInvalidError, IsValidDocument};
+ghost use Rattle.sonic_find.specs.Documents.{IsDocumentValue, IsInvalidError, IsValidDocument};
 ghost use Rattle.sonic_lazy.specs.LazyValues.{raw_bytes};
 ghost use Rattle.sonic_owned.specs.Forms.{raw};
 ghost use Rattle.sonic_owned.specs.Owned.{IsRawDocument};

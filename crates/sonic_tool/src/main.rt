@@ -1,29 +1,8 @@
 //! A command that reads a JSON text from standard input and writes its report to standard output.
 #![tactic(auto)]
 
-// The commands, and the words that ask for them.
-mod commands;
-// The line of an error.
-mod error_line;
-// The laws of the reports and of the counts of faults.
-mod law;
-// Where the input comes from and the report goes.
-mod outside;
-// A report that is ready, and its delivery.
-mod reply;
-// The top call.
-mod run;
-// The exit statuses.
-mod status;
-// Runs that no fault stops.
-mod sure;
-// Rows from outside, ample memory, and the forms over the system.
-#[cfg(test)]
-mod tests;
-
-use outside::stdio::{InputSource, OutputSink};
-use run::run;
-use status::Status;
+use sonic_io::{InputSource, OutputSink};
+use sonic_reports::{Status, run};
 use std::io::ErrorKind;
 use std::process::ExitCode;
 use std::{env, io};

@@ -5,8 +5,8 @@ use Rattle.sonic_error.specs.Errors.{IsPlainError}
 use Rattle.sonic_error.specs.Texts.{valid_up_to}
 use Rattle.sonic_error.specs.declared.code.ErrorCode.TheVariants.{InvalidUTF8, TrailingCharacters, NoMemory}
 use Rattle.sonic_error.specs.declared.error.Error.{Error}
-use Rattle.sonic_lazy.proofs.DocumentLemmas.{after_alone, valid_but_memory}
-use Rattle.sonic_lazy.specs.Documents.{IsValidDocument, no_root, text_after, broken_text, invalid as an_invalid}
+use Rattle.sonic_find.proofs.DocumentLemmas.{after_alone, valid_but_memory}
+use Rattle.sonic_find.specs.Documents.{IsValidDocument, no_root, text_after, broken_text, invalid as an_invalid}
 use Rattle.sonic_parser.specs.Faults.{IsStopFor, IsErrorOf}
 use Rattle.sonic_parser.specs.declared.fault.Fault.{Fault}
 use Rattle.sonic_parser.specs.declared.fault.Fault.TheVariants.{OutOfMemory, At}

@@ -3,8 +3,8 @@ use Rattle.std.proofs.Common.{◌≡◌, ◌⊎◌, ◌∙◌, inl, inr, refl, s
 use Rattle.std.proofs.lemmas.Bool.{cases_Bool, cases_lt}
 use Rattle.std.proofs.lemmas.Str.{IsUtf8-from_is_utf8, is_utf8-from_IsUtf8}
 use Rattle.std.specs.Str.{IsUtf8, is_utf8}
-use Rattle.sonic_lazy.proofs.DocumentLemmas.{after_alone, document_one}
-use Rattle.sonic_lazy.specs.Documents.{IsValidDocument}
+use Rattle.sonic_find.proofs.DocumentLemmas.{after_alone, document_one}
+use Rattle.sonic_find.specs.Documents.{IsValidDocument}
 use Rattle.sonic_text.proofs.TreeLemmas.{value_of, means_one}
 use Rattle.sonic_text.proofs.Values.{value_end_one, value_fault_one, value_never_both}
 use Rattle.sonic_text.proofs.Within.{value_within, after_space_within}

@@ -6,7 +6,7 @@ use Rattle.std.specs.Str.{IsUtf8}
 use Rattle.sonic_error.specs.Texts.{valid_up_to}
 use Rattle.sonic_error.specs.declared.code.ErrorCode.TheVariants.{InvalidUTF8}
 use Rattle.sonic_error.specs.declared.error.Error.{Error}
-use Rattle.sonic_lazy.proofs.WholeLemmas.{utf8_of_span, utf8_up_to}
+use Rattle.sonic_find.proofs.Utf8Lemmas.{utf8_of_span, utf8_up_to}
 use Rattle.sonic_lazy.specs.Scalars.{scalar_of_tree, container as a_container}
 use Rattle.sonic_owned.proofs.PlacedLemmas.{slice_means}
 use Rattle.sonic_parser.specs.Faults.{IsStopFor, IsErrorOf}

@@ -1,6 +1,6 @@
 -- What the laws say of texts that are read, and of schemas that are filled.
 use Rattle.std.specs.Prelude.{◌≡◌}
-use Rattle.sonic_lazy.specs.Laws.{HoldsOrHasOneReason}
+use Rattle.sonic_find.specs.Laws.{HoldsOrHasOneReason}
 use Rattle.sonic_text.specs.Trees.{Tree}
 use Rattle.sonic_text.specs.declared.stop.Stop.{Stop}
 

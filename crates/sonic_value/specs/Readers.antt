@@ -1,7 +1,7 @@
 -- What the reader knows of the values that it passed: facts on which no public clause rests.
 use Rattle.std.specs.Prelude.{◌≡◌, ◌≢◌, ◌↔◌, ℕ, ◌+◌, ◌<◌, IsTrue, Bool, true, false, List, [], ◌∷◌, map, Option}
 use Rattle.sonic_error.specs.declared.code.ErrorCode.TheVariants.{RecursionLimitExceeded}
-use Rattle.sonic_lazy.specs.Documents.{IsAlone}
+use Rattle.sonic_find.specs.Documents.{IsAlone}
 use Rattle.sonic_text.specs.Faults.{IsFault}
 use Rattle.sonic_text.specs.Places.{byte, after_space}
 use Rattle.sonic_text.specs.Strings.{strict, IsString, IsEscapedString}

@@ -4,7 +4,7 @@ use Rattle.std.specs.Str.{IsUtf8}
 use Rattle.sonic_error.specs.Errors.{IsErrorAt, IsPlainError}
 use Rattle.sonic_error.specs.declared.code.ErrorCode.TheVariants.{NoMemory, RecursionLimitExceeded}
 use Rattle.sonic_error.specs.declared.error.Error.{Error}
-use Rattle.sonic_lazy.specs.Documents.{IsAlone, IsInvalid}
+use Rattle.sonic_find.specs.Documents.{IsAlone, IsInvalid}
 use Rattle.sonic_text.specs.Places.{after_space}
 use Rattle.sonic_text.specs.Trees.{Tree, Means}
 use Rattle.sonic_text.specs.declared.stop.Stop.{Stop}

@@ -1,7 +1,7 @@
 // Laws of values.
 ghost use Rattle.std.specs.Prelude.{◌≡◌, ℕ, Bool, false, List, length};
 ghost use Rattle.std.specs.Str.{IsUtf8};
-ghost use Rattle.sonic_lazy.specs.Documents.{IsValidDocument};
+ghost use Rattle.sonic_find.specs.Documents.{IsValidDocument};
 ghost use Rattle.sonic_text.specs.Trees.{Tree, Means};
 ghost use Rattle.sonic_value.specs.CompactTexts.{HasNumbers, compact};
 ghost use Rattle.sonic_value.specs.Laws.{HasOneTreeOrReason};

@@ -2,7 +2,7 @@
 ghost use Rattle.std.specs.Prelude.{◌≡◌, ◌+◌, ◌≤◌, ℕ, Bool, true, false, length, IfOk, IfErr};
 ghost use Rattle.std.specs.Str.{IsUtf8};
 ghost use Rattle.sonic_error.specs.Errors.{IsPlainError};
-ghost use Rattle.sonic_lazy.specs.Documents.{IsValidDocument};
+ghost use Rattle.sonic_find.specs.Documents.{IsValidDocument};
 ghost use Rattle.sonic_parser.specs.Faults.{IsStopFor};
 ghost use Rattle.sonic_text.specs.Places.{byte, after_space};
 ghost use Rattle.sonic_text.specs.Values.{opening};

@@ -14,12 +14,12 @@ use Rattle.sonic_input.specs.Slices.{slice_bytes}
 use Rattle.sonic_lazy.specs.declared.items.Found.{Found}
 use Rattle.sonic_lazy.specs.declared.unescaped.StringSpan.{StringSpan}
 use Rattle.sonic_lazy.specs.declared.iteration.Items.TheInside.{Inside}
-use Rattle.sonic_lazy.specs.Internal.Located.{IsStatus}
+use Rattle.sonic_find.specs.Internal.Located.{IsStatus}
 use Rattle.sonic_lazy.specs.Internal.StringSpans.{IsStringSpan}
 use Rattle.sonic_lazy.specs.StringTexts.{IsTextAt}
 use Rattle.sonic_lazy.specs.Items.{Item, ItemsReach, IsItemAt}
 use Rattle.sonic_lazy.specs.Iterators.{Iterating}
-use Rattle.sonic_lazy.specs.Wholes.{IsPart}
+use Rattle.sonic_find.specs.Parts.{IsPart}
 
 -- so many items were passed up to here: none before the container, or the last of them ends here
 pub data IsAfterItems (t : List ℕ) (kind : Kind) (n p : ℕ) : Type 0 where

@@ -2,11 +2,11 @@
 use Rattle.std.proofs.Common.{◌≡◌, ◌≢◌, inl, inr, ℕ, ◌+◌, List, Bool, true, false, ◌∷◌, arith, refl}
 use Rattle.std.proofs.lemmas.Bool.{cases_order}
 use Rattle.sonic_error.specs.declared.code.ErrorCode.TheVariants.{DuplicateKey}
-use Rattle.sonic_lazy.proofs.PathLemmas.Lead.{NoFurther}
-use Rattle.sonic_lazy.specs.Paths.{LeadsOn, LeadsBy, fails_at, kind_of, IsNamed, EvaluatesBy}
-use Rattle.sonic_lazy.specs.Paths.EvaluatesBy.{repeats}
-use Rattle.sonic_lazy.specs.Internal.Marks.{Sight, none_seen, one_seen, two_seen, NoneAmong, OnlyAmong, TwiceAmong, IsSeen, seen_none, seen_only, seen_twice}
-use Rattle.sonic_lazy.proofs.MarkLemmas.Seen.{seen_other, seen_last_next, seen_only_next, seen_twice_next, seen_twice_still, NoMore, none_of_all, one_of_all, two_of_all}
+use Rattle.sonic_find.proofs.PathLemmas.Lead.{NoFurther}
+use Rattle.sonic_find.specs.Paths.{LeadsOn, LeadsBy, fails_at, kind_of, IsNamed, EvaluatesBy}
+use Rattle.sonic_find.specs.Paths.EvaluatesBy.{repeats}
+use Rattle.sonic_find.specs.Internal.Marks.{Sight, none_seen, one_seen, two_seen, NoneAmong, OnlyAmong, TwiceAmong, IsSeen, seen_none, seen_only, seen_twice}
+use Rattle.sonic_find.proofs.MarkLemmas.Seen.{seen_other, seen_last_next, seen_only_next, seen_twice_next, seen_twice_still, NoMore, none_of_all, one_of_all, two_of_all}
 use Rattle.sonic_lazy_tests.specs.declared.reference.Way.{Way}
 use Rattle.sonic_lazy_tests.specs.declared.reference.Way.TheVariants.{On, Twice, Nowhere}
 use Rattle.sonic_pointer.specs.declared.rule.KeyRule.{KeyRule}

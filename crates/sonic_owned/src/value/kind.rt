@@ -4,7 +4,7 @@ ghost use Rattle.std.specs.Fmt.{signed_decimal};
 ghost use Rattle.std.specs.Cow.{cow_str_bytes};
 ghost use Rattle.sonic_error.specs.Errors.{IsPlainError};
 ghost use Rattle.sonic_lazy.specs.RawNumbers.{IsNumberText};
-ghost use Rattle.sonic_lazy.specs.Paths.{kind_of};
+ghost use Rattle.sonic_find.specs.Paths.{kind_of};
 ghost use Rattle.sonic_lazy.specs.Scalars.{container, text as a_text};
 ghost use Rattle.sonic_owned.specs.Forms.{text, scalar_of_form};
 ghost use Rattle.sonic_owned.specs.Integers.{value};

@@ -2,7 +2,7 @@
 ghost use Rattle.std.specs.Prelude.{◌≡◌, ◌≢◌, ◌<◌, ◌∷◌, [], true, false, length, None, Some, IfOk, IfErr, IsErr, IfSome, OnErr, OnSome, ◌↔◌, ◌≤◌, IsTrue};
 ghost use Rattle.std.specs.Borrow.{sem, follows_so, LendsSo, LendsSoOk};
 ghost use Rattle.sonic_error.specs.Errors.{IsPlainError};
-ghost use Rattle.sonic_lazy.specs.Paths.{kind_of};
+ghost use Rattle.sonic_find.specs.Paths.{kind_of};
 ghost use Rattle.sonic_lazy.specs.Scalars.{container};
 ghost use Rattle.sonic_owned.specs.Forms.{Form, level, Members, unnamed, named, scalar_of_form};
 ghost use Rattle.sonic_owned.specs.Leading.{item_in};

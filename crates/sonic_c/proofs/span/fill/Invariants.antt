@@ -1,5 +1,5 @@
 use Rattle.std.proofs.Common.{◌≡◌, map, take}
-use Rattle.sonic_lazy.specs.Spans.{pairs_of}
+use Rattle.sonic_find.specs.Spans.{pairs_of}
 use Rattle.sonic_c.specs.Told.{shown_span}
 use Rattle.sonic_c.proofs.span.fill.Given as goal
 

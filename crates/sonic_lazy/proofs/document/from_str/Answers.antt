@@ -1,6 +1,6 @@
 use Rattle.std.proofs.Common.{false, refl, ◌∙◌}
-use Rattle.sonic_lazy.proofs.HonestLemmas.{honest_of_invalid}
-use Rattle.sonic_lazy.proofs.DocumentLemmas.{alone_part, reason_either, invalid_error, valid_but_memory}
+use Rattle.sonic_find.proofs.HonestLemmas.{honest_of_invalid}
+use Rattle.sonic_find.proofs.DocumentLemmas.{alone_part, reason_either, invalid_error, valid_but_memory}
 use Rattle.sonic_lazy.proofs.document.from_str.Goals as goal
 
 pub entry-requires : goal.entry-requires

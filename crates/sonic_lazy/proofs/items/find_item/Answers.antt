@@ -2,7 +2,7 @@ use Rattle.std.proofs.Common.{◌≡◌, ◌∙◌, ap, refl}
 use Rattle.std.proofs.lemmas.Result.{err_from_is_err_and}
 use Rattle.sonic_lazy.proofs.ItemLemmas.{head_whole, reach_key, key_stopped, value_stopped}
 use Rattle.sonic_lazy.proofs.items.find_item.Goals as goal
-use Rattle.sonic_lazy.specs.Internal.Steps.{Stepping}
+use Rattle.sonic_find.specs.Internal.Steps.{Stepping}
 use Rattle.sonic_lazy.specs.Items.{BeginsNoItem, no_item}
 use Rattle.sonic_parser.proofs.FaultLemmas.{stop_weaker}
 

@@ -2,9 +2,9 @@ use Rattle.sonic_lazy.proofs.many_unchecked.get_many_unchecked.Goals as goal
 use Rattle.std.proofs.Common.{◌≡◌, ◌∙◌, ℕ, List, ◌++◌, length, take, refl, arith}
 use Rattle.std.proofs.Math.Seq.{take-append_seam}
 use Rattle.std.proofs.lemmas.Result.{err_from_is_err_and}
-use Rattle.sonic_lazy.proofs.FillLemmas.{spans_parts}
+use Rattle.sonic_find.proofs.FillLemmas.{spans_parts}
 use Rattle.sonic_lazy.proofs.ShownLemmas.{are_values}
-use Rattle.sonic_lazy.specs.Causes.{answered}
+use Rattle.sonic_find.specs.Causes.{answered}
 
 pub returns-in_err-find_many_unchecked-clause-err : goal.returns-in_err-find_many_unchecked-clause-err
 returns-in_err-find_many_unchecked-clause-err g c =

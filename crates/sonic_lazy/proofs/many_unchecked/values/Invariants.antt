@@ -1,7 +1,7 @@
 -- The values so far are shown.
 use Rattle.std.proofs.Common.{take}
 use Rattle.sonic_lazy.specs.Shown.{HaveTexts}
-use Rattle.sonic_lazy.specs.Spans.{pairs_of}
+use Rattle.sonic_find.specs.Spans.{pairs_of}
 use Rattle.sonic_lazy.proofs.many_unchecked.values.Given as goal
 
 abbrev pub invariant-loop-span : goal.invariant-loop-span

@@ -1,7 +1,7 @@
 use Rattle.sonic_lazy.proofs.one.get.Goals as goal
 use Rattle.std.proofs.Common.{refl}
-use Rattle.sonic_lazy.proofs.HonestLemmas.{honest_of_get}
-use Rattle.sonic_lazy.proofs.GetLemmas.{part_alone, get_refusal, get_but_memory}
+use Rattle.sonic_find.proofs.HonestLemmas.{honest_of_get}
+use Rattle.sonic_find.proofs.GetLemmas.{part_alone, get_refusal, get_but_memory}
 
 pub entry-requires : goal.entry-requires
 entry-requires g c κs =

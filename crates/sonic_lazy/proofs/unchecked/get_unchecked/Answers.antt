@@ -1,6 +1,7 @@
 use Rattle.sonic_lazy.proofs.unchecked.get_unchecked.Goals as goal
 use Rattle.std.proofs.Common.{◌≡◌, refl, true, false}
-use Rattle.sonic_lazy.proofs.UncheckedLemmas.{found_part, found_answer, sure_error, sure_within}
+use Rattle.sonic_lazy.proofs.UncheckedLemmas.{sure_error}
+use Rattle.sonic_find.proofs.UncheckedLemmas.{found_part, found_answer, sure_within}
 
 pub entry-requires : goal.entry-requires
 entry-requires g c κs =

@@ -1,4 +1,4 @@
-use Rattle.sonic_lazy.specs.Paths.EvaluatesBy.{goes_on}
+use Rattle.sonic_find.specs.Paths.EvaluatesBy.{goes_on}
 use Rattle.sonic_lazy_tests.proofs.reference.+follow.Goals as goal
 
 pub miss-requires-clause-whole : goal.miss-requires-clause-whole

@@ -5,7 +5,7 @@ use Rattle.sonic_text.specs.Strings.{IsString, strict}
 use Rattle.sonic_text.specs.Paths.{Node, key, index}
 use Rattle.sonic_text.specs.Values.{IsKey, no_head, key_head}
 use Rattle.sonic_text.proofs.Strings.{string_one}
-use Rattle.sonic_lazy.specs.Paths.{kind_of, IsNamed}
+use Rattle.sonic_find.specs.Paths.{kind_of, IsNamed}
 use Rattle.std.proofs.lemmas.Result.{err_from_is_err_and}
 use Rattle.sonic_lazy_tests.proofs.reference.is_named.Goals as goal
 

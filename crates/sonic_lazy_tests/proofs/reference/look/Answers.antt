@@ -1,9 +1,9 @@
 use Rattle.sonic_lazy_tests.proofs.reference.look.Goals as goal
 use Rattle.std.proofs.Common.{◌≡◌, ◌∙◌, inl, inr, true, ap, sym, length, arith, refl}
 use Rattle.std.proofs.lemmas.Result.{err_from_is_err_and}
-use Rattle.sonic_lazy.proofs.PathLemmas.Lead.{none_unopened, none_empty, count_below, past_byte}
-use Rattle.sonic_lazy.proofs.WalkLemmas.Step.{separated_later}
-use Rattle.sonic_lazy.proofs.MarkLemmas.Seen.{nothing_seen}
+use Rattle.sonic_find.proofs.PathLemmas.Lead.{none_unopened, none_empty, count_below, past_byte}
+use Rattle.sonic_find.proofs.WalkLemmas.Step.{separated_later}
+use Rattle.sonic_find.proofs.MarkLemmas.Seen.{nothing_seen}
 use Rattle.sonic_lazy_tests.proofs.reference.WayLemmas.{IsWayAfter, seen_after, all_passed, leads_there, comes_twice, leads_no_way}
 use Rattle.sonic_parser.proofs.FaultLemmas.{stop_weaker}
 use Rattle.sonic_pointer.specs.Nodes.{node_of}

@@ -3,8 +3,8 @@ use Rattle.sonic_pointer.specs.Nodes.{node_of}
 use Rattle.sonic_parser.specs.Parsers.{moved}
 use Rattle.sonic_text.specs.Strings.{strict}
 use Rattle.sonic_text.specs.Values.{ItemsFit}
-use Rattle.sonic_lazy.specs.Paths.{kind_of}
-use Rattle.sonic_lazy.specs.Internal.Marks.{IsSeen}
+use Rattle.sonic_find.specs.Paths.{kind_of}
+use Rattle.sonic_find.specs.Internal.Marks.{IsSeen}
 use Rattle.sonic_lazy_tests.proofs.reference.WayLemmas.{sight_of}
 use Rattle.sonic_lazy_tests.specs.declared.reference.Way.TheVariants.{On}
 use Rattle.sonic_lazy_tests.proofs.reference.look.Given as goal

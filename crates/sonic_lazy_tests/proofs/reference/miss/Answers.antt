@@ -1,6 +1,6 @@
 use Rattle.std.proofs.Common.{◌≡◌, ◌-◌, sym, arith}
 use Rattle.sonic_text.proofs.Values.{value-longer}
-use Rattle.sonic_lazy.specs.Paths.EvaluatesBy.{leads_nowhere, cut_before}
+use Rattle.sonic_find.specs.Paths.EvaluatesBy.{leads_nowhere, cut_before}
 use Rattle.sonic_lazy_tests.proofs.reference.miss.Goals as goal
 
 pub overflow_sub-last : goal.overflow_sub-last

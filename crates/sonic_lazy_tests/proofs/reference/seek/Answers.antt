@@ -1,9 +1,9 @@
 use Rattle.sonic_lazy_tests.proofs.reference.seek.Goals as goal
 use Rattle.std.proofs.Common.{◌∙◌, ap, sym, length, arith, refl}
 use Rattle.std.proofs.lemmas.Result.{err_from_is_err_and}
-use Rattle.sonic_lazy.proofs.PathLemmas.Lead.{none_unopened, none_empty, first_unnamed, named_leads, none_leads, one_more_unnamed, count_below, not_named, past_value, past_byte, past_key}
+use Rattle.sonic_find.proofs.PathLemmas.Lead.{none_unopened, none_empty, first_unnamed, named_leads, none_leads, one_more_unnamed, count_below, not_named, past_value, past_byte, past_key}
 use Rattle.sonic_parser.proofs.FaultLemmas.{stop_weaker}
-use Rattle.sonic_lazy.proofs.WalkLemmas.Step.{separated_later}
+use Rattle.sonic_find.proofs.WalkLemmas.Step.{separated_later}
 use Rattle.sonic_pointer.specs.Nodes.{node_of}
 use Rattle.sonic_text.proofs.Items.{head_never_both, closing_no_comma}
 use Rattle.sonic_text.proofs.Values.{head-later}

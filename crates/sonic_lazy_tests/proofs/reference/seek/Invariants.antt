@@ -1,7 +1,7 @@
 use Rattle.std.proofs.Common.{◌≡◌, ◌-◌, length}
 use Rattle.sonic_pointer.specs.Nodes.{node_of}
 use Rattle.sonic_parser.specs.Parsers.{moved}
-use Rattle.sonic_lazy.specs.Paths.{kind_of, NoneNamed}
+use Rattle.sonic_find.specs.Paths.{kind_of, NoneNamed}
 use Rattle.sonic_lazy_tests.proofs.reference.seek.Given as goal
 
 abbrev pub invariant-items : goal.invariant-items

@@ -1,6 +1,6 @@
 use Rattle.sonic_lazy_tests.proofs.reference.step.Goals as goal
 use Rattle.std.proofs.Common.{refl}
-use Rattle.sonic_lazy.proofs.PathLemmas.Rule.{by_first}
+use Rattle.sonic_find.proofs.PathLemmas.Rule.{by_first}
 use Rattle.sonic_lazy_tests.proofs.reference.WayLemmas.{cut_leads_no_way}
 use Rattle.sonic_pointer.specs.Nodes.{node_of}
 use Rattle.sonic_text.proofs.Values.{value_never_both}

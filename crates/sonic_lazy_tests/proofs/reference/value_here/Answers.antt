@@ -1,5 +1,5 @@
 use Rattle.std.proofs.Common.{◌≡◌}
-use Rattle.sonic_lazy.specs.Paths.EvaluatesBy.{found_here, cut_here}
+use Rattle.sonic_find.specs.Paths.EvaluatesBy.{found_here, cut_here}
 use Rattle.sonic_lazy_tests.proofs.reference.value_here.Goals as goal
 
 pub returns-in-Ok-clause-found : goal.returns-in-Ok-clause-found

@@ -1,6 +1,7 @@
 use Rattle.sonic_lazy.proofs.lazyvalue.LazyValue.pointer.Goals as goal
 use Rattle.std.proofs.Common.{◌≡◌, true, false, refl, arith}
-use Rattle.sonic_lazy.proofs.UncheckedLemmas.{lazy_start, lazy_starts, found_part, finds_none}
+use Rattle.sonic_lazy.proofs.UncheckedLemmas.{lazy_start, lazy_starts, finds_none}
+use Rattle.sonic_find.proofs.UncheckedLemmas.{found_part}
 use Rattle.sonic_text.proofs.Values.{value-longer}
 use Rattle.sonic_text.proofs.Within.{value_within}
 use Rattle.sonic_lazy.proofs.WholeLemmas.{lazy_is_whole, whole_of_part}

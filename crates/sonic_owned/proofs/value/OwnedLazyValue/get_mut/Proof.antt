@@ -18,7 +18,7 @@ use Rattle.sonic_owned.proofs.value.lend.lend_opened.Met.{met}
 use Rattle.sonic_owned.specs.Lends.{answer_name, Answer, HasItem, HasNoItem, IsFound, IsItemPut, IsLeft, IsAnswer, Lending, OfAnswer, OfPart}
 use Rattle.sonic_owned.specs.Puts.{IsPart, IsPut}
 use Rattle.sonic_owned.specs.Reached.{LeadsNowhere, MeansStill}
-use Rattle.sonic_lazy.specs.Paths.{kind_of}
+use Rattle.sonic_find.specs.Paths.{kind_of}
 use Rattle.sonic_owned.specs.Opened.{IsClosedOf}
 use Rattle.sonic_owned.specs.Views.{form}
 use Rattle.sonic_owned.specs.contracts.value.OwnedLazyValue.get_mut as f

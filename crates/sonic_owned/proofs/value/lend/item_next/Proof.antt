@@ -11,7 +11,7 @@ use Rattle.sonic_owned.proofs.value.lend.item_next.Statement.{statement}
 use Rattle.sonic_owned.proofs.value.lend.lend_next.Met.{met}
 use Rattle.sonic_owned.specs.Lends.{AtNode, HasItem, HasNoItem, IfAtNode, IsFound, IsItemPut, IsLeft, Lending, OfPart}
 use Rattle.sonic_owned.specs.Opened.{IsClosedOf}
-use Rattle.sonic_lazy.specs.Paths.{kind_of}
+use Rattle.sonic_find.specs.Paths.{kind_of}
 use Rattle.sonic_owned.specs.Views.{form}
 use Rattle.sonic_owned.specs.contracts.value.OwnedLazyValue.{the_row as R}
 use Rattle.sonic_owned.specs.contracts.value.lend.OwnedLazyValueOpens.TheImpl.{ghosts, dict}

@@ -3,7 +3,7 @@ use Rattle.sonic_owned.proofs.Lent.{next_is, of_part, found_by}
 use Rattle.sonic_owned.proofs.value.lend.lend_next.Goals as goal
 use Rattle.sonic_owned.specs.Lends.{IsItemPut, HasItem, HasNoItem}
 use Rattle.sonic_owned.specs.Opened.{IsClosedOf}
-use Rattle.sonic_lazy.specs.Paths.{kind_of}
+use Rattle.sonic_find.specs.Paths.{kind_of}
 use Rattle.sonic_owned.specs.Views.{form}
 use Rattle.sonic_pointer.specs.declared.node.PointerNode.{PointerNode}
 use Rattle.sonic_pointer.specs.declared.node.PointerNode.TheVariants.{Key}

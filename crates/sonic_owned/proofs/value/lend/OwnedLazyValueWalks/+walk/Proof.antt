@@ -18,7 +18,7 @@ use Rattle.sonic_owned.specs.Lends.{AtNode, HasItem, HasNoItem, IfAtNode, IsFoun
 use Rattle.sonic_owned.specs.Puts.{IsPart, IsPut}
 use Rattle.sonic_owned.specs.Reached.{LeadsNowhere, MeansStill}
 use Rattle.sonic_owned.specs.Opened.{IsClosedOf}
-use Rattle.sonic_lazy.specs.Paths.{kind_of}
+use Rattle.sonic_find.specs.Paths.{kind_of}
 use Rattle.sonic_owned.specs.Views.{form}
 use Rattle.sonic_owned.specs.contracts.value.OwnedLazyValue.{the_row as R}
 use Rattle.sonic_owned.specs.contracts.value.lend.OwnedLazyValueWalks.walk as f

@@ -1,6 +1,0 @@
-use Rattle.std.proofs.Common.{refl}
-use Rattle.sonic_examples.specs.Streams.IsPastLine.{with_line_feed}
-use Rattle.sonic_examples.proofs.stream.RecordStream.pass_line.Goals as goal
-
-pub returns-in-Some : goal.returns-in-Some
-returns-in-Some c = rw (← c.self.view_is) (with_line_feed (rw c.deref.ensures.value at c.in-Some.ensures.some) refl)

@@ -1,8 +1,0 @@
-use Rattle.std.proofs.Common.{◌≡◌, refl}
-use Rattle.sonic_examples.specs.Streams.IsNext.{wrong}
-use Rattle.sonic_examples.proofs.stream.RecordStream.wrong.Goals as goal
-
-pub returns : goal.returns
-returns c =
-    let before : c.self.inside.before ≡ c.args.self.now.before = rw (← c.self.view_is) refl in
-    rw before (wrong c.requires.wrong c.requires.never c.pass_line.ensures)

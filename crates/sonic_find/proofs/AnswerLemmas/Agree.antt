@@ -1,0 +1,163 @@
+-- Over a text that starts with a value in UTF-8 the answer of the paths is that of each path alone.
+use Rattle.std.proofs.Common.{◌≡◌, ◌≢◌, ◌↔◌, ◌∙◌, inl, inr, ap, ℕ, ◌+◌, ◌-◌, ◌==◌, ◌&&◌, List, [], ◌∷◌, Bool, true, take, refl, sym}
+use Rattle.std.specs.Prelude.{Contains, Option, Some, map}
+use Rattle.std.specs.Str.{IsUtf8}
+use Rattle.sonic_error.specs.declared.code.ErrorCode.{ErrorCode}
+use Rattle.sonic_error.specs.declared.code.ErrorCode.TheVariants.{GetUnknownKeyInObject, InvalidUTF8}
+use Rattle.sonic_find.proofs.AnswerLemmas.Cause.{found_before}
+use Rattle.sonic_find.proofs.AnswerLemmas.One.{none_in_empty, first_in, later_in, first_or_later, nearest_in, come_to_some, cut_by_root}
+use Rattle.sonic_find.proofs.AnswerLemmas.Walk.{IsEnd, IsGathered, both_same, found_value, lead_from}
+use Rattle.sonic_find.proofs.PathLemmas.Outcome.{either, cut_is_fault}
+use Rattle.sonic_find.proofs.Utf8Lemmas.{utf8_up_to}
+use Rattle.sonic_find.specs.Answers.{AllLeadBy, AllLead, no_more, one_more, NoneFails, NoneCut, IsReach, to_the_root, to_the_furthest, Span, span_of, Answer, spans, error, ComeTo, no_path, failing, cutting, lacking, breaking, finding, IsAnswerBy, IsAnswer, ComesToAlone, value_found, value_broken, key_lacked, path_failed, path_cut}
+use Rattle.sonic_find.specs.Laws.{IsGetEntry, value_got, key_missed, AreGetAnswers, no_more_entries, one_more_entry}
+use Rattle.sonic_find.specs.Paths.{Outcome, found, lacks, fails, cut, fails_at, past_end, empty_code, nowhere, kind_of, Evaluates, LeadsUnder, Leads}
+use Rattle.sonic_find.specs.Paths.EvaluatesBy.{found_here, goes_on, leads_nowhere, cut_here, cut_before}
+use Rattle.sonic_text.proofs.Values.{value_end_one, value_never_both}
+use Rattle.sonic_text.specs.Documents.{StartsWithUtf8Value}
+use Rattle.sonic_text.specs.Paths.{Path}
+use Rattle.sonic_text.specs.Places.{byte, after_space}
+use Rattle.sonic_text.specs.Values.{opening, closing}
+use Rattle.sonic_text.specs.declared.kind.Kind.{Kind}
+use Rattle.sonic_text.specs.declared.kind.Kind.TheVariants.{Array, Object}
+use Rattle.sonic_text.specs.declared.stop.Stop.{Stop}
+use Rattle.sonic_pointer.specs.declared.rule.KeyRule.{KeyRule}
+use Rattle.sonic_pointer.specs.declared.rule.KeyRule.TheVariants.{First}
+
+-- where an outcome is a fail, its code isn't that of a key that is lacked
+abbrev HasOtherCode : Outcome → Type 0
+HasOtherCode o = (s : Stop) → o ≡ fails s → s.code ≢ GetUnknownKeyInObject
+
+-- as its code is another one
+fails_otherwise : (q : ℕ) (code : ErrorCode) → code ≢ GetUnknownKeyInObject → HasOtherCode (fails_at q code)
+fails_otherwise q code other s e d =
+    let stop : ◌≡◌ {A = Stop} (record { place = q; code = code }) s = cc in
+    other (ap (λ (x : Stop). x.code) stop ∙ d)
+
+-- past the end of a container
+past_otherwise : (kind : Kind) (q : ℕ) → HasOtherCode (past_end kind q)
+past_otherwise Array q = fails_otherwise q _ (λ e. cc)
+past_otherwise Object q = λ s e. absurd cc
+
+-- in an empty one
+empty_otherwise : (kind : Kind) → empty_code kind ≢ GetUnknownKeyInObject
+empty_otherwise Array e = cc
+empty_otherwise Object e = cc
+
+-- and wherever a node leads nowhere
+nowhere_otherwise : (t : List ℕ) (i q : ℕ) (kind : Kind) → HasOtherCode (nowhere t i q kind)
+nowhere_otherwise t i q kind =
+    either HasOtherCode (byte t i == opening kind && byte t (after_space t (i + 1)) == closing kind) _ _ (fails_otherwise q _ (empty_otherwise kind))
+    (either HasOtherCode (byte t i == opening kind) _ _ (past_otherwise kind q) (fails_otherwise q _ (λ e. cc)))
+
+-- so it is of each path
+path_otherwise : {t : List ℕ} (path : Path) {i : ℕ} {o : Outcome} → Evaluates t i path o → HasOtherCode o
+path_otherwise [] (found_here x) = λ s e. absurd cc
+path_otherwise [] (cut_here f) = λ s e. absurd cc
+path_otherwise (node ∷ rest) (goes_on l x) = path_otherwise rest x
+path_otherwise {t} (node ∷ rest) {i} (leads_nowhere {j = j} x none e) = rw e (nowhere_otherwise t i (j - 1) (kind_of node))
+path_otherwise (node ∷ rest) (cut_before f none) = λ s e. absurd cc
+
+-- a value that a path finds in the first value is UTF-8 up to its end
+pub utf8_found : {t : List ℕ} {rule : KeyRule} (path : Path) {i j : ℕ} → StartsWithUtf8Value t → LeadsUnder rule t path (found i j) → IsUtf8 (take j t)
+utf8_found path x l = utf8_up_to x.end x.utf8 (found_value path l) (found_before path l x.root)
+
+-- and the text is UTF-8 as far as it is needed
+utf8_reach : {t : List ℕ} {paths : List Path} {os : List Outcome} {r : ℕ} {rule : KeyRule} → StartsWithUtf8Value t → AllLeadBy rule t paths os → IsReach t os r → IsUtf8 (take r t)
+utf8_reach x lead (to_the_root l y) = rw (value_end_one x.root y) at x.utf8
+utf8_reach {r = r} x lead (to_the_furthest {i} none c all) = let y = lead_from (found i r) lead c in utf8_found y.path x y.leads
+
+-- so where no path fails and none is cut, the answer is the spans
+spans_alone : {t : List ℕ} {is_bytes : Bool} {paths : List Path} {os : List Outcome} {a : Answer} {rule : KeyRule} → StartsWithUtf8Value t → AllLeadBy rule t paths os → NoneFails os
+    → NoneCut os → ComeTo t is_bytes os a → a ≡ spans (map span_of os)
+spans_alone x lead fail cuts no_path = refl
+spans_alone x lead fail cuts (failing {s = s} n) = absurd (fail s (nearest_in n))
+spans_alone x lead fail cuts (cutting {s = s} none c f) = absurd (cuts s c)
+spans_alone x lead fail cuts (lacking none more l f) = absurd (value_never_both x.root f)
+spans_alone x lead fail cuts (breaking none more reach b n e) = absurd (n (utf8_reach x lead reach))
+spans_alone x lead fail cuts (finding none more reach u e) = ap spans e
+
+-- what spans are the answer of
+pub spans_of_all : {t : List ℕ} {is_bytes : Bool} {os : List Outcome} {entries : List (Option Span)} → ComeTo t is_bytes os (spans entries)
+    → NoneFails os × NoneCut os × (entries ≡ map span_of os)
+spans_of_all no_path = (λ s c. none_in_empty (fails s) c, λ s c. none_in_empty (cut s) c, refl)
+spans_of_all (finding fail cuts reach u e) = (fail, cuts, e)
+
+-- the entry of an outcome is that of its path alone
+entry_alone : {t : List ℕ} {is_bytes : Bool} {path : Path} (o : Outcome) → StartsWithUtf8Value t → Leads t path o → ((s : Stop) → o ≢ fails s)
+    → ((s : Stop) → o ≢ cut s) → IsGetEntry t is_bytes path (span_of o)
+entry_alone {path = path} (found i j) x l fail cuts = value_got (record { outcome = found i j; leads = l; come_to = value_found (λ b. utf8_found path x l) })
+entry_alone (lacks q) x l fail cuts = key_missed (record { outcome = lacks q; leads = l; come_to = key_lacked refl })
+entry_alone (fails s) x l fail cuts = absurd (fail s refl)
+entry_alone (cut s) x l fail cuts = absurd (cuts s refl)
+
+-- and so it is for all
+entries_alone : {t : List ℕ} {is_bytes : Bool} {paths : List Path} {os : List Outcome} → StartsWithUtf8Value t → AllLead t paths os → NoneFails os → NoneCut os
+    → AreGetAnswers t is_bytes paths (map span_of os)
+entries_alone x no_more fail cuts = no_more_entries
+entries_alone x (one_more {o = o} {os} l lead) fail cuts =
+    let first : (p : Outcome) → o ≡ p → Contains (o ∷ os) p = λ p e. rw (← e) (first_in o os) in
+    one_more_entry (entry_alone o x l (λ s e. fail s (first (fails s) e)) (λ s e. cuts s (first (cut s) e)))
+    (entries_alone x lead (λ s c. fail s (later_in o (fails s) os c)) (λ s c. cuts s (later_in o (cut s) os c)))
+
+-- a path that is answered with a span finds it
+found_of : {t : List ℕ} {is_bytes : Bool} {o : Outcome} {s : Span} → ComesToAlone t is_bytes o (spans (Some s ∷ [])) → o ≡ found s.0 s.1
+found_of (value_found u) = refl
+
+-- and one that is answered with the code of a lacked key lacks it, unless it is cut
+lacks_of : {t : List ℕ} {is_bytes : Bool} {o : Outcome} {q : ℕ} → HasOtherCode o → ((s : Stop) → o ≢ cut s)
+    → ComesToAlone t is_bytes o (error (record { place = q; code = GetUnknownKeyInObject })) → (p : ℕ) × (o ≡ lacks p)
+lacks_of other cuts (value_broken b n e) = (let clash : GetUnknownKeyInObject ≡ InvalidUTF8 = ap (λ (x : Stop). x.code) e in absurd cc)
+lacks_of other cuts (key_lacked {q = p} e) = (p, refl)
+lacks_of other cuts path_failed = absurd (other _ refl refl)
+lacks_of other cuts path_cut = absurd (cuts _ refl)
+
+-- where a path leads whose answer is an entry
+record Entered (t : List ℕ) (path : Path) (entry : Option Span) : Type 0 where
+  outcome : Outcome
+  leads : Leads t path outcome
+  end : IsEnd true outcome
+  is : entry ≡ span_of outcome
+
+-- which it says
+entered : {t : List ℕ} {is_bytes : Bool} {path : Path} {entry : Option Span} → StartsWithUtf8Value t → IsGetEntry t is_bytes path entry → Entered t path entry
+entered {t} {path = path} x (value_got {s} g) =
+    let leads : Leads t path (found s.0 s.1) = rw (found_of g.come_to) at g.leads in
+    record { outcome = found s.0 s.1; leads = leads; end = tt; is = refl }
+entered {t} {path = path} x (key_missed g) =
+    let uncut : (s : Stop) → g.outcome ≢ cut s = λ s e. value_never_both x.root (cut_is_fault path (rw e at g.leads)) in
+    let missed = lacks_of (path_otherwise path g.leads) uncut g.come_to in
+    let leads : Leads t path (lacks missed.0) = rw missed.1 at g.leads in
+    record { outcome = lacks missed.0; leads = leads; end = refl; is = refl }
+
+-- so all paths are gathered
+all_entered : {t : List ℕ} {is_bytes : Bool} {paths : List Path} {entries : List (Option Span)} → StartsWithUtf8Value t
+    → AreGetAnswers t is_bytes paths entries → IsGathered First t true entries paths
+all_entered x no_more_entries = record { outcomes = []; lead = no_more; entries = refl; ends = λ o c. absurd (none_in_empty o c) }
+all_entered x (one_more_entry a all) =
+    let e = entered x a in
+    let rest = all_entered x all in
+    record {
+      outcomes = e.outcome ∷ rest.outcomes;
+      lead = one_more e.leads rest.lead;
+      entries = both_same e.is rest.entries;
+      ends = λ o c. elim (first_or_later e.outcome o rest.outcomes c) [
+        | inl same ↦ rw same at e.end
+        | inr later ↦ rest.ends o later
+      ];
+    }
+
+-- and where they are gathered the spans are their answer
+pub answer_of_gathered : {t : List ℕ} {is_bytes : Bool} {paths : List Path} {entries : List (Option Span)} {rule : KeyRule} → StartsWithUtf8Value t
+    → IsGathered rule t true entries paths → IsAnswerBy rule t is_bytes paths (spans entries)
+answer_of_gathered {t} {is_bytes} {entries = entries} x g =
+    let a = come_to_some t is_bytes g.outcomes (λ s c. cut_by_root s g.lead c) in
+    let only = spans_alone x g.lead (λ s c. g.ends (fails s) c) (λ s c. g.ends (cut s) c) a.1 in
+    let same : a.0 ≡ spans entries = only ∙ ap spans (sym g.entries) in
+    record { outcomes = g.outcomes; lead = g.lead; come_to = rw same at a.1 }
+
+-- the answer of the paths is spans exactly where they are those of each path
+pub answers_agree : (t : List ℕ) (is_bytes : Bool) (paths : List Path) (entries : List (Option Span)) → StartsWithUtf8Value t
+    → (IsAnswer t is_bytes paths (spans entries) ↔ AreGetAnswers t is_bytes paths entries)
+answers_agree t is_bytes paths entries x =
+    (λ a. let all = spans_of_all a.come_to in rw all.2 (entries_alone x a.lead all.0 all.1), λ all. answer_of_gathered x (all_entered x all))

@@ -1,0 +1,110 @@
+-- What an answer says of each of its spans, and when there is one.
+use Rattle.std.proofs.Common.{◌≡◌, ap, ◌∙◌, ℕ, ◌-◌, ◌≤◌, List, [], ◌∷◌, Bool, true, false, length, take, arith, refl}
+use Rattle.std.proofs.Math.Seq.{take-length}
+use Rattle.std.proofs.lemmas.Option.{slice_get_within, slice_get-map}
+use Rattle.std.specs.List.{Contains}
+use Rattle.std.specs.Prelude.{Option, Some, slice_get, map, option_map}
+use Rattle.std.specs.Str.{IsUtf8}
+use Rattle.sonic_error.specs.Errors.{IsPlainError}
+use Rattle.sonic_error.specs.declared.code.ErrorCode.TheVariants.{NoMemory}
+use Rattle.sonic_error.specs.declared.error.Error.{Error}
+use Rattle.sonic_find.proofs.AnswerLemmas.One.{answer_by_one}
+use Rattle.sonic_find.proofs.AnswerLemmas.Walk.{found_value, kept_found, lead_from, no_paths}
+use Rattle.sonic_find.proofs.PathLemmas.Outcome.{nowhere_ends, part_named}
+use Rattle.sonic_find.proofs.PathLemmas.Rule.{by_named}
+use Rattle.sonic_find.proofs.Utf8Lemmas.{utf8_of_span}
+use Rattle.sonic_find.specs.Answers.{AllLeadBy, IsReach, to_the_root, to_the_furthest, Span, span_of, Answer, ComeTo, no_path, finding, IsAnswerBy}
+use Rattle.sonic_find.specs.Causes.{IsAnswerableBy, nothing_asked, all_reported, IsRefusalBy, out_of_memory, answered}
+use Rattle.sonic_find.specs.Internal.Located.{span_at, spans_of, AreParts}
+use Rattle.sonic_find.specs.Internal.Walk.{IsError}
+use Rattle.sonic_find.specs.Paths.{Outcome, found, kind_of, EvaluatesBy}
+use Rattle.sonic_find.specs.Paths.EvaluatesBy.{found_here, goes_on, leads_nowhere}
+use Rattle.sonic_find.specs.declared.located.Located.{Located}
+use Rattle.sonic_parser.specs.Faults.{IsStopFor, IsErrorOf}
+use Rattle.sonic_parser.specs.declared.fault.Fault.{Fault}
+use Rattle.sonic_parser.specs.declared.fault.Fault.TheVariants.{OutOfMemory, At}
+use Rattle.sonic_text.proofs.Values.{value_end_one}
+use Rattle.sonic_text.proofs.Within.{value_within}
+use Rattle.sonic_text.specs.Paths.{Path}
+use Rattle.sonic_text.specs.Strings.{strict}
+use Rattle.sonic_text.specs.Values.{IsValue}
+use Rattle.sonic_text.specs.declared.stop.Stop.{Stop}
+use Rattle.sonic_pointer.specs.declared.rule.KeyRule.{KeyRule}
+
+-- a value is from i to j, and the text is UTF-8 up to a place at or after j
+pub record IsReached (t : List ℕ) (i j : ℕ) : Type 0 where
+  pub value : IsValue strict t i j
+  pub reach : ℕ
+  pub within : j ≤ reach
+  pub utf8 : IsUtf8 (take reach t)
+
+-- what a path finds in a whole value ends at or before its end
+pub found_before : {t : List ℕ} {a b : ℕ} {rule : KeyRule} (path : Path) {i j : ℕ} → EvaluatesBy rule t i path (found a b) → IsValue strict t i j → b ≤ j
+found_before [] (found_here x) y = (let same = value_end_one x y in omega arith)
+found_before {rule = rule} (node ∷ rest) (goes_on l e) y =
+    let p = part_named (by_named rule node l) y in
+    let before = found_before rest e p.1 in
+    omega (arith, before, p.2)
+found_before {t} (node ∷ rest) {i} (leads_nowhere {j = j} x none e) y = absurd (rw (← e) at (nowhere_ends t i (j - 1) (kind_of node)))
+
+-- a span that was found ends where the text is needed, or before
+before_reach : {t : List ℕ} {os : List Outcome} {paths : List Path} {i j r : ℕ} {rule : KeyRule} → AllLeadBy rule t paths os → IsReach t os r → Contains os (found i j) → j ≤ r
+before_reach {i = i} {j} lead (to_the_furthest none c all) d = all i j d
+before_reach {i = i} {j} lead (to_the_root l whole) d = let x = lead_from (found i j) lead d in found_before x.path x.leads whole
+
+-- so it is a part, as the input came as bytes or not
+part_by_input : {t : List ℕ} {os : List Outcome} {paths : List Path} {i j r : ℕ} {rule : KeyRule} (is_bytes : Bool) → AllLeadBy rule t paths os → IsReach t os r
+    → (is_bytes ≡ true → IsUtf8 (take r t)) → (is_bytes ≡ false → IsUtf8 t) → Contains os (found i j) → IsReached t i j
+part_by_input {i = i} {j} {r} true lead reach prefix text d =
+    let x = lead_from (found i j) lead d in
+    record { value = found_value x.path x.leads; reach = r; within = before_reach lead reach d; utf8 = prefix refl }
+part_by_input {t} {i = i} {j} false lead reach prefix text d =
+    let x = lead_from (found i j) lead d in
+    let value = found_value x.path x.leads in
+    record { value = value; reach = length t; within = value_within value; utf8 = rw (take-length t) (text refl) }
+
+-- each span of an answer is a part
+parts_by_outcome : {t : List ℕ} {is_bytes : Bool} {paths : List Path} {os : List Outcome} {entries : List (Option Span)} {i j : ℕ} {rule : KeyRule} (k : ℕ) → AllLeadBy rule t paths os
+    → ComeTo t is_bytes os (Answer.spans entries) → (is_bytes ≡ false → IsUtf8 t) → slice_get entries k ≡ Some (Some (i, j)) → IsReached t i j
+parts_by_outcome k lead no_path text h = absurd (let w = slice_get_within [] k _ h in omega arith)
+parts_by_outcome {is_bytes = is_bytes} {os = os} {i = i} {j} k lead (finding fail cuts reach prefix e) text h =
+    let there : slice_get (map span_of os) k ≡ Some (Some (i, j)) = rw e at h in
+    part_by_input is_bytes lead reach prefix text (kept_found os k there)
+
+-- and so it is for each answer
+pub part_of_answer : {t : List ℕ} {is_bytes : Bool} {paths : List Path} {entries : List (Option Span)} {i j : ℕ} {rule : KeyRule} (k : ℕ)
+    → IsAnswerBy rule t is_bytes paths (Answer.spans entries) → (is_bytes ≡ false → IsUtf8 t) → slice_get entries k ≡ Some (Some (i, j)) → IsReached t i j
+part_of_answer k x text h = parts_by_outcome k x.lead x.come_to text h
+
+-- where there is an answer of spans, there is none of an error
+spans_answer : {t : List ℕ} {is_bytes : Bool} {rule : KeyRule} (paths : List Path) → IsAnswerableBy rule t is_bytes paths → (entries : List (Option Span)) × IsAnswerBy rule t is_bytes paths (Answer.spans entries)
+spans_answer {t} {is_bytes} {rule = rule} paths (nothing_asked e) = ([], no_paths rule t is_bytes paths e)
+spans_answer paths (all_reported os r lead fail cuts reach text) =
+    (map span_of os, record { outcomes = os; lead = lead; come_to = finding fail cuts reach text refl })
+
+-- there is no such error
+pub never_refused : {t : List ℕ} {is_bytes : Bool} {paths : List Path} {s : Stop} {rule : KeyRule} → IsAnswerableBy rule t is_bytes paths → IsAnswerBy rule t is_bytes paths (Answer.error s) → ⊥
+never_refused {t} {is_bytes} {paths} {s} {rule = rule} can x =
+    let y = spans_answer paths can in
+    let clash : Answer.spans y.0 ≡ Answer.error s = (answer_by_one rule t is_bytes paths).one (Answer.spans y.0) (Answer.error s) y.1 x in
+    absurd cc
+
+-- what stops a walk is a refusal
+pub refusal_of : {t : List ℕ} {is_bytes : Bool} {paths : List Path} {e : Error} {rule : KeyRule} (fault : Fault) → IsStopFor (IsError rule t is_bytes paths) fault → IsErrorOf t fault e
+    → IsRefusalBy rule t is_bytes paths e
+refusal_of OutOfMemory h e = out_of_memory e
+refusal_of (At s) h e = answered s h.answer e
+
+-- and where there is an answer of spans, memory ran out
+pub only_memory : {t : List ℕ} {is_bytes : Bool} {paths : List Path} {e : Error} {rule : KeyRule} (fault : Fault) → IsAnswerableBy rule t is_bytes paths
+    → IsStopFor (IsError rule t is_bytes paths) fault → IsErrorOf t fault e → IsPlainError e NoMemory
+only_memory OutOfMemory can h e = e
+only_memory (At s) can h e = absurd (never_refused can h.answer)
+
+-- each value that is reported of an answer's spans is a part of the text
+pub parts_reported : {t : List ℕ} {is_bytes : Bool} {paths : List Path} {rule : KeyRule} (xs : List (Option Located)) → IsAnswerBy rule t is_bytes paths (Answer.spans (spans_of xs))
+    → (is_bytes ≡ false → IsUtf8 t) → AreParts t xs
+parts_reported xs x text k y h =
+    let p = part_of_answer k x text (slice_get-map (option_map span_at) xs k ∙ ap (option_map (option_map span_at)) h) in
+    let within = value_within p.value in
+    record { value = p.value; inside = within; utf8 = utf8_of_span p.reach p.utf8 p.value p.within within }

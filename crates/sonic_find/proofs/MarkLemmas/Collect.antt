@@ -1,0 +1,310 @@
+-- What the outcomes of paths are that the marks of their prefixes come to.
+use Rattle.std.proofs.Common.{◌≡◌, ◌≢◌, ◌∙◌, ◌⊎◌, inl, inr, sym, ap, refl, Bool, true, false, ℕ, ◌+◌, ◌-◌, ◌<◌, ◌≤◌, List, [], ◌∷◌, ◌++◌, append_assoc, append-nil, arith}
+use Rattle.std.proofs.lemmas.Bool.{cases_order}
+use Rattle.std.specs.Prelude.{Option, Some, None, not, slice_get, IfSome}
+use Rattle.sonic_error.specs.declared.code.ErrorCode.{ErrorCode}
+use Rattle.sonic_error.specs.declared.code.ErrorCode.TheVariants.{GetIndexOutOfArray, DuplicateKey, Message}
+use Rattle.sonic_error.specs.declared.json_type.Note.TheVariants.{Mismatch}
+use Rattle.sonic_find.proofs.FillLemmas.{paths_unmixed, stopped_fails}
+use Rattle.sonic_find.proofs.MarkLemmas.Kept.{mark_one}
+use Rattle.sonic_find.proofs.PathLemmas.Outcome.{by_one, fails_agree, nowhere_past}
+use Rattle.sonic_find.proofs.WalkLemmas.List.{first_of}
+use Rattle.sonic_find.proofs.WalkLemmas.Path.{contained, child_at, path_of_child, path_down, settled_no_fail, still_settled}
+use Rattle.sonic_find.proofs.WalkLemmas.Start.{no_entry_by_kind, no_entry_in_empty}
+use Rattle.sonic_find.specs.Answers.{Span}
+use Rattle.sonic_find.specs.Internal.Collected.{IsFailBelow, IsCollected, is_settled, is_failed, AllCollected, NodeCollected}
+use Rattle.sonic_find.specs.Internal.Fill.{IsNoted}
+use Rattle.sonic_find.specs.Internal.Follow.{IsDeadNode, LacksNode}
+use Rattle.sonic_find.specs.Internal.Marks.{Marking, IsMarkOf, AreMarks, IsWholeMark, HasItems, ChildSays, says_none, says_twice, says_one, NodeSays, says_no_items, says_items, SaysAll, IsLive}
+use Rattle.sonic_find.specs.Internal.Steps.{HasWhole}
+use Rattle.sonic_find.specs.Internal.Walk.{Findings, Point, child_point, ComesTo, IsPath, AreFindings, IsLater, IsSettled, was_found, was_lacked, AllSettled, fails_so, cut_so, IsCause, path_stops, value_stops, IsStop, IsFilled, NoneNearer}
+use Rattle.sonic_find.specs.Paths.{found, lacks, fails, kind_of, empty_code, wanted_of, LeadsOn, LeadsBy, EvaluatesBy, past_end}
+use Rattle.sonic_find.specs.Paths.EvaluatesBy.{found_here, goes_on, repeats, leads_nowhere, cut_before}
+use Rattle.sonic_find.specs.declared.marks.Mark.{Mark}
+use Rattle.sonic_pointer.specs.Paths.{IsChildren, IsOrders, IsUnmixed}
+use Rattle.sonic_pointer.specs.declared.rule.KeyRule.{KeyRule}
+use Rattle.sonic_pointer.specs.declared.rule.KeyRule.TheVariants.{First, Last, Refuse}
+use Rattle.sonic_text.proofs.Values.{items_open, items_not_empty, value_end_one, value_never_both}
+use Rattle.sonic_text.specs.Faults.{IsFault}
+use Rattle.sonic_text.specs.Paths.{Node, Path, key, index}
+use Rattle.sonic_text.specs.Places.{byte, after_space}
+use Rattle.sonic_text.specs.Strings.{strict}
+use Rattle.sonic_text.specs.Values.{type_at, opening, IsValue, empty}
+use Rattle.sonic_text.specs.declared.kind.Kind.TheVariants.{Object, Array}
+use Rattle.sonic_text.specs.declared.stop.Stop.{Stop}
+
+-- a test that fails, and one that holds
+pub not_true : (b : Bool) → not b ≡ true → b ≡ false
+not_true true e = absurd cc
+not_true false e = refl
+
+pub not_false : (b : Bool) → not b ≡ false → b ≡ true
+not_false true e = refl
+not_false false e = absurd cc
+
+-- what is known below a live mark
+abbrev pub LeadsToMark : Marking → ℕ → Node → Mark → (Mark → Type 0) → Type 0
+LeadsToMark g i node c Below = LeadsBy g.rule g.text i node c.value.start × IsWholeMark g.text c × Below c
+
+live_child_says : {g : Marking} {i place : ℕ} {prefix : Path} {node : Node} {c : Mark} {B : Mark → Type 0} → AreMarks g place → IsMarkOf g prefix c
+    → i < c.value.start → c.again ≡ None → ChildSays g i prefix node B → LeadsToMark g i node c B
+live_child_says {c = c} are is later first (says_none old none) = absurd (let before = old c is in omega (arith, before, later))
+live_child_says {c = c} are is later first (says_twice {c = d} {q} there inside again refuses same y) =
+    let some : c.again ≡ Some q = rw (mark_one are there is) at again in
+    let clash : None ≡ Some q = sym first ∙ some in
+    absurd cc
+live_child_says {g} {i} {node = node} {c} {B} are is later first (says_one {c = d} there inside none leads whole below) =
+    let same = mark_one are there is in
+    (rw same at leads, rw same at whole, rw same at below)
+
+-- a live mark is of the value to which the node leads on
+pub live_says : {g : Marking} {m : Mark} {place : ℕ} {prefix : Path} {node : Node} {c : Mark} {B : Mark → Type 0} → AreMarks g place → IsLive g m prefix c
+    → NodeSays g m prefix node B → LeadsToMark g m.value.start node c B
+live_says are live (says_no_items none x) = (let clash : true ≡ false = sym live.items ∙ none in absurd cc)
+live_says are live (says_items has x child) = live_child_says are live.is live.later live.first child
+
+-- a value without items has no entry for a node
+pub empty_dead : {g : Marking} {m : Mark} {node : Node} {code : ErrorCode} {place : ℕ} {prefix : Path} {B : Mark → Type 0} → NodeSays g m prefix node B → IsWholeMark g.text m
+    → m.has_items ≡ false → (byte g.text m.value.start ≡ opening (kind_of node) → code ≡ empty_code (kind_of node))
+    → (byte g.text m.value.start ≢ opening (kind_of node) → code ≡ Message (Mismatch (type_at g.text m.value.start) (wanted_of (kind_of node)))) → place ≡ m.value.end - 1
+    → IsDeadNode g.rule g.text m.value.start node (record { place = place; code = code })
+empty_dead (says_items has y child) whole none inside outside e = (let clash : true ≡ false = sym has ∙ none in absurd cc)
+empty_dead {g} {m} {node} {code} {place} (says_no_items is x) whole none inside outside e = λ rest. elim x [
+  | inl other ↦ no_entry_by_kind whole.value other (rw (outside other, e) refl) g.rule node rest refl
+  | inr (o, c) ↦
+      let end = value_end_one whole.value (empty (kind_of node) o c refl) in
+      let last : place ≡ after_space g.text (m.value.start + 1) = omega (arith, e, end) in
+      no_entry_in_empty o c (rw (inside o, last) refl) g.rule node rest refl
+]
+
+-- a node that none of the items has comes to the container's end
+past_child : (g : Marking) {m : Mark} {node : Node} → IsWholeMark g.text m → HasItems g.text m.value.start (kind_of node)
+    → ((v : ℕ) → ¬ LeadsOn g.text m.value.start node v) → (rest : Path)
+    → EvaluatesBy g.rule g.text m.value.start (node ∷ rest) (past_end (kind_of node) (m.value.end - 1))
+past_child g {m} {node} whole x none rest =
+    let past = nowhere_past g.text m.value.start (m.value.end - 1) (kind_of node) (items_open x.1) (items_not_empty x.1) in
+    leads_nowhere whole.value none (rw past refl)
+
+-- so it is where its mark is of a value before
+pub old_past : {g : Marking} {m c : Mark} {node : Node} {prefix : Path} {place : ℕ} {B : Mark → Type 0} → AreMarks g place → IsWholeMark g.text m
+    → IsMarkOf g prefix c → c.value.start ≤ m.value.start → m.has_items ≡ true → NodeSays g m prefix node B → (rest : Path)
+    → EvaluatesBy g.rule g.text m.value.start (node ∷ rest) (past_end (kind_of node) (m.value.end - 1))
+old_past are whole is before has (says_no_items none x) rest = (let clash : true ≡ false = sym has ∙ none in absurd cc)
+old_past {g} are whole is before has (says_items h x (says_none old none)) rest = past_child g whole x none rest
+old_past {m = m} are whole is before has (says_items h x (says_twice there inside again refuses same y)) rest =
+    absurd (let same = ap (λ (y : Mark). y.value.start) (mark_one are there is) in omega (arith, same, inside, before))
+old_past {m = m} are whole is before has (says_items h x (says_one there inside none leads w below)) rest =
+    absurd (let same = ap (λ (y : Mark). y.value.start) (mark_one are there is) in omega (arith, same, inside, before))
+
+-- which lacks it where it is a key
+pub old_lacks : {g : Marking} {m c : Mark} {node : Node} {prefix : Path} {place : ℕ} {B : Mark → Type 0} → AreMarks g place → IsWholeMark g.text m
+    → IsMarkOf g prefix c → c.value.start ≤ m.value.start → m.has_items ≡ true → kind_of node ≡ Object → NodeSays g m prefix node B
+    → LacksNode g.rule g.text m.value.start node (m.value.end - 1)
+old_lacks are whole is before has object says = λ rest. rw object at (old_past are whole is before has says rest)
+
+-- and fails where it is an index
+pub old_dead : {g : Marking} {m c : Mark} {node : Node} {prefix : Path} {place : ℕ} {s : Stop} {B : Mark → Type 0} → AreMarks g place → IsWholeMark g.text m
+    → IsMarkOf g prefix c → c.value.start ≤ m.value.start → m.has_items ≡ true → kind_of node ≡ Array
+    → s ≡ record { place = m.value.end - 1; code = GetIndexOutOfArray } → NodeSays g m prefix node B → IsDeadNode g.rule g.text m.value.start node s
+old_dead are whole is before has array e says = λ rest. rw e (fails_so (rw array at (old_past are whole is before has says rest)))
+
+-- a key that came again is refused
+pub twice_dead : {g : Marking} {m c : Mark} {node : Node} {prefix : Path} {place q : ℕ} {B : Mark → Type 0} → AreMarks g place → IsMarkOf g prefix c
+    → m.value.start < c.value.start → m.has_items ≡ true → c.again ≡ Some q → NodeSays g m prefix node B
+    → IsDeadNode g.rule g.text m.value.start node (record { place = q; code = DuplicateKey })
+twice_dead are is later has again (says_no_items none x) = (let clash : true ≡ false = sym has ∙ none in absurd cc)
+twice_dead {c = c} are is later has again (says_items h x (says_none old none)) = absurd (let before = old c is in omega (arith, before, later))
+twice_dead {c = c} {q = q} are is later has again (says_items h x (says_one there inside first leads w below)) =
+    let none : c.again ≡ None = rw (mark_one are there is) at first in
+    let clash : None ≡ Some q = sym none ∙ again in
+    absurd cc
+twice_dead {g} {m} {c} {node} {q = q} are is later has again (says_items h x (says_twice {c = d} {q = p} {k} there inside second refuses same y)) = λ rest.
+    let other : c.again ≡ Some p = rw (mark_one are there is) at second in
+    let one : p ≡ q = (let both : Some p ≡ Some q = sym other ∙ again in cc) in
+    rw (refuses, same, ← one) (fails_so (repeats y))
+
+-- what is said of all paths is said of each child
+pub says_child : {g : Marking} {prefix : Path} {children : List Node} {m : Mark} (c : ℕ) (node : Node) → IsChildren g.paths prefix children
+    → slice_get children c ≡ Some node → SaysAll g prefix m → NodeSays g m (prefix ++ node ∷ []) node (λ d. Unit)
+says_child {g} {prefix} {m = m} c node all is says =
+    let path = path_of_child (record { rule = g.rule; text = g.text; paths = g.paths; prefix = prefix; place = m.value.start }) c node all is in
+    forget (says path.number (node ∷ path.rest) path.is)
+  where
+    forget_child : {g : Marking} {i : ℕ} {prefix : Path} {node : Node} {B : Mark → Type 0} → ChildSays g i prefix node B → ChildSays g i prefix node (λ d. Unit)
+    forget_child (says_none old none) = says_none old none
+    forget_child (says_twice is later again refuses same y) = says_twice is later again refuses same y
+    forget_child (says_one is later first leads whole below) = says_one is later first leads whole tt
+
+    forget : {g : Marking} {m : Mark} {prefix : Path} {node : Node} {B : Mark → Type 0} → NodeSays g m prefix node B → NodeSays g m prefix node (λ d. Unit)
+    forget (says_no_items none x) = says_no_items none x
+    forget (says_items has x child) = says_items has x (forget_child child)
+
+-- below a live mark all is said of the paths of the child
+pub live_all : {g : Marking} {prefix : Path} {m c : Mark} {place : ℕ} (node : Node) → AreMarks g place → IsLive g m (prefix ++ node ∷ []) c → SaysAll g prefix m
+    → SaysAll g (prefix ++ node ∷ []) c
+live_all node are live says = λ k rest h. (live_says are live (says k (node ∷ rest) (rw append_assoc at h))).2
+
+-- what is collected of the paths of a child is, of each of them
+pub collected_up : (p : Point) (node : Node) (v : ℕ) {f : Findings} {nearest : Option Stop} → AllCollected (child_point p node v) f nearest → NodeCollected p f nearest node
+collected_up p node v all k rest h = rw append_assoc at (all k rest (path_down p k node rest v h))
+
+-- a fail below a child is one below its parent
+pub fail_up : (p : Point) (node : Node) (v : ℕ) {s : Stop} → LeadsBy p.rule p.text p.place node v → IsFailBelow (child_point p node v) s → IsFailBelow p s
+fail_up p node v leads x = record { number = x.number; rest = node ∷ x.rest; is = rw append_assoc at x.is; fails_so = goes_on leads x.fails_so }
+
+-- a dead node fails
+pub dead_below : (p : Point) {children : List Node} {s : Stop} (c : ℕ) (node : Node) → HasWhole p.text p.place → IsChildren p.paths p.prefix children
+    → slice_get children c ≡ Some node → IsDeadNode p.rule p.text p.place node s → IsFailBelow p s
+dead_below p c node whole all is dead =
+    let path = path_of_child p c node all is in
+    record { number = path.number; rest = node ∷ path.rest; is = path.is; fails_so = stopped_fails whole (dead path.rest) }
+
+pub dead_collected : (p : Point) {s : Stop} {f : Findings} (node : Node) → HasWhole p.text p.place → ComesTo p → IsDeadNode p.rule p.text p.place node s
+    → NodeCollected p f (Some s) node
+dead_collected p {s} node whole comes dead k rest h =
+    is_failed (comes.up (node ∷ rest) (fails s) (stopped_fails whole (dead rest))) (let l : s.place ≤ s.place = omega arith in l)
+
+-- a node that is lacked is settled where that is noted
+pub lacks_collected : (p : Point) {f : Findings} {q : ℕ} {nearest : Option Stop} (node : Node) → ComesTo p → LacksNode p.rule p.text p.place node q → f.lacking ≡ true
+    → NodeCollected p f nearest node
+lacks_collected p {q = q} node comes lack noted k rest h = is_settled (was_lacked (comes.up (node ∷ rest) (lacks q) (lack rest)) noted)
+
+-- and the findings are true
+pub lacks_later : (p : Point) {children : List Node} {f : Findings} {q : ℕ} (c : ℕ) (node : Node) → ComesTo p → IsChildren p.paths p.prefix children
+    → slice_get children c ≡ Some node → LacksNode p.rule p.text p.place node q → AreFindings p.rule p.text p.paths f
+    → IsLater p.rule p.text p.paths f (record f { lacking = true })
+lacks_later p {q = q} c node comes all is lack are =
+    let path = path_of_child p c node all is in
+    record {
+      are = record {
+        long = are.long;
+        found_there = are.found_there;
+        lack = λ e. record {
+          number = path.number;
+          path = p.prefix ++ node ∷ path.rest;
+          place = q;
+          is = path.is;
+          leads = comes.up (node ∷ path.rest) (lacks q) (lack path.rest);
+        };
+      };
+      kept = λ k i j h. h;
+      lack = λ e. refl;
+    }
+
+-- what is collected stays so
+pub still_collected : {t : List ℕ} {paths : List Path} {f g : Findings} {k : ℕ} {path : Path} {rule : KeyRule} {was now : Option Stop} → IsLater rule t paths f g
+    → ((q : ℕ) → IsNoted was q → IsNoted now q) → IsCollected rule t f was k path → IsCollected rule t g now k path
+still_collected later nearer (is_settled x) = is_settled (still_settled later x)
+still_collected later nearer (is_failed {s} l n) = is_failed l (nearer s.place n)
+
+-- what is known of the first children is known of one more
+pub one_more_collected : (p : Point) (children : List Node) {f g : Findings} {was stop now : Option Stop} {i : ℕ} → IsLater p.rule p.text p.paths f g
+    → ((q : ℕ) → IsNoted was q → IsNoted now q) → ((q : ℕ) → IsNoted stop q → IsNoted now q)
+    → ((c : ℕ) (node : Node) → c < i → slice_get children c ≡ Some node → NodeCollected p f was node)
+    → ((node : Node) → slice_get children i ≡ Some node → NodeCollected p g stop node)
+    → (c : ℕ) (node : Node) → c < i + 1 → slice_get children c ≡ Some node → NodeCollected p g now node
+one_more_collected p children {i = i} later first second before last c node l is = elim (cases_order c i) [
+  | inl same ↦ (λ k rest h. still_same second (last node (rw same at is) k rest h))
+  | inr (inl less) ↦ (λ k rest h. still_collected later first (before c node less is k rest h))
+  | inr (inr more) ↦ absurd (omega (arith, l, more))
+]
+  where
+    still_same : {t : List ℕ} {f : Findings} {k : ℕ} {path : Path} {rule : KeyRule} {was now : Option Stop} → ((q : ℕ) → IsNoted was q → IsNoted now q)
+        → IsCollected rule t f was k path → IsCollected rule t f now k path
+    still_same nearer (is_settled x) = is_settled x
+    still_same nearer (is_failed {s} l n) = is_failed l (nearer s.place n)
+
+-- the nearer stop is one of both
+pub nearer_below : (p : Point) {was stop now : Option Stop} → IfSome was (IsFailBelow p) → IfSome stop (IsFailBelow p) → (now ≡ was) ⊎ (now ≡ stop)
+    → IfSome now (IsFailBelow p)
+nearer_below p x y (inl e) = rw e x
+nearer_below p x y (inr e) = rw e y
+
+-- where the value is kept for the paths that end at the prefix, all with it are collected
+pub kept_collected : (p : Point) {j : ℕ} {orders : List ℕ} {f : Findings} {more : List (Option Span)} {nearest : Option Stop} {children : List Node} → ComesTo p
+    → IsValue strict p.text p.place j → IsOrders p.paths p.prefix orders → IsFilled orders f.spans more (p.place, j)
+    → IsLater p.rule p.text p.paths f (record f { spans = more }) → IsChildren p.paths p.prefix children
+    → ((c : ℕ) (node : Node) → slice_get children c ≡ Some node → NodeCollected p f nearest node) → AllCollected p (record f { spans = more }) nearest
+kept_collected p comes value o fill later all below k [] h =
+    is_settled (filled_here p comes value o fill k h)
+  where
+    filled_here : (p : Point) {j : ℕ} {orders : List ℕ} {f : Findings} {more : List (Option Span)} → ComesTo p → IsValue strict p.text p.place j
+        → IsOrders p.paths p.prefix orders → IsFilled orders f.spans more (p.place, j) → (k : ℕ) → IsPath p k []
+        → IsSettled p.rule p.text (record f { spans = more }) k (p.prefix ++ [])
+    filled_here p {j} comes value o fill k h =
+        let is : slice_get p.paths k ≡ Some p.prefix = rw (append-nil p.prefix) at h in
+        was_found (comes.up [] (found p.place j) (found_here value)) (fill.filled k ((o.exact k).1 is))
+kept_collected p comes value o fill later all below k (node ∷ rest) h =
+    let c = child_at p k node rest all h in
+    still_collected later (λ q n. n) (below c.0 node c.1 k rest h)
+
+-- where no stop is noted, all are settled
+pub none_settled : (p : Point) {f : Findings} → AllCollected p f None → AllSettled p f
+none_settled p all k rest h = settled (all k rest h)
+  where
+    settled : {t : List ℕ} {f : Findings} {k : ℕ} {path : Path} {rule : KeyRule} → IsCollected rule t f None k path → IsSettled rule t f k path
+    settled (is_settled x) = x
+    settled (is_failed l n) = absurd n
+
+-- no path with the prefix fails before the stop that is noted, and none fails there for another reason
+none_nearer : (p : Point) {f : Findings} {s : Stop} → IsUnmixed p.paths → ComesTo p → IsFailBelow p s → AllCollected p f (Some s) → NoneNearer p s
+none_nearer p {s = s} unmixed comes x all k rest r h e = elim (all k rest h) [
+  | is_settled y ↦ absurd (settled_no_fail comes y e)
+  | is_failed {s = q} l n ↦
+      let one : fails q ≡ fails r = by_one (p.prefix ++ rest) l (comes.up rest (fails r) e) in
+      let same : q ≡ r = cc in
+      let near : s.place ≤ r.place = rw same at n in
+      elim (cases_order s.place r.place) [
+        | inl equal ↦
+            let mix = paths_unmixed unmixed (contained p.paths x.number x.is) (contained p.paths k h) in
+            inl (sym (fails_agree (p.prefix ++ x.rest) (p.prefix ++ rest) mix (comes.up x.rest (fails s) x.fails_so) (comes.up rest (fails r) e) equal))
+        | inr (inl less) ↦ inr less
+        | inr (inr more) ↦ absurd (omega (arith, near, more))
+      ]
+]
+
+-- so the stop that is noted stops the walk
+pub noted_stops : (p : Point) {f : Findings} {s : Stop} → IsUnmixed p.paths → ComesTo p → IsFailBelow p s → AllCollected p f (Some s) → IsStop p false s
+noted_stops p unmixed comes x all =
+    record { nearest = none_nearer p unmixed comes x all; cause = path_stops x.number x.rest x.is (fails_so x.fails_so) }
+
+-- under a rule that reads an object to its end no key leads on in one with a fault
+no_key_leads : {t : List ℕ} {i : ℕ} {s : Stop} (r : KeyRule) (node : Node) (v : ℕ) → r ≢ First → kind_of node ≡ Object → IsFault strict t i s → ¬ LeadsBy r t i node v
+no_key_leads First node v some same f l = absurd (some refl)
+no_key_leads Last (key k) v some same f l = value_never_both l.whole f
+no_key_leads Refuse (key k) v some same f l = value_never_both l.last.whole f
+no_key_leads r (index n) v some same f l = absurd cc
+
+-- and none fails
+no_key_fails : {t : List ℕ} {i : ℕ} {s q : Stop} {node : Node} (r : KeyRule) (rest : Path) → r ≢ First → kind_of node ≡ Object → IsFault strict t i s
+    → ¬ EvaluatesBy r t i (node ∷ rest) (fails q)
+no_key_fails {node = node} r rest some same f (goes_on {v} l e) = no_key_leads r node v some same f l
+no_key_fails r rest some same f (repeats y) = value_never_both y.whole f
+no_key_fails r rest some same f (leads_nowhere x none e) = value_never_both x f
+
+-- so the fault cuts each path that goes on by a key
+pub fault_cuts : (p : Point) {children : List Node} {s : Stop} → p.rule ≢ First → IsChildren p.paths p.prefix children → children ≢ []
+    → ((c : ℕ) (node : Node) → slice_get children c ≡ Some node → kind_of node ≡ Object) → IsFault strict p.text p.place s → IsStop p false s
+fault_cuts p {children} {s} rule all some kind f =
+    let child = first_of children some in
+    let path = path_of_child p 0 child.0 all child.1 in
+    record {
+      nearest = nearest_of p rule all kind f;
+      cause = path_stops path.number (child.0 ∷ path.rest) path.is (cut_so (cut_before f (λ v l. no_key_leads p.rule child.0 v rule (kind 0 child.0 child.1) f l)));
+    }
+  where
+    nearest_of : (p : Point) {children : List Node} {s : Stop} → p.rule ≢ First → IsChildren p.paths p.prefix children
+        → ((c : ℕ) (node : Node) → slice_get children c ≡ Some node → kind_of node ≡ Object) → IsFault strict p.text p.place s → NoneNearer p s
+    nearest_of p rule all kind f k [] r h e = elim e [ ]
+    nearest_of p rule all kind f k (node ∷ rest) r h e =
+        let c = child_at p k node rest all h in
+        absurd (no_key_fails p.rule rest rule (kind c.0 node c.1) f e)
+
+-- what stops a value that isn't asked for stops it
+pub stop_anyway : {p : Point} {needs : Bool} {s : Stop} → IsStop p false s → IsStop p needs s
+stop_anyway x = record { nearest = x.nearest; cause = anyway x.cause }
+  where
+    anyway : {p : Point} {needs : Bool} {s : Stop} → IsCause p false s → IsCause p needs s
+    anyway (path_stops k rest is y) = path_stops k rest is y
+    anyway (value_stops f (inl e)) = absurd cc
+    anyway (value_stops f (inr lack)) = value_stops f (inr lack)

@@ -1,0 +1,125 @@
+-- Lists in which places are set: the children that were visited, and the spans that are kept.
+use Rattle.std.proofs.Common.{◌≡◌, ◌≢◌, ◌⊎◌, inl, inr, ap, ℕ, zero, suc, ◌+◌, ◌<◌, List, [], ◌∷◌, Bool, true, false, length, set, arith, refl, sym, ◌∙◌, ◌++◌}
+use Rattle.std.proofs.lemmas.Bool.{cases_eq}
+use Rattle.std.proofs.lemmas.List.{length-set, length-map}
+use Rattle.std.proofs.lemmas.List.Elements.{Contains-append_left, Contains-push_cases, Contains-push}
+use Rattle.std.proofs.lemmas.List.Sums.{sum_by-cons, sum_by-set}
+use Rattle.std.proofs.lemmas.Option.{slice_get_within, get_or_from_slice_get, slice_get-map}
+use Rattle.std.specs.Prelude.{Some, slice_get, count_by, not, cond, Option, map, option_map}
+use Rattle.sonic_find.specs.Internal.Walk.{SomeOpen, IsFilled}
+
+-- what is set is there
+pub set_here : {X : Type 0} (xs : List X) (i : ℕ) (a : X) → i < length xs → slice_get (set xs i a) i ≡ Some a
+set_here [] i a l = absurd (omega arith)
+set_here (x ∷ xs) zero a l = refl
+set_here (x ∷ xs) (suc i) a l = set_here xs i a (omega arith)
+
+-- and all else stays
+pub set_elsewhere : {X : Type 0} (xs : List X) (i j : ℕ) (a : X) → j ≢ i → slice_get (set xs i a) j ≡ slice_get xs j
+set_elsewhere [] i j a other = refl
+set_elsewhere (x ∷ xs) zero zero a other = absurd (other refl)
+set_elsewhere (x ∷ xs) zero (suc j) a other = refl
+set_elsewhere (x ∷ xs) (suc i) zero a other = refl
+set_elsewhere (x ∷ xs) (suc i) (suc j) a other = set_elsewhere xs i j a (λ e. other (ap suc e))
+
+-- in place of what a place holds, or it holds nothing
+pub set_cases : {X : Type 0} (xs : List X) (i j : ℕ) (a : X) → (j ≡ i) ⊎ (j ≢ i) × (slice_get (set xs i a) j ≡ slice_get xs j)
+set_cases xs i j a = elim (cases_eq j i) [ inl e ↦ inl e | inr other ↦ inr (other, set_elsewhere xs i j a other) ]
+
+-- what is open after the visit was open before, and is another
+pub still_open : (visited : List Bool) (child c : ℕ) → child < length visited → slice_get (set visited child true) c ≡ Some false
+    → (c ≢ child) × (slice_get visited c ≡ Some false)
+still_open visited child c l h = elim (set_cases visited child c true) [
+  | inr other ↦ (other.0, cc (other.1, h))
+  | inl same ↦
+      let here = set_here visited child true l in
+      let there : slice_get (set visited child true) child ≡ Some false = rw same at h in
+      let clash : Some true ≡ Some false = cc in
+      absurd cc
+]
+
+-- a place of a list holds something
+pub some_there : {X : Type 0} (xs : List X) (i : ℕ) → i < length xs → (x : X) × (slice_get xs i ≡ Some x)
+some_there [] i l = absurd (omega arith)
+some_there (x ∷ xs) zero l = (x, refl)
+some_there (x ∷ xs) (suc i) l = some_there xs i (omega arith)
+
+-- a list that isn't empty has a first element
+pub first_of : {X : Type 0} (xs : List X) → xs ≢ [] → (x : X) × (slice_get xs 0 ≡ Some x)
+first_of [] some = absurd (some refl)
+first_of (x ∷ xs) some = (x, refl)
+
+-- a child that was not visited counts
+open_counts : (visited : List Bool) → count_by not (false ∷ visited) ≡ 1 + count_by not visited
+open_counts visited = sum_by-cons (λ m. cond (not m) 1 0) false visited
+
+-- and a visited one doesn't
+visited_counts : (visited : List Bool) → count_by not (true ∷ visited) ≡ 0 + count_by not visited
+visited_counts visited = sum_by-cons (λ m. cond (not m) 1 0) true visited
+
+-- where none is counted, none is open
+pub none_open : (visited : List Bool) (c : ℕ) → count_by not visited ≡ 0 → slice_get visited c ≢ Some false
+none_open [] c e h = absurd cc
+none_open (true ∷ visited) zero e h = absurd cc
+none_open (true ∷ visited) (suc c) e h = none_open visited c (omega (arith, e, visited_counts visited)) h
+none_open (false ∷ visited) c e h = absurd (omega (arith, e, open_counts visited))
+
+-- where some are counted, one is open
+pub some_open : (visited : List Bool) → count_by not visited ≢ 0 → SomeOpen visited
+some_open [] other = absurd (other refl)
+some_open (false ∷ visited) other = (zero, refl)
+some_open (true ∷ visited) other = let x = some_open visited (λ e. other (omega (arith, e, visited_counts visited))) in (suc x.0, x.1)
+
+-- one less is counted after the visit
+pub one_less : (visited : List Bool) (child : ℕ) → slice_get visited child ≡ Some false → count_by not (set visited child true) + 1 ≡ count_by not visited
+one_less visited child h =
+    let was = get_or_from_slice_get visited child false true h in
+    let sums = sum_by-set (λ m. cond (not m) 1 0) visited child true true (slice_get_within visited child false h) in
+    let counts = rw was at sums in
+    omega (arith, counts)
+
+-- for no number
+pub fill_none : {X : Type 0} (xs : List (Option X)) (x : X) → IsFilled [] xs xs x
+fill_none xs x = record {
+  long = refl;
+  filled = λ k some. (let l : some.0 < 0 = some.1 in absurd (omega arith));
+  each = λ k. inl refl;
+}
+
+-- for one more
+pub fill_more : {X : Type 0} {os : List ℕ} {before now : List (Option X)} {x : X} (o : ℕ) → IsFilled os before now x → o < length before
+    → IsFilled (os ++ o ∷ []) before (set now o (Some x)) x
+fill_more {os = os} {before} {now} {x} o f l =
+    let within : o < length now = omega (arith, f.long) in
+    record {
+      long = (let k : length (set now o (Some x)) ≡ length now = length-set now o (Some x) in omega (arith, k, f.long));
+      filled = λ k some. elim (set_cases now o k (Some x)) [
+        | inl same ↦ rw same (set_here now o (Some x) within)
+        | inr other ↦ elim (Contains-push_cases os o k some) [
+          | inl before ↦ (let h = f.filled k before in cc (other.1, h))
+          | inr one ↦ absurd (other.0 (sym one))
+        ]
+      ];
+      each = λ k. elim (set_cases now o k (Some x)) [
+        | inl same ↦ inr (rw same (Contains-push os o), rw same (set_here now o (Some x) within))
+        | inr other ↦ elim (f.each k) [
+          | inl kept ↦ inl (cc (other.1, kept))
+          | inr filled ↦ inr (Contains-append_left os (o ∷ []) k filled.0, cc (other.1, filled.1))
+        ]
+      ];
+    }
+
+-- how spans are kept
+pub ruleset fillings = (fill_none, fill_more)
+
+-- what is kept of values is kept of what is read off them
+pub fill_mapped : {X Y : Type 0} (f : X → Y) {os : List ℕ} {before now : List (Option X)} {x : X} → IsFilled os before now x
+    → IsFilled os (map (option_map f) before) (map (option_map f) now) (f x)
+fill_mapped f {before = before} {now} {x} h = record {
+  long = length-map now (option_map f) ∙ (h.long ∙ sym (length-map before (option_map f)));
+  filled = λ k c. slice_get-map (option_map f) now k ∙ ap (option_map (option_map f)) (h.filled k c);
+  each = λ k. elim (h.each k) [
+    | inl same ↦ inl (slice_get-map (option_map f) now k ∙ (ap (option_map (option_map f)) same ∙ sym (slice_get-map (option_map f) before k)))
+    | inr there ↦ inr (there.0, slice_get-map (option_map f) now k ∙ ap (option_map (option_map f)) there.1)
+  ];
+}

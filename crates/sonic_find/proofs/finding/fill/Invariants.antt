@@ -1,0 +1,8 @@
+use Rattle.std.proofs.Common.{◌≡◌, map, option_map, take}
+use Rattle.sonic_find.specs.Internal.Located.{slot_at}
+use Rattle.sonic_find.proofs.finding.fill.Given as goal
+
+abbrev pub invariant-loop-i : goal.invariant-loop-i
+invariant-loop-i l = record {
+  front : take l.i l.out ≡ map (option_map slot_at) (take l.i l.found);
+}

@@ -1,0 +1,29 @@
+use Rattle.std.proofs.Common.{◌≡◌, ◌+◌, ◌-◌, ◌*◌, ◌<◌, length}
+use Rattle.sonic_find.specs.Internal.Marks.{KeepsMarks}
+use Rattle.sonic_find.specs.Internal.View.{container_at, marking_at, progress_at}
+use Rattle.sonic_find.specs.Internal.Walk.{IsFollowed, IsWanted, IsLater}
+use Rattle.sonic_find.proofs.walk.+walk.Given as goal
+
+abbrev pub decreases-follow : goal.decreases-follow
+decreases-follow l = 3 * (length l.walk.now.text - l.walk.now.place) + 1
+
+abbrev pub decreases-items : goal.decreases-items
+decreases-items l = 3 * (length l.walk.now.text - l.walk.now.place)
+
+abbrev pub decreases-item : goal.decreases-item
+decreases-item l = 3 * (length l.walk.now.text - l.walk.now.place) + 2
+
+abbrev pub invariant-items-items : goal.invariant-items-items
+invariant-items-items l = record {
+  text : l.walk.text ≡ l.fn.walk.text;
+  rule : l.walk.rule ≡ l.fn.walk.rule;
+  place : l.fn.walk.place < l.walk.place;
+  within : l.fn.walk.place < length l.walk.text;
+  before : IsFollowed (container_at l.walk.rule l.walk.text l.level) (progress_at l.passed l.walk.place l.visited l.walk.findings);
+  wanted : IsWanted (container_at l.walk.rule l.walk.text l.level) (progress_at l.passed l.walk.place l.visited l.walk.findings);
+  later : IsLater l.walk.rule l.walk.text l.level.view.now.paths l.fn.walk.findings l.walk.findings;
+  marks : KeepsMarks (marking_at l.walk l.level.view.now) l.walk.place;
+}
+
+abbrev pub decreases-items-items : goal.decreases-items-items
+decreases-items-items l = length l.walk.text - l.walk.place

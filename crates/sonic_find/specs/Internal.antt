@@ -1,0 +1,11 @@
+-- What serves the steps of walks, and the calls that the crates above make of them.
+pub mod Collected
+pub mod Fill
+pub mod Follow
+pub mod Located
+pub mod Marks
+pub mod Roots
+pub mod StepViews
+pub mod Steps
+pub mod View
+pub mod Walk

@@ -1,0 +1,50 @@
+-- What the fields of a walk and of a level denote.
+use Rattle.std.specs.Prelude.{◌≡◌, ℕ, Bool, true, List}
+use Rattle.sonic_pointer.specs.Views.{View}
+use Rattle.sonic_find.specs.declared.state.Walk.TheInside.{Inside}
+use Rattle.sonic_find.specs.declared.marks.Mark.{Mark}
+use Rattle.sonic_find.specs.declared.walk.Level.{Level}
+use Rattle.sonic_find.specs.Internal.Located.{spans_of, HaveStatuses}
+use Rattle.sonic_find.specs.Internal.Marks.{Marking}
+use Rattle.sonic_find.specs.Internal.Walk.{Findings, Walking, Point, Container, Progress}
+use Rattle.sonic_pointer.specs.declared.rule.KeyRule.{KeyRule}
+
+-- the walk that its callers see
+abbrev pub walking_of : Inside → Walking
+walking_of walk = record {
+  text = walk.steps.text;
+  place = walk.steps.place;
+  findings = record { spans = spans_of walk.spans.items; lacking = walk.lacking };
+  rule = walk.rule;
+  marks = walk.marks.items;
+}
+
+-- it looks at what it skips, and each value that was found has its status
+pub record IsWalk (walk : Inside) : Type 0 where
+  pub checks : walk.steps.checks ≡ true
+  pub statuses : HaveStatuses walk.steps.text walk.spans.items
+
+-- the prefix of a view, whose value is expected where the walk has come to
+abbrev pub point_at : Walking → View → Point
+point_at walk view = record { rule = walk.rule; text = walk.text; paths = view.paths; prefix = view.prefix; place = walk.place }
+
+-- the container of a level, under a rule
+abbrev pub container_at : KeyRule → List ℕ → Level → Container
+container_at rule text level = record {
+  point = record { rule = rule; text = text; paths = level.view.now.paths; prefix = level.view.now.prefix; place = level.start };
+  children = level.view.now.children;
+  kind = level.kind;
+  needs = level.needs;
+}
+
+-- how far a walk came in a container, of whose items these were passed
+abbrev pub progress_at : ℕ → ℕ → List Bool → Findings → Progress
+progress_at passed next visited findings = record { passed = passed; next = next; visited = visited; findings = findings }
+
+-- the marks of a walk, by the prefixes of a view
+abbrev pub marking_at : Walking → View → Marking
+marking_at walk view = record { rule = walk.rule; text = walk.text; paths = view.paths; prefixes = view.prefixes; marks = walk.marks }
+
+-- the point of a view whose value is known by its mark
+abbrev pub marked_at : Walking → View → Mark → Point
+marked_at walk view mark = record { rule = walk.rule; text = walk.text; paths = view.paths; prefix = view.prefix; place = mark.value.start }

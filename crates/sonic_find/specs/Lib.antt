@@ -1,0 +1,9 @@
+pub mod Answers
+pub mod Causes
+pub mod Documents
+pub mod FirstPaths
+pub mod Internal
+pub mod Laws
+pub mod Parts
+pub mod Paths
+pub mod Spans

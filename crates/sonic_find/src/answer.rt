@@ -1,0 +1,167 @@
+// The answer of a list of paths.
+ghost use Rattle.std.specs.Prelude.{◌≡◌, ◌≢◌, ◌⊎◌, ◌<◌, ◌≤◌, ℕ, List, [], true, false, length, option_map, take, IfOk, IfErr, IfSome, OnOk};
+ghost use Rattle.std.specs.Option.{IsSomeAnd};
+ghost use Rattle.std.specs.Str.{IsUtf8};
+ghost use Rattle.sonic_error.specs.declared.code.ErrorCode.TheVariants.{InvalidUTF8};
+ghost use Rattle.sonic_error.specs.Errors.{IsPlainError};
+ghost use Rattle.sonic_error.specs.Texts.{valid_up_to};
+ghost use Rattle.sonic_text.specs.Strings.{strict};
+ghost use Rattle.sonic_parser.specs.Faults.{IsStopFor};
+ghost use Rattle.sonic_parser.specs.Honest.{IsHonest};
+ghost use Rattle.sonic_find.specs.Answers.{IsAnswerBy, Answer};
+ghost use Rattle.sonic_find.specs.Causes.{IsAnswerableBy, IsRefusalBy};
+ghost use Rattle.sonic_find.specs.Internal.Located.{AreParts, HaveStatuses, span_at, spans_of};
+ghost use Rattle.sonic_find.specs.Internal.Walk.{root_point, IsStop, IsError, IsFurthest, IsReached};
+
+use crate::located::Located;
+use crate::state::Walk;
+use crate::walk::follow;
+use sonic_error::{Error, ErrorCode};
+use sonic_input::{JsonInput, Read};
+use sonic_parser::Fault;
+use sonic_pointer::{KeyRule, PointerTree};
+use sonic_text::Stop;
+use std::alloc::Global;
+
+// What the paths of a tree found in a text, and how far the text is needed for it.
+#[derive(Drop)]
+struct Reached<'de> {
+    text: &'de [u8],
+    found: Vec<Option<Located>>,
+    reach: usize,
+}
+
+/// Where the values are that the paths of a tree find in an input under a rule, in the order of the
+/// paths, with `None` for one that lacks its key.
+///
+/// What follows the last byte that the paths need plays no part. It is what `get_many_with` of
+/// `sonic_lazy` makes its lazy values of, and [`find_many`](crate::find_many) its spans.
+pub fn locate_many<'de, I: JsonInput<'de>>(
+    alloc: Global,
+    json: I,
+    tree: &PointerTree,
+    rule: KeyRule,
+) -> Result<Vec<Option<Located>>, Error>
+    ensures ok { IfOk result (λ found. IsAnswerBy rule (I.JsonInput.content json) I.JsonInput.is_bytes
+        tree.now (Answer.spans (spans_of found.items))) }
+    ensures statuses { IfOk result (λ found. HaveStatuses (I.JsonInput.content json) found.items) }
+    ensures parts { IfOk result (λ found. AreParts (I.JsonInput.content json) found.items) }
+    ensures err { IfErr result (λ error. IsRefusalBy rule (I.JsonInput.content json) I.JsonInput.is_bytes
+        tree.now error) }
+    ensures complete { IsAnswerableBy rule (I.JsonInput.content json) I.JsonInput.is_bytes tree.now
+        → IfErr result (λ error. IsPlainError error ErrorCode.NoMemory) }
+    ensures honest { IfErr result (IsHonest strict (I.JsonInput.content json) 0) }
+{
+    let text = json.to_u8_slice();
+    let read = Read::unscanned(json.to_json_slice());
+    match answer(alloc, read, json.need_utf8_valid(), tree, rule) {
+        Ok(found) => Ok(found),
+        Err(fault) => Err(fault.error(text)),
+    }
+}
+
+// The values that the paths of a tree are answered with under a rule, in their order, or the one error.
+//
+// What follows the last byte that is needed plays no part.
+fn answer(
+    alloc: Global,
+    read: Read<'_>,
+    is_bytes: bool,
+    tree: &PointerTree,
+    rule: KeyRule,
+) -> Result<Vec<Option<Located>>, Fault>
+    requires { read.place ≡ 0 }
+    ensures ok { IfOk result (λ found.
+        IsAnswerBy rule read.entry.text is_bytes tree.now (Answer.spans (spans_of found.items))) }
+    ensures statuses { IfOk result (λ found. HaveStatuses read.entry.text found.items) }
+    ensures err { IfErr result (IsStopFor (IsError rule read.entry.text is_bytes tree.now)) }
+{
+    let size = tree.size();
+    if size == 0 {
+        return Ok(Vec::new(alloc));
+    }
+    let Reached { text, found, reach } = reach(alloc, read, tree, size, rule)?;
+    if is_bytes {
+        check(text, reach)?;
+    }
+    Ok(found)
+}
+
+// Follows the paths of a tree that has some.
+fn reach<'de>(
+    alloc: Global,
+    read: Read<'de>,
+    tree: &PointerTree,
+    size: usize,
+    rule: KeyRule,
+) -> Result<Reached<'de>, Fault>
+    requires start { read.place ≡ 0 }
+    requires size { size ≡ length tree.now }
+    requires some { tree.now ≢ [] }
+    ensures text { IfOk result (λ x. x.text.now ≡ read.entry.text) }
+    ensures reached { IfOk result (λ x.
+        IsReached rule read.entry.text tree.now (spans_of x.found.items) x.reach) }
+    ensures statuses { IfOk result (λ x. HaveStatuses read.entry.text x.found.items) }
+    ensures err { IfErr result (IsStopFor (IsStop (root_point rule read.entry.text tree.now) false)) }
+{
+    let view = tree.view();
+    let mut walk = Walk::new(alloc, read, size, rule, view.prefixes())?;
+    follow(&mut walk, &view, false)?;
+    let (text, end, lacking) = (walk.text(), walk.place(), walk.lacks_key());
+    let found = walk.into_spans();
+    let reach = reach_of(&found, lacking, end);
+    Ok(Reached { text, found, reach })
+}
+
+// How far the text is needed: to the end of the root where some path lacks its key.
+fn reach_of(found: &[Option<Located>], lacking: bool, end: usize) -> usize
+    ensures whole { lacking ≡ true → result ≡ end }
+    ensures furthest { lacking ≡ false → IsFurthest (spans_of found.now) result }
+{
+    if lacking { end } else { furthest(found) }
+}
+
+// The furthest end of the values, or 0 where there is none.
+fn furthest(found: &[Option<Located>]) -> usize
+    ensures { IsFurthest (spans_of found.now) result }
+{
+    let mut reach = 0;
+    for value in found {
+        reach = further(reach, *value);
+    }
+    reach
+}
+
+// The end of a value, where it is further.
+fn further(reach: usize, value: Option<Located>) -> usize
+    ensures after { reach ≤ result }
+    ensures end { IfSome (option_map span_at value) (λ span. span.1 ≤ result) }
+    ensures one { (result ≡ reach) ⊎ IsSomeAnd (option_map span_at value) (λ span. span.1 ≡ result) }
+{
+    match value {
+        Some(Located { end, .. }) if reach < end => end,
+        _ => reach,
+    }
+}
+
+/// Looks at the first `reach` bytes of a text, whether they are UTF-8.
+///
+/// Else the stop is `ErrorCode::InvalidUTF8` at the first byte that isn't. Walks look at no more
+/// than an answer needs, and so they do it last. In `b"[1]\xFF"` the first 3 bytes are UTF-8, and of
+/// 4 the stop is at 3.
+pub fn check(text: &[u8], reach: usize) -> Result<(), Stop>
+    requires { reach ≤ length text.now }
+    ensures ok { OnOk result (IsUtf8 (take reach text.now)) }
+    ensures err { IfErr result (λ s. (IsUtf8 (take reach text.now) → ⊥)
+        × (s ≡ record { place = valid_up_to (take reach text.now); code = InvalidUTF8 })
+        × (s.place ≤ length text.now)) }
+{
+    match simdutf8::compat::from_utf8(&text[..reach]) {
+        Ok(_) => Ok(()),
+        Err(error) => {
+            let place = error.valid_up_to();
+            let code = ErrorCode::InvalidUTF8;
+            Err(Stop { place, code })
+        }
+    }
+}

@@ -1,0 +1,47 @@
+//! Where paths of keys and indexes lead in a text, as spans of it, and whether a text is a valid
+//! document.
+#![tactic(auto)]
+
+// The answer of a list of paths.
+mod answer;
+// Whether an input is a valid document.
+mod document;
+// Where paths lead in an input, as spans of it.
+mod finding;
+// Objects in which another member than the first may count.
+mod gathered;
+// The laws of outcomes, answers and documents.
+mod law;
+// Where a value was found, and what it needs.
+mod located;
+// Where many paths lead in an input that is known to begin with a value.
+mod many_unchecked;
+// What each prefix of a tree had last.
+mod marks;
+// Where one path leads in a text.
+mod path;
+// A part of an input.
+mod span;
+// What a walk has come to.
+mod state;
+// The steps of a walk through a text.
+mod steps;
+// Which children of a prefix of the tree were visited.
+mod visited;
+// One walk that finds what all paths of a tree lead to.
+mod walk;
+
+pub use answer::{check, locate_many};
+pub use document::{pass_alone, validate};
+pub use finding::{find, find_many, find_unchecked};
+pub use law::{
+    a_cut_is_the_root_fault, a_path_goes_on_in_its_value, document_is_valid_or_has_one_reason,
+    fails_at_one_place_agree, first_is_the_plain_rule, get_many_agrees_with_get,
+    outcomes_come_before_the_fault, path_has_one_answer, path_has_one_outcome,
+    paths_have_one_answer, refuse_agrees_with_each_rule,
+};
+pub use located::Located;
+pub use many_unchecked::{find_many_unchecked, with_status};
+pub use path::{locate, locate_from};
+pub use span::Span;
+pub use steps::Steps;

@@ -1,0 +1,241 @@
+// What many paths find in an input that is known to begin with a value in UTF-8.
+ghost use Rattle.std.specs.Prelude.{◌≡◌, ◌⊎◌, ◌<◌, ℕ, Bool, Some, None, length, replicate, slice_get, IfOk, IfErr, IfSome, IfNone, OnOk, OnErr, IsOk};
+ghost use Rattle.std.specs.List.{Contains};
+ghost use Rattle.sonic_text.specs.Documents.{StartsWithUtf8Value};
+ghost use Rattle.sonic_text.specs.Paths.{Node};
+ghost use Rattle.sonic_text.specs.Places.{after_space};
+ghost use Rattle.sonic_text.specs.Strings.{strict};
+ghost use Rattle.sonic_text.specs.Values.{IsValue};
+ghost use Rattle.sonic_pointer.specs.Nodes.{node_of};
+ghost use Rattle.sonic_pointer.specs.Paths.{IsChildren};
+ghost use Rattle.sonic_find.specs.Answers.{IsAnswer, Answer};
+ghost use Rattle.sonic_find.specs.Causes.{IsAnswerable, IsAnswerError};
+ghost use Rattle.sonic_find.specs.Internal.Fill.{filling_at, origin_at, IsNoted, IsFuller, AllSlots, NodeSlots, IsBegun};
+ghost use Rattle.sonic_find.specs.Internal.Follow.{IsDeadNode, LacksNode};
+ghost use Rattle.sonic_find.specs.Internal.Located.{IsStatus};
+ghost use Rattle.sonic_find.specs.Internal.Steps.{HasWhole};
+ghost use Rattle.sonic_find.specs.Internal.Walk.{IsFilled, IsError};
+ghost use Rattle.sonic_find.specs.Paths.{LeadsOn};
+ghost use Rattle.sonic_find.specs.Spans.{pairs_of};
+ghost use Rattle.sonic_pointer.specs.declared.rule.KeyRule.TheVariants.{First};
+
+use crate::located::Located;
+use crate::path::lead_on;
+use crate::span::Span;
+use crate::steps::Steps;
+use sonic_error::Error;
+use sonic_input::{JsonInput, JsonSlice, Read};
+use sonic_parser::{Fault, ParseStatus, Parser};
+use sonic_pointer::{PointerNode, PointerTree, TreeView};
+use sonic_text::{Stop, byte_at, skip_space};
+
+// A whole value of a text, by the place where it begins.
+#[derive(Clone, Copy)]
+struct Origin<'de> {
+    text: &'de [u8],
+    place: usize,
+}
+
+impl<'de> Origin<'de> {
+    // The first value of the text.
+    fn root(text: &'de [u8]) -> Origin<'de>
+        ensures text { result.text.now ≡ text.now }
+        ensures place { result.place ≡ after_space text.now 0 }
+    {
+        let place = skip_space(text, 0);
+        Origin { text, place }
+    }
+
+    // A cursor at the value.
+    fn read(self) -> Read<'de>
+        requires { HasWhole self.text.now self.place }
+        ensures text { result.text ≡ self.entry.text.now }
+        ensures place { result.place ≡ self.entry.place }
+    {
+        let mut read = Read::unscanned(JsonSlice::Raw(self.text));
+        read.set_index(self.place);
+        read
+    }
+
+    // From where to where the value is, and what it needs.
+    fn located(self) -> Located
+        requires { HasWhole self.text.now self.place }
+        ensures start { result.start ≡ self.entry.place }
+        ensures value { IsValue strict self.entry.text.now self.entry.place result.end }
+        ensures status { IsStatus self.entry.text.now self.entry.place result.end result.status }
+    {
+        let mut parser = Parser::new(self.read());
+        let status = parser.skip_value_unchecked();
+        let end = parser.offset();
+        Located {
+            start: self.place,
+            end,
+            status,
+        }
+    }
+
+    // The value of the first item that the node names, if there is one.
+    fn child(self, node: &PointerNode<'_>) -> Result<Option<Origin<'de>>, Stop>
+        requires { HasWhole self.text.now self.place }
+        ensures text { IfOk result (λ child. IfSome child (λ x. x.text.now ≡ self.entry.text.now)) }
+        ensures leads { IfOk result (λ child. IfSome child (λ x.
+            LeadsOn self.entry.text.now self.entry.place (node_of node.now) x.place)) }
+        ensures lacks { IfOk result (λ child. IfNone child ((q : ℕ)
+            × LacksNode First self.entry.text.now self.entry.place (node_of node.now) q)) }
+        ensures err { IfErr result (IsDeadNode First self.entry.text.now self.entry.place (node_of node.now)) }
+    {
+        let mut steps = Steps::unchecked(self.read());
+        match lead_on(&mut steps, node) {
+            Ok(true) => {
+                let place = steps.place();
+                Ok(Some(Origin { place, ..self }))
+            }
+            Ok(false) => Ok(None),
+            Err(Fault::At(stop)) => Err(stop),
+            Err(Fault::OutOfMemory) => unreachable!(),
+        }
+    }
+}
+
+// Notes the nearer of a stop and the one before.
+fn note(nearest: &mut Option<Stop>, stop: Stop)
+    ensures noted { IsNoted nearest.new stop.place }
+    ensures nearer { (q : ℕ) → IsNoted nearest.old q → IsNoted nearest.new q }
+    ensures one { (nearest.new ≡ nearest.old) ⊎ (nearest.new ≡ Some stop) }
+{
+    match *nearest {
+        Some(known) if known.place <= stop.place => {}
+        _ => *nearest = Some(stop),
+    }
+}
+
+// Fills the slots of the paths of these numbers.
+fn keep(slots: &mut [Option<Span>], orders: &[usize], span: Span)
+    requires { (k : ℕ) → Contains orders.now k → k < length slots.old }
+    ensures { IsFilled orders.now slots.old slots.new span }
+{
+    for order in orders {
+        slots[*order] = Some(span);
+    }
+}
+
+// Fills the slots of the paths that begin with the prefix of the view, which leads to the value.
+#[cycle(fill)]
+fn fill(
+    origin: Origin<'_>,
+    view: &TreeView<'_>,
+    slots: &mut [Option<Span>],
+    nearest: &mut Option<Stop>,
+)
+    requires { IsBegun (origin_at origin view.now) (filling_at slots.old nearest.old) }
+    ensures fuller { IsFuller First origin.entry.text.now view.now.paths (filling_at slots.old nearest.old)
+        (filling_at slots.new nearest.new) }
+    ensures all { AllSlots (origin_at origin.entry view.now) (filling_at slots.new nearest.new) }
+{
+    for i in 0..view.count() {
+        fill_child(origin, view, i, slots, nearest);
+    }
+    let orders = view.orders();
+    if orders.is_empty() {
+        return;
+    }
+    let Located { start, end, .. } = origin.located();
+    keep(slots, orders, Span { start, end });
+}
+
+// Fills those of the paths that go on by one node.
+#[cycle(fill)]
+fn fill_child(
+    origin: Origin<'_>,
+    view: &TreeView<'_>,
+    i: usize,
+    slots: &mut [Option<Span>],
+    nearest: &mut Option<Stop>,
+)
+    requires child { i < length view.now.children }
+    requires children { IsChildren view.now.paths view.now.prefix view.now.children }
+    requires begun { IsBegun (origin_at origin view.now) (filling_at slots.old nearest.old) }
+    ensures fuller { IsFuller First origin.entry.text.now view.now.paths (filling_at slots.old nearest.old)
+        (filling_at slots.new nearest.new) }
+    ensures all { (node : Node) → slice_get view.now.children i ≡ Some node
+        → NodeSlots (origin_at origin.entry view.now) (filling_at slots.new nearest.new) node }
+{
+    let (node, below) = view.child(i);
+    match origin.child(&node) {
+        Ok(Some(child)) => fill(child, &below, slots, nearest),
+        Ok(None) => {}
+        Err(stop) => note(nearest, stop),
+    }
+}
+
+// Empties the slots.
+pub(crate) fn clear(slots: &mut [Option<Span>])
+    ensures { slots.new ≡ replicate (length slots.old) None }
+{
+    slots.fill(None);
+}
+
+// Fills the empty slots of the paths of a tree, or gives the stop that is their answer.
+fn fill_all(text: &[u8], tree: &PointerTree, slots: &mut [Option<Span>]) -> Option<Stop>
+    requires starts { StartsWithUtf8Value text.now }
+    requires empty { slots.old ≡ replicate (length tree.now) None }
+    ensures none { IfNone result ((is_bytes : Bool) → IsAnswer text.now is_bytes tree.now
+        (Answer.spans (pairs_of slots.new))) }
+    ensures some { IfSome result (λ s. (is_bytes : Bool) → IsError First text.now is_bytes tree.now s) }
+    ensures long { length slots.new ≡ length slots.old }
+{
+    let mut nearest = None;
+    fill(Origin::root(text), &tree.view(), slots, &mut nearest);
+    nearest
+}
+
+/// The spans of the values to which the paths of a tree lead, without memory, in an input that
+/// begins with a value in UTF-8.
+///
+/// It fills one slot for each path with what `get_many` of `sonic_lazy` answers: the span of its
+/// value in bytes of the input, or `None` where its key is lacked. After an error each slot is
+/// `None`. What follows the input's value may be anything; an input that was taken by
+/// [`validate`](crate::validate) begins so. Each node that follows a prefix is looked up by itself
+/// from the prefix's value, which `n` nodes so read `n` times.
+///
+/// With the paths `["a", 1]` and `["z"]` over `{"a":[1,2]} x` the slots are the span from 8 to 9
+/// and `None`. With `["z"]` and `["a", "x"]` the error is the mismatch at 9, and both are `None`.
+pub fn find_many_unchecked<'de, I: JsonInput<'de>>(
+    json: I,
+    tree: &PointerTree,
+    out: &mut [Option<Span>],
+) -> Result<(), Error>
+    requires starts { StartsWithUtf8Value (I.JsonInput.content json) }
+    requires long { length out.old ≡ length tree.now }
+    ensures ok { OnOk result (IsAnswer (I.JsonInput.content json) I.JsonInput.is_bytes tree.now
+        (Answer.spans (pairs_of out.new))) }
+    ensures err { IfErr result (IsAnswerError (I.JsonInput.content json) I.JsonInput.is_bytes
+        tree.now) }
+    ensures cleared { OnErr result (out.new ≡ replicate (length out.old) None) }
+    ensures complete { IsAnswerable (I.JsonInput.content json) I.JsonInput.is_bytes tree.now
+        → IsOk result }
+{
+    let text = json.to_u8_slice();
+    clear(out);
+    let Some(stop) = fill_all(text, tree, out) else {
+        return Ok(());
+    };
+    clear(out);
+    Err(Error::syntax(stop.code, text, stop.place))
+}
+
+/// Where the value of a span is, and whether it is a string with a backslash, for which a string
+/// alone is read: what `get_many_unchecked` of `sonic_lazy` makes of a span.
+pub fn with_status(text: &[u8], span: Span) -> Located
+    requires { IsValue strict text.now span.start span.end }
+    ensures start { result.start ≡ span.start }
+    ensures end { result.end ≡ span.end }
+    ensures status { IsStatus text.now span.start span.end result.status }
+{
+    let Span { start, end } = span;
+    let status = match byte_at(text, start) {
+        b'"' => Origin { text, place: start }.located().status,
+        _ => ParseStatus::None,
+    };
+    Located { start, end, status }
+}

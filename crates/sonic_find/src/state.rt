@@ -1,0 +1,280 @@
+// What a walk through a text has come to.
+ghost use Rattle.std.specs.Prelude.{◌≡◌, ◌≢◌, ◌⊎◌, ◌<◌, ◌≤◌, ◌^◌, ◌+◌, ℕ, List, Some, None, true, false, length, replicate, set, slice_get, IfOk, IfErr, OnOk};
+ghost use Rattle.std.specs.List.{Contains};
+ghost use Rattle.sonic_text.specs.Places.{after_space};
+ghost use Rattle.sonic_text.specs.Strings.{IsString, strict};
+ghost use Rattle.sonic_text.specs.Places.{byte};
+ghost use Rattle.sonic_text.specs.Values.{opening, IsValue, IsKey, ItemsFit};
+ghost use Rattle.sonic_text.specs.Faults.{IsFault, IsKeyFault};
+ghost use Rattle.sonic_parser.specs.Containers.{IsEnd, IsSeparated, IsSeparatorFault};
+ghost use Rattle.sonic_parser.specs.Faults.{IsStopFor};
+ghost use Rattle.sonic_pointer.specs.declared.rule.KeyRule.TheVariants.{First, Refuse};
+ghost use Rattle.sonic_find.specs.declared.marks.Mark.{Mark};
+ghost use Rattle.sonic_find.specs.Internal.Located.{IsStatus, HaveStatuses, span_at, spans_of};
+ghost use Rattle.sonic_find.specs.Internal.Walk.{IsNoEntry, IsFilled};
+
+use crate::located::Located;
+use crate::marks::Mark;
+use crate::steps::Steps;
+use sonic_input::Read;
+use sonic_parser::{Fault, ParseStatus};
+use sonic_pointer::KeyRule;
+use sonic_text::{Kind, Stop, StringEnd};
+use std::alloc::{AllocError, Global};
+use std::marker::Model;
+
+// The steps of a walk, and what its paths have found so far.
+#[derive(Drop)]
+pub(crate) struct Walk<'de> {
+    alloc: Global,
+    steps: Steps<'de>,
+    // The value that each path found.
+    spans: Vec<Option<Located>>,
+    // Whether some path lacks its key.
+    lacking: bool,
+    // Which of several equal keys counts.
+    rule: KeyRule,
+    // What each prefix of the tree had last, unless the first of equal keys counts.
+    marks: Vec<Mark>,
+}
+
+impl<'de> Model for Walk<'de> {
+    ghost use Rattle.sonic_find.specs.Internal.Walk.{Walking};
+
+    ghost Value = { Walking };
+
+    ghost use Rattle.sonic_find.specs.Internal.View.{walking_of, IsWalk};
+
+    ghost view = { walking_of };
+
+    ghost invariant = { IsWalk };
+}
+
+impl<'de> Walk<'de> {
+    // A walk that begins at the root of the reader's text, for this many paths, which have so many
+    // prefixes.
+    pub(crate) fn new(
+        alloc: Global,
+        read: Read<'de>,
+        size: usize,
+        rule: KeyRule,
+        prefixes: usize,
+    ) -> Result<Walk<'de>, AllocError>
+        requires { read.place ≡ 0 }
+        ensures text { IfOk result (λ walk. walk.text ≡ read.entry.text) }
+        ensures place { IfOk result (λ walk. walk.place ≡ after_space read.entry.text 0) }
+        ensures findings { IfOk result (λ walk.
+            walk.findings ≡ record { spans = replicate size None; lacking = false }) }
+        ensures rule { IfOk result (λ walk. walk.rule ≡ rule) }
+        ensures marked { IfOk result (λ walk. rule ≢ First → length walk.marks ≡ prefixes) }
+        ensures unmarked { IfOk result (λ walk. (n : ℕ) (m : Mark)
+            → slice_get walk.marks n ≡ Some m → m.value.start ≡ 0) }
+    {
+        let steps = Steps::checked(alloc, read);
+        let spans = vec![in alloc; None; size]?;
+        let lacking = false;
+        let marks = marks(alloc, rule, prefixes)?;
+        Ok(Walk {
+            alloc,
+            steps,
+            spans,
+            lacking,
+            rule,
+            marks,
+        })
+    }
+
+    // Whether a container of this kind has to be whole before a node leads on in it.
+    pub(crate) fn gathers(&self, kind: Kind) -> bool
+        ensures whole { result ≡ true → (self.now.rule ≢ First) × (kind ≡ Kind.Object) }
+        ensures plain { result ≡ false → (self.now.rule ≡ First) ⊎ (kind ≡ Kind.Array) }
+    {
+        match (self.rule, kind) {
+            (KeyRule::First, _) | (_, Kind::Array) => false,
+            (_, Kind::Object) => true,
+        }
+    }
+
+    // Whether a second member with the key of another is refused.
+    pub(crate) fn refuses(&self) -> bool
+        ensures refuses { result ≡ true → self.now.rule ≡ Refuse }
+        ensures counts { result ≡ false → self.now.rule ≢ Refuse }
+    {
+        match self.rule {
+            KeyRule::Refuse => true,
+            KeyRule::First | KeyRule::Last => false,
+        }
+    }
+
+    // What the prefix of this number had last.
+    pub(crate) fn mark(&self, number: usize) -> Mark
+        requires { number < length self.now.marks }
+        ensures { slice_get self.now.marks number ≡ Some result }
+    {
+        self.marks[number]
+    }
+
+    // Marks what the prefix of this number has.
+    pub(crate) fn set_mark(&mut self, number: usize, mark: Mark)
+        requires { number < length self.old.marks }
+        ensures { self.new ≡ record self.old { marks = set self.old.marks number mark } }
+    {
+        self.marks[number] = mark;
+    }
+
+    // The place that the walk has come to.
+    pub(crate) fn place(&self) -> usize
+        ensures place { result ≡ self.now.place }
+        ensures inside { result ≤ length self.now.text }
+    {
+        self.steps.place()
+    }
+
+    // The whole text.
+    pub(crate) fn text(&self) -> &'de [u8]
+        ensures { result.now ≡ self.now.text }
+    {
+        self.steps.text()
+    }
+
+    // The allocator that its memory comes from.
+    pub(crate) fn alloc(&self) -> Global {
+        self.alloc
+    }
+
+    // Whether some path lacks its key.
+    pub(crate) fn lacks_key(&self) -> bool
+        ensures { result ≡ self.now.findings.lacking }
+    {
+        self.lacking
+    }
+
+    // Skips the value at the cursor.
+    pub(crate) fn skip(&mut self) -> Result<ParseStatus, Fault>
+        ensures value { OnOk result (IsValue strict self.old.text self.old.place self.new.place) }
+        ensures status { IfOk result (λ status.
+            IsStatus self.old.text self.old.place self.new.place status) }
+        ensures moved { OnOk result (self.new ≡ record self.old { place = self.new.place }) }
+        ensures err { IfErr result (IsStopFor (λ s. IsFault strict self.old.text self.old.place s)) }
+    {
+        self.steps.skip()
+    }
+
+    // Enters the container of this kind at the cursor, up to its first item.
+    pub(crate) fn enter(&mut self, kind: Kind) -> Result<(), Fault>
+        ensures ok { OnOk result (ItemsFit strict self.old.text kind self.old.place 0 self.new.place) }
+        ensures moved { OnOk result (self.new ≡ record self.old { place = self.new.place }) }
+        ensures err { IfErr result (IsStopFor (IsNoEntry self.old.text self.old.place kind)) }
+    {
+        self.steps.enter(kind)
+    }
+
+    // Goes past the bracket of the container of this kind at the cursor: whether an item is expected,
+    // at which the cursor then is, or after the closing bracket.
+    pub(crate) fn open(&mut self, kind: Kind) -> bool
+        requires { byte self.old.text self.old.place ≡ opening kind }
+        ensures item { result ≡ true
+            → ItemsFit strict self.old.text kind self.old.place 0 self.new.place }
+        ensures empty { result ≡ false
+            → IsEnd self.old.text kind (self.old.place + 1) self.new.place }
+        ensures moved { self.new ≡ record self.old { place = self.new.place } }
+    {
+        self.steps.open(kind)
+    }
+
+    // Goes on after an item of a container of this kind: whether another one comes.
+    pub(crate) fn next_item(&mut self, kind: Kind) -> Result<bool, Stop>
+        ensures item { IfOk result (λ more. more ≡ true
+            → IsSeparated self.old.text self.old.place self.new.place) }
+        ensures end { IfOk result (λ more. more ≡ false
+            → IsEnd self.old.text kind self.old.place self.new.place) }
+        ensures moved { self.new ≡ record self.old { place = self.new.place } }
+        ensures fits { OnOk result (self.new.place < 2 ^ 64) }
+        ensures err { IfErr result (λ s. IsSeparatorFault self.old.text kind self.old.place s) }
+    {
+        self.steps.next_item(kind)
+    }
+
+    // Passes the key at the cursor, up to the member's value, and gives where the key ends and
+    // whether it has a backslash.
+    pub(crate) fn key(&mut self) -> Result<StringEnd, Stop>
+        ensures ok { IfOk result (λ key. (b : List ℕ)
+            × IsString strict self.old.text self.old.place key.end b
+            × IsKey strict self.old.text self.old.place self.new.place b) }
+        ensures moved { self.new ≡ record self.old { place = self.new.place } }
+        ensures err { IfErr result (λ s. IsKeyFault strict self.old.text self.old.place s) }
+    {
+        self.steps.key()
+    }
+
+    // Keeps the value that was read from `start` up to here for the paths of these numbers.
+    pub(crate) fn keep(&mut self, orders: &[usize], start: usize, status: ParseStatus)
+        requires known { (k : ℕ) → Contains orders.now k → k < length self.old.findings.spans }
+        requires status { IsStatus self.old.text start self.old.place status }
+        ensures filled { IsFilled orders.now self.old.findings.spans self.new.findings.spans
+            (start, self.old.place) }
+        ensures kept { self.new ≡ record self.old {
+          findings =
+              record self.old.findings { spans = self.new.findings.spans };
+        } }
+    {
+        let end = self.steps.place();
+        fill(&mut self.spans, orders, Located { start, end, status });
+    }
+
+    // Keeps a value that was read before for the paths of these numbers.
+    pub(crate) fn keep_value(&mut self, orders: &[usize], value: Located)
+        requires known { (k : ℕ) → Contains orders.now k → k < length self.old.findings.spans }
+        requires status { IsStatus self.old.text value.start value.end value.status }
+        ensures filled { IsFilled orders.now self.old.findings.spans self.new.findings.spans
+            (span_at value) }
+        ensures kept { self.new ≡ record self.old {
+          findings =
+              record self.old.findings { spans = self.new.findings.spans };
+        } }
+    {
+        fill(&mut self.spans, orders, value);
+    }
+
+    // Notes that some path lacks its key.
+    pub(crate) fn note_lack(&mut self)
+        ensures { self.new ≡ record self.old {
+          findings =
+              record self.old.findings { lacking = true };
+        } }
+    {
+        self.lacking = true;
+    }
+
+    // The value that each path found.
+    pub(crate) fn into_spans(self) -> Vec<Option<Located>>
+        ensures spans { spans_of result.items ≡ self.entry.findings.spans }
+        ensures statuses { HaveStatuses self.entry.text result.items }
+    {
+        let Walk { spans, steps, .. } = self;
+        spans
+    }
+}
+
+// A mark for each prefix, where the rule asks for them.
+fn marks(alloc: Global, rule: KeyRule, prefixes: usize) -> Result<Vec<Mark>, AllocError>
+    ensures marked { IfOk result (λ marks. rule ≢ First → length marks.items ≡ prefixes) }
+    ensures unmarked { IfOk result (λ marks. (n : ℕ) (m : Mark)
+        → slice_get marks.items n ≡ Some m → m.value.start ≡ 0) }
+{
+    match rule {
+        KeyRule::First => Ok(Vec::new(alloc)),
+        KeyRule::Last | KeyRule::Refuse => vec![in alloc; Mark::none(); prefixes],
+    }
+}
+
+// Keeps a value for the paths of these numbers.
+#[tactic(auto, using(crate::proofs::WalkLemmas::List::fillings))]
+fn fill(spans: &mut Vec<Option<Located>>, orders: &[usize], value: Located)
+    requires { (k : ℕ) → Contains orders.now k → k < length spans.old.items }
+    ensures { IsFilled orders.now spans.old.items spans.new.items value }
+{
+    for order in orders {
+        spans[*order] = Some(value);
+    }
+}

@@ -1,0 +1,219 @@
+// The steps of a walk through a text.
+ghost use Rattle.std.specs.Prelude.{◌≡◌, ◌≢◌, ◌+◌, ◌<◌, ◌≤◌, ◌^◌, ◌↔◌, ℕ, List, true, false, length, IfOk, IfErr, IsErrOf, IsTrue, OnOk, is_some};
+ghost use Rattle.sonic_text.specs.Places.{byte, after_space};
+ghost use Rattle.sonic_text.specs.Strings.{IsString, IsEscapedString, strict};
+ghost use Rattle.sonic_text.specs.Values.{opening, IsKey, IsValue, ItemsFit};
+ghost use Rattle.sonic_text.specs.Faults.{IsFault, IsKeyFault};
+ghost use Rattle.sonic_parser.specs.Containers.{IsEnd, IsSeparated, IsSeparatorFault};
+ghost use Rattle.sonic_parser.specs.Faults.{IsStopFor};
+ghost use Rattle.sonic_find.specs.Internal.Located.{IsStatus};
+ghost use Rattle.sonic_find.specs.Internal.Steps.{IsAfterItem, IsAtKey, IsSkippable};
+ghost use Rattle.sonic_find.specs.Internal.Walk.{IsNoEntry};
+ghost use Rattle.sonic_find.specs.Paths.{empty_code, wanted_of};
+
+use sonic_error::{ErrorCode, Note, Wanted};
+use sonic_input::Read;
+use sonic_parser::{Fault, ParseStatus, Parser};
+use sonic_text::{Kind, Stop, StringEnd, byte_at, type_of};
+use std::alloc::Global;
+use std::marker::Model;
+
+/// A parser at the place that a walk has come to, by which the crates above go through a text as
+/// paths do.
+///
+/// It looks at what it skips, or takes each value for whole, and skips it without memory. A clause
+/// sees the text, the place, and whether it looks.
+#[derive(Drop)]
+pub struct Steps<'de> {
+    parser: Parser<'de>,
+    // Where the memory comes from for looking at what is skipped.
+    memory: Option<Global>,
+}
+
+impl<'de> Model for Steps<'de> {
+    ghost use Rattle.sonic_find.specs.Internal.Steps.{Stepping};
+
+    ghost Value = { Stepping };
+
+    ghost use Rattle.sonic_find.specs.Internal.StepViews.{stepping_of, IsSteps};
+
+    ghost view = { stepping_of };
+
+    ghost invariant = { IsSteps };
+}
+
+impl<'de> Steps<'de> {
+    /// Steps that look at what they skip, from the reader's place on, after white space.
+    pub fn checked(alloc: Global, read: Read<'de>) -> Steps<'de>
+        ensures { result ≡ record {
+          text = read.entry.text;
+          place = after_space read.entry.text read.entry.place;
+          checks = true;
+        } }
+    {
+        Steps::new(read, Some(alloc))
+    }
+
+    /// Steps that take each value for whole, from the reader's place on, after white space.
+    pub fn unchecked(read: Read<'de>) -> Steps<'de>
+        ensures { result ≡ record {
+          text = read.entry.text;
+          place = after_space read.entry.text read.entry.place;
+          checks = false;
+        } }
+    {
+        Steps::new(read, None)
+    }
+
+    fn new(read: Read<'de>, memory: Option<Global>) -> Steps<'de>
+        ensures { result ≡ record {
+          text = read.entry.text;
+          place = after_space read.entry.text read.entry.place;
+          checks = is_some memory;
+        } }
+    {
+        let mut parser = Parser::new(read);
+        parser.skip_space_peek();
+        Steps { parser, memory }
+    }
+
+    /// The place that the steps have come to: the index of a byte.
+    pub fn place(&self) -> usize
+        ensures place { result ≡ self.now.place }
+        ensures inside { result ≤ length self.now.text }
+    {
+        self.parser.offset()
+    }
+
+    /// The whole text.
+    pub fn text(&self) -> &'de [u8]
+        ensures { result.now ≡ self.now.text }
+    {
+        self.parser.text()
+    }
+
+    /// Skips the value at the cursor.
+    pub fn skip(&mut self) -> Result<ParseStatus, Fault>
+        requires { IsSkippable self.old }
+        ensures value { OnOk result (IsValue strict self.old.text self.old.place self.new.place) }
+        ensures status { IfOk result (λ status.
+            IsStatus self.old.text self.old.place self.new.place status) }
+        ensures moved { self.new ≡ record self.old { place = self.new.place } }
+        ensures err { IfErr result (IsStopFor (λ s. IsFault strict self.old.text self.old.place s)) }
+        ensures memory { IsErrOf result Fault.OutOfMemory → self.old.checks ≡ true }
+    {
+        match self.memory {
+            Some(alloc) => self.parser.skip_value(alloc),
+            None => Ok(self.parser.skip_value_unchecked()),
+        }
+    }
+
+    // Enters the container of this kind at the cursor, up to its first item.
+    pub(crate) fn enter(&mut self, kind: Kind) -> Result<(), Fault>
+        requires { IsSkippable self.old }
+        ensures ok { OnOk result (ItemsFit strict self.old.text kind self.old.place 0 self.new.place) }
+        ensures moved { self.new ≡ record self.old { place = self.new.place } }
+        ensures err { IfErr result (IsStopFor (IsNoEntry self.old.text self.old.place kind)) }
+        ensures memory { IsErrOf result Fault.OutOfMemory → self.old.checks ≡ true }
+    {
+        let start = self.parser.offset();
+        if byte_at(self.parser.text(), start) != kind.opening() {
+            return Err(self.mismatch(kind));
+        }
+        if self.open(kind) {
+            return Ok(());
+        }
+        let bracket = self.parser.offset() - 1;
+        let code = empty_code(kind);
+        Err(Fault::At(Stop {
+            place: bracket,
+            code,
+        }))
+    }
+
+    /// Goes past the bracket of the container of this kind at the cursor: whether an item is expected,
+    /// at which the cursor then is, or after the closing bracket.
+    pub fn open(&mut self, kind: Kind) -> bool
+        requires { byte self.old.text self.old.place ≡ opening kind }
+        ensures item { result ≡ true
+            → ItemsFit strict self.old.text kind self.old.place 0 self.new.place }
+        ensures empty { result ≡ false
+            → IsEnd self.old.text kind (self.old.place + 1) self.new.place }
+        ensures moved { self.new ≡ record self.old { place = self.new.place } }
+    {
+        self.parser.enter(kind)
+    }
+
+    // Why the value at the cursor is no container of this kind.
+    fn mismatch(&mut self, kind: Kind) -> Fault
+        requires skippable { IsSkippable self.old }
+        requires other { byte self.old.text self.old.place ≢ opening kind }
+        ensures stop { IsStopFor (IsNoEntry self.old.text self.old.place kind) result }
+        ensures moved { self.new ≡ record self.old { place = self.new.place } }
+        ensures memory { result ≡ Fault.OutOfMemory → self.old.checks ≡ true }
+    {
+        let found = type_of(byte_at(self.parser.text(), self.parser.offset()));
+        if let Err(fault) = self.skip() {
+            return fault;
+        }
+        let place = self.parser.offset() - 1;
+        let wanted = wanted_of(kind);
+        let code = ErrorCode::Message(Note::Mismatch { found, wanted });
+        Fault::At(Stop { place, code })
+    }
+
+    /// Goes on after an item of a container of this kind: whether another one comes.
+    pub fn next_item(&mut self, kind: Kind) -> Result<bool, Stop>
+        requires { IsAfterItem kind self.old }
+        ensures item { IfOk result (λ more. more ≡ true
+            → IsSeparated self.old.text self.old.place self.new.place) }
+        ensures end { IfOk result (λ more. more ≡ false
+            → IsEnd self.old.text kind self.old.place self.new.place) }
+        ensures moved { self.new ≡ record self.old { place = self.new.place } }
+        ensures fits { OnOk result (self.new.place < 2 ^ 64) }
+        ensures err { IfErr result (λ s. IsSeparatorFault self.old.text kind self.old.place s) }
+    {
+        match self.memory {
+            Some(_) => self.parser.next_item(kind),
+            None => Ok(self.parser.next_item_unchecked(kind)),
+        }
+    }
+
+    /// Passes the key at the cursor, up to the member's value, and gives where the key ends and
+    /// whether it has a backslash.
+    pub fn key(&mut self) -> Result<StringEnd, Stop>
+        requires { IsAtKey self.old }
+        ensures ok { IfOk result (λ key. (b : List ℕ)
+            × IsString strict self.old.text self.old.place key.end b
+            × IsKey strict self.old.text self.old.place self.new.place b) }
+        ensures escaped { IfOk result (λ key.
+            IsTrue key.escaped ↔ IsEscapedString self.old.text self.old.place key.end) }
+        ensures moved { self.new ≡ record self.old { place = self.new.place } }
+        ensures err { IfErr result (λ s. IsKeyFault strict self.old.text self.old.place s) }
+    {
+        match self.memory {
+            Some(_) => self.parser.key(),
+            None => Ok(self.parser.key_unchecked()),
+        }
+    }
+}
+
+// The code for an empty container.
+pub(crate) fn empty_code(kind: Kind) -> ErrorCode
+    ensures { result ≡ empty_code kind }
+{
+    match kind {
+        Kind::Array => ErrorCode::GetInEmptyArray,
+        Kind::Object => ErrorCode::GetInEmptyObject,
+    }
+}
+
+// What is wanted where a container is.
+pub(crate) fn wanted_of(kind: Kind) -> Wanted
+    ensures { result ≡ wanted_of kind }
+{
+    match kind {
+        Kind::Array => Wanted::Array,
+        Kind::Object => Wanted::Object,
+    }
+}

@@ -1,0 +1,237 @@
+// One walk through a text, which finds what all paths of a tree lead to.
+ghost use Rattle.std.specs.Prelude.{◌≡◌, ◌≢◌, ◌⊎◌, ◌<◌, ◌≤◌, ◌-◌, ℕ, List, Some, true, false, slice_get, IfOk, IfErr, OnOk};
+ghost use Rattle.sonic_error.specs.declared.code.ErrorCode.TheVariants.{GetIndexOutOfArray};
+ghost use Rattle.sonic_text.specs.Strings.{strict};
+ghost use Rattle.sonic_text.specs.Paths.{Node};
+ghost use Rattle.sonic_text.specs.Values.{IsValue};
+ghost use Rattle.sonic_text.specs.Faults.{IsKeyFault};
+ghost use Rattle.sonic_pointer.specs.Paths.{HasPrefix, IsChildren};
+ghost use Rattle.sonic_parser.specs.Faults.{IsStopFor};
+ghost use Rattle.sonic_find.specs.Internal.Located.{IsStatus};
+ghost use Rattle.sonic_find.specs.Paths.{kind_of};
+ghost use Rattle.sonic_find.specs.Internal.Walk.{IsStop, ComesTo, AreFindings, IsLater, AllSettled, BelowSettled, IsContainer, IsFollowed, IsPassed, IsWanted, IsItem, SomeOpen};
+ghost use Rattle.sonic_find.specs.Internal.Marks.{KeepsMarks};
+ghost use Rattle.sonic_find.specs.Internal.View.{point_at, container_at, marking_at, progress_at};
+
+use crate::gathered::follow_whole;
+use crate::state::Walk;
+use crate::visited::Visited;
+use sonic_error::ErrorCode;
+use sonic_parser::{Fault, ParseStatus};
+use sonic_pointer::{Branch, TreeView};
+use sonic_text::{Kind, Stop};
+
+// A container in which the children of a vertex of the tree are looked for.
+#[derive(Drop)]
+pub(crate) struct Level<'l, 't> {
+    pub(crate) view: &'l TreeView<'t>,
+    // The place of its bracket.
+    pub(crate) start: usize,
+    pub(crate) kind: Kind,
+    // Whether it has to be read to its end.
+    pub(crate) needs: bool,
+}
+
+// Follows the paths that begin with the prefix of the view in the value at the cursor.
+//
+// It is read to its end where `finish` asks for it, where some path lacks its key, or where a path
+// ends here.
+#[cycle(walk)]
+pub(crate) fn follow(walk: &mut Walk<'_>, view: &TreeView<'_>, finish: bool) -> Result<(), Fault>
+    requires comes { ComesTo (point_at walk.old view.now) }
+    requires some { HasPrefix view.now.paths view.now.prefix }
+    requires are { AreFindings walk.old.rule walk.old.text view.now.paths walk.old.findings }
+    requires marks { KeepsMarks (marking_at walk.old view.now) walk.old.place }
+    ensures later { OnOk result (IsLater walk.old.rule walk.old.text view.now.paths walk.old.findings
+        walk.new.findings) }
+    ensures settled { OnOk result (AllSettled (point_at walk.old view.now) walk.new.findings) }
+    ensures whole { OnOk result ((finish ≡ true) ⊎ (walk.new.findings.lacking ≡ true)
+        → IsValue strict walk.old.text walk.old.place walk.new.place) }
+    ensures marks { OnOk result (KeepsMarks (marking_at walk.new view.now) walk.new.place) }
+    ensures text { OnOk result (walk.new.text ≡ walk.old.text) }
+    ensures rule { OnOk result (walk.new.rule ≡ walk.old.rule) }
+    ensures err { IfErr result (IsStopFor (IsStop (point_at walk.old view.now) finish)) }
+{
+    let start = walk.place();
+    let orders = view.orders();
+    if view.count() == 0 {
+        let status = walk.skip()?;
+        walk.keep(orders, start, status);
+        return Ok(());
+    }
+    let level = Level {
+        view,
+        start,
+        kind: kind_of_children(view),
+        needs: is_asked(finish, orders),
+    };
+    if walk.gathers(level.kind) {
+        return follow_whole(walk, &level);
+    }
+    if !items(walk, &level)? {
+        return Ok(());
+    }
+    walk.keep(orders, start, ParseStatus::None);
+    Ok(())
+}
+
+// Whether a value has to be read to its end, as it is asked for or as a path ends at it.
+fn is_asked(finish: bool, orders: &[usize]) -> bool
+    ensures asked { result ≡ true → (finish ≡ true) ⊎ (orders.now ≢ List.[]) }
+    ensures unasked { result ≡ false → (finish ≡ false) × (orders.now ≡ List.[]) }
+{
+    finish || !orders.is_empty()
+}
+
+// The kind of container that the children of the view ask for.
+pub(crate) fn kind_of_children(view: &TreeView<'_>) -> Kind
+    requires { IsChildren view.now.paths view.now.prefix view.now.children }
+    ensures { (c : ℕ) (node : Node) → slice_get view.now.children c ≡ Some node → kind_of node ≡ result }
+{
+    match view.branch() {
+        Branch::Keys => Kind::Object,
+        Branch::Leaf => Kind::Array,
+        Branch::Indexes => Kind::Array,
+    }
+}
+
+// Follows the children of a level in the items of the container at the cursor: whether it was read
+// to its end.
+#[cycle(walk)]
+fn items(walk: &mut Walk<'_>, level: &Level<'_, '_>) -> Result<bool, Fault>
+    requires start { level.now.start ≡ walk.old.place }
+    requires container { IsContainer (container_at walk.old.rule walk.old.text level.now) }
+    requires some { level.now.view.now.children ≢ List.[] }
+    requires are { AreFindings walk.old.rule walk.old.text level.now.view.now.paths walk.old.findings }
+    requires marks { KeepsMarks (marking_at walk.old level.now.view.now) walk.old.place }
+    ensures later { OnOk result (IsLater walk.old.rule walk.old.text level.now.view.now.paths walk.old.findings
+        walk.new.findings) }
+    ensures settled { OnOk result (BelowSettled (container_at walk.old.rule walk.old.text level.now).point
+        walk.new.findings) }
+    ensures whole { IfOk result (λ whole. whole ≡ true
+        → IsValue strict walk.old.text walk.old.place walk.new.place) }
+    ensures status { IfOk result (λ whole. whole ≡ true
+        → IsStatus walk.old.text walk.old.place walk.new.place ParseStatus.None) }
+    ensures unneeded { IfOk result (λ whole. whole ≡ false
+        → (level.now.needs ≡ false) × (walk.new.findings.lacking ≡ false)) }
+    ensures marks { OnOk result (KeepsMarks (marking_at walk.new level.now.view.now) walk.new.place) }
+    ensures text { OnOk result (walk.new.text ≡ walk.old.text) }
+    ensures rule { OnOk result (walk.new.rule ≡ walk.old.rule) }
+    ensures err { IfErr result (IsStopFor (IsStop (container_at walk.old.rule walk.old.text level.now).point
+        level.now.needs)) }
+{
+    walk.enter(level.kind)?;
+    let mut visited = Visited::new(walk.alloc(), level.view.count())?;
+    let mut passed = 0;
+    'items: loop {
+        item(walk, level, &mut visited, passed)?;
+        if !is_wanted(walk, level, &visited) {
+            return Ok(false);
+        }
+        if !walk.next_item(level.kind)? {
+            break 'items;
+        }
+        passed += 1;
+    }
+    close(walk, &visited, level.kind)?;
+    Ok(true)
+}
+
+// Passes the item at the cursor, and follows the child that it is.
+#[cycle(walk)]
+fn item(
+    walk: &mut Walk<'_>,
+    level: &Level<'_, '_>,
+    visited: &mut Visited,
+    passed: usize,
+) -> Result<(), Fault>
+    requires before { IsFollowed (container_at walk.old.rule walk.old.text level.now)
+        (progress_at passed walk.old.place visited.old walk.old.findings) }
+    requires wanted { IsWanted (container_at walk.old.rule walk.old.text level.now)
+        (progress_at passed walk.old.place visited.old walk.old.findings) }
+    requires marks { KeepsMarks (marking_at walk.old level.now.view.now) walk.old.place }
+    ensures passed { OnOk result (IsPassed (container_at walk.old.rule walk.old.text level.now)
+        (progress_at passed walk.old.place visited.new walk.new.findings) walk.new.place) }
+    ensures later { OnOk result (IsLater walk.old.rule walk.old.text level.now.view.now.paths walk.old.findings
+        walk.new.findings) }
+    ensures marks { OnOk result (KeepsMarks (marking_at walk.new level.now.view.now) walk.new.place) }
+    ensures text { OnOk result (walk.new.text ≡ walk.old.text) }
+    ensures rule { OnOk result (walk.new.rule ≡ walk.old.rule) }
+    ensures err { IfErr result (IsStopFor (IsStop (container_at walk.old.rule walk.old.text level.now).point
+        level.now.needs)) }
+{
+    let child = head(walk, level, passed)?;
+    let Some(unvisited) = visited.unvisited(child) else {
+        walk.skip()?;
+        return Ok(());
+    };
+    visited.visit(unvisited);
+    let more = is_wanted(walk, level, visited);
+    let (_, below) = level.view.child(unvisited);
+    follow(walk, &below, more)?;
+    Ok(())
+}
+
+// Whether more is needed of a level: its end, or a child.
+fn is_wanted(walk: &Walk<'_>, level: &Level<'_, '_>, visited: &Visited) -> bool
+    ensures more { result ≡ true
+        → (level.now.needs ≡ true) ⊎ (walk.now.findings.lacking ≡ true) ⊎ SomeOpen visited.now }
+    ensures done { result ≡ false → (level.now.needs ≡ false)
+        × (walk.now.findings.lacking ≡ false) × (SomeOpen visited.now → ⊥) }
+{
+    level.needs || walk.lacks_key() || !visited.is_done()
+}
+
+// Passes what comes before the value of the item at the cursor: the number of the child that it is.
+pub(crate) fn head(
+    walk: &mut Walk<'_>,
+    level: &Level<'_, '_>,
+    passed: usize,
+) -> Result<Option<usize>, Stop>
+    ensures item { IfOk result (λ child. IsItem (container_at walk.old.rule walk.old.text level.now) passed
+        walk.old.place walk.new.place child) }
+    ensures moved { OnOk result (walk.new ≡ record walk.old { place = walk.new.place }) }
+    ensures later { OnOk result (walk.old.place ≤ walk.new.place) }
+    ensures err { IfErr result (λ s. (level.now.kind ≡ Kind.Object)
+        × IsKeyFault strict walk.old.text walk.old.place s) }
+{
+    match level.kind {
+        Kind::Object => {
+            let start = walk.place();
+            let end = walk.key()?.end;
+            Ok(level.view.of_key(walk.text(), start, end))
+        }
+        Kind::Array => Ok(level.view.of_index(passed)),
+    }
+}
+
+// Notes what the children that were not visited lead to, after the closing bracket.
+fn close(walk: &mut Walk<'_>, visited: &Visited, kind: Kind) -> Result<(), Stop>
+    requires { 0 < walk.old.place }
+    ensures kept { walk.new ≡ record walk.old {
+      findings =
+          record walk.old.findings { lacking = walk.new.findings.lacking };
+    } }
+    ensures unvisited { OnOk result (SomeOpen visited.now
+        → (kind ≡ Kind.Object) × (walk.new.findings.lacking ≡ true)) }
+    ensures still { walk.old.findings.lacking ≡ true → walk.new.findings.lacking ≡ true }
+    ensures lack { OnOk result (walk.new.findings.lacking ≡ true
+        → (walk.old.findings.lacking ≡ true) ⊎ SomeOpen visited.now) }
+    ensures err { IfErr result (λ s. SomeOpen visited.now × (kind ≡ Kind.Array)
+        × (s ≡ record { place = walk.old.place - 1; code = GetIndexOutOfArray })) }
+{
+    if visited.is_done() {
+        return Ok(());
+    }
+    match kind {
+        Kind::Object => {
+            walk.note_lack();
+            Ok(())
+        }
+        Kind::Array => {
+            let place = walk.place() - 1;
+            let code = ErrorCode::GetIndexOutOfArray;
+            Err(Stop { place, code })
+        }
+    }
+}

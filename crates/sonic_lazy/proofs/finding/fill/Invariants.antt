@@ -1,8 +1,0 @@
-use Rattle.std.proofs.Common.{◌≡◌, map, option_map, take}
-use Rattle.sonic_lazy.specs.Internal.Located.{slot_at}
-use Rattle.sonic_lazy.proofs.finding.fill.Given as goal
-
-abbrev pub invariant-loop-i : goal.invariant-loop-i
-invariant-loop-i l = record {
-  front : take l.i l.out ≡ map (option_map slot_at) (take l.i l.found);
-}

@@ -1,6 +1,0 @@
-use Rattle.sonic_lazy.proofs.law.document_is_valid_or_has_one_reason.Goals as goal
-use Rattle.sonic_lazy.proofs.DocumentLemmas.{document_one}
-
--- a text is decided, and by one reason
-pub returns : goal.returns
-returns c = document_one

@@ -1,6 +1,0 @@
-use Rattle.sonic_lazy.proofs.PathLemmas.Compare.{under_first, from_first}
-use Rattle.sonic_lazy.proofs.law.first_is_the_plain_rule.Goals as goal
-
--- clause by clause
-pub returns : goal.returns
-returns c = λ t i path o. (from_first path, under_first)

@@ -1,6 +1,0 @@
-use Rattle.sonic_lazy.proofs.AnswerLemmas.Agree.{answers_agree}
-use Rattle.sonic_lazy.proofs.law.get_many_agrees_with_get.Goals as goal
-
--- the outcomes say so of both
-pub returns : goal.returns
-returns c = answers_agree

@@ -1,6 +1,0 @@
-use Rattle.sonic_lazy.proofs.GetLemmas.{get_answer_one}
-use Rattle.sonic_lazy.proofs.law.path_has_one_answer.Goals as goal
-
--- an outcome comes to some answer, and to one
-pub returns : goal.returns
-returns c = get_answer_one

@@ -1,9 +1,0 @@
-use Rattle.sonic_lazy.proofs.PathLemmas.Compare.{refuse_finds, refuse_lacks}
-use Rattle.sonic_lazy.proofs.law.refuse_agrees_with_each_rule.Goals as goal
-
--- the only item is the first, and the last
-pub returns : goal.returns
-returns c = record {
-  finds = λ r t i a b path. refuse_finds r path;
-  lacks = λ r t i q path. refuse_lacks r path;
-}

@@ -1,5 +1,0 @@
-use Rattle.sonic_lazy.proofs.state.Walk.key.Goals as goal
-
--- the text is the same
-pub invariant_of-self : goal.invariant_of-self
-invariant_of-self c = rw c.key.ensures.moved (record { checks = c.self.invariant.checks; statuses = c.self.invariant.statuses })

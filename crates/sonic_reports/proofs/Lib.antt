@@ -1,0 +1,11 @@
+mod CommandLemmas
+mod EditLemmas
+mod FastLemmas
+mod FillLemmas
+mod GeneratedLemmas
+mod GetLemmas
+mod LineLemmas
+mod ListLemmas
+mod ReplyLemmas
+mod ReportLemmas
+mod SessionLemmas

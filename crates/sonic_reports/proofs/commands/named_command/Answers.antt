@@ -1,0 +1,18 @@
+use Rattle.std.proofs.Common.{ap, ◌∷◌, []}
+use Rattle.sonic_reports.specs.Commands.Asks.{get_word, list_word, edit_word, fill_word, fast_word}
+use Rattle.sonic_reports.proofs.commands.named_command.Goals as goal
+
+pub returns-in-get-clause-asked : goal.returns-in-get-clause-asked
+returns-in-get-clause-asked c = get_word (ap (λ w. w ∷ []) c.in-get.is)
+
+pub returns-in-list-clause-asked : goal.returns-in-list-clause-asked
+returns-in-list-clause-asked c = list_word (ap (λ w. w ∷ []) c.in-list.is)
+
+pub returns-in-edit-clause-asked : goal.returns-in-edit-clause-asked
+returns-in-edit-clause-asked c = edit_word (ap (λ w. w ∷ []) c.in-edit.is)
+
+pub returns-in-fill-clause-asked : goal.returns-in-fill-clause-asked
+returns-in-fill-clause-asked c = fill_word (ap (λ w. w ∷ []) c.in-fill.is)
+
+pub returns-in-fast-clause-asked : goal.returns-in-fast-clause-asked
+returns-in-fast-clause-asked c = fast_word (ap (λ w. w ∷ []) c.in-fast.is)

@@ -1,0 +1,5 @@
+-- What serves private clauses and loop invariants alone.
+pub mod Counted
+pub mod Listed
+pub mod Replies
+pub mod Requests

@@ -1,0 +1,33 @@
+-- What a run writes, and the status that goes with it.
+use Rattle.std.specs.Prelude.{ℕ, ◌<◌, ◌≤◌, List, length, codes}
+use Rattle.sonic_reports.specs.declared.commands.Command.{Command}
+use Rattle.sonic_reports.specs.declared.commands.Command.TheVariants as command
+use Rattle.sonic_io.specs.declared.reading.TheConstants.{LIMIT}
+use Rattle.sonic_reports.specs.declared.status.Status.{Status}
+use Rattle.sonic_reports.specs.declared.status.Status.TheVariants.{BadUsage, TooLarge}
+use Rattle.sonic_reports.specs.Commands.{Asks, IsListed, Reads, IsReading}
+use Rattle.sonic_reports.specs.Commands.Edits.{IsEditReport}
+use Rattle.sonic_reports.specs.Commands.Fast.{IsFastReport}
+use Rattle.sonic_reports.specs.Commands.Fills.{IsFillReport}
+use Rattle.sonic_reports.specs.Commands.Generated.{IsGenReport}
+use Rattle.sonic_reports.specs.Commands.Get.{IsGetReport}
+use Rattle.sonic_reports.specs.Commands.Items.{IsListReport}
+
+-- what each command writes of an input
+abbrev pub Writes : Command → List ℕ → List ℕ → Status → Type 0
+Writes (command.Get rule) input text status = IsGetReport rule input text status
+Writes command.List input text status = IsListReport input text status
+Writes command.Edit input text status = IsEditReport input text status
+Writes command.Fill input text status = IsFillReport input text status
+Writes command.Fast input text status = IsFastReport input text status
+Writes (command.Gen n) input text status = IsGenReport n text status
+
+-- what a run with these words writes of an input
+pub data IsReport (words : List (List ℕ)) (input : List ℕ) : List ℕ → Status → Type 0 where
+  -- words that ask for no command are answered so, whatever the input is
+  usage : ¬ IsListed words → IsReport words input (codes "! usage\n") BadUsage
+  -- an input of more than 256 MiB is answered by its size alone, where it is read
+  large : IsReading words → LIMIT < length input → IsReport words input (codes "! large\n") TooLarge
+  -- each command writes its own report of the others
+  written : {asked : Command} {text : List ℕ} {status : Status} → Asks words asked → (Reads asked → length input ≤ LIMIT) → Writes asked input text status
+      → IsReport words input text status

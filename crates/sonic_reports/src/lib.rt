@@ -1,0 +1,23 @@
+//! The commands over a JSON text, and the reports that they write.
+#![tactic(auto)]
+
+// The commands, and the words that ask for them.
+mod commands;
+// The line of an error.
+mod error_line;
+// The law of the reports.
+mod law;
+// A report that is ready, and its delivery.
+mod reply;
+// The top call.
+mod runs;
+// The exit statuses.
+mod status;
+// Runs that no fault stops.
+mod sure;
+
+pub use commands::{Command, MOST};
+pub use law::input_has_one_report;
+pub use runs::run;
+pub use status::Status;
+pub use sure::run_surely;

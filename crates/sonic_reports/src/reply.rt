@@ -1,0 +1,214 @@
+//! A report that is ready to be written.
+ghost use Rattle.std.specs.Prelude.{◌≡◌, ◌++◌, IfOk, OnOk, OnErr};
+ghost use Rattle.std.specs.Cow.{cow_str_bytes};
+ghost use Rattle.std.specs.List.{flat_map};
+ghost use Rattle.sonic_lazy.specs.LazyValues.{raw_bytes};
+ghost use Rattle.sonic_io.specs.Buffers.{held, TookBut};
+ghost use Rattle.sonic_reports.specs.Internal.Replies.{text_of, text_of_lines, line_of_value, line_of_member};
+ghost use Rattle.sonic_reports.specs.Lines.{counted, line_of_text};
+ghost use Rattle.sonic_io.specs.Outside.{Rose, Took, TookPrefix};
+
+use crate::status::Status;
+use sonic_io::{Buffer, Failed, Sink};
+use sonic_lazy::LazyValue;
+use std::alloc::{AllocError, Global};
+use std::borrow::CowStr;
+
+// How many bytes a report of many pieces is written by: 64 KiB.
+const ROOM: usize = 65_536;
+
+// The lines of a report.
+#[derive(Drop)]
+pub(crate) enum Lines<'i> {
+    // Of values, and a dash where there is none.
+    Values(Vec<Option<LazyValue<'i>>>),
+    // Of members, each with its key.
+    Members(Vec<(CowStr<'i>, LazyValue<'i>)>),
+}
+
+// A report that is ready to be written, with the status that goes with it: lines, and a last piece
+// after them. Short pieces are put together in the room.
+#[derive(Drop)]
+pub(crate) struct Reply<'i> {
+    pub(crate) status: Status,
+    pub(crate) lines: Lines<'i>,
+    pub(crate) last: CowStr<'i>,
+    pub(crate) room: Vec<u8>,
+}
+
+impl<'i> Reply<'i> {
+    // A report of one piece. It takes no memory.
+    pub(crate) fn one(alloc: Global, status: Status, last: CowStr<'i>) -> Reply<'i>
+        ensures text { text_of result ≡ cow_str_bytes last.entry }
+        ensures status { result.status ≡ status }
+    {
+        let lines = Lines::Values(Vec::new(alloc));
+        let room = Vec::new(alloc);
+        Reply {
+            status,
+            lines,
+            last,
+            room,
+        }
+    }
+
+    // A report of these lines, and a last piece. The only memory that it takes is its room.
+    pub(crate) fn of_lines(
+        alloc: Global,
+        status: Status,
+        lines: Lines<'i>,
+        last: CowStr<'i>,
+    ) -> Result<Reply<'i>, AllocError>
+        ensures text { IfOk result (λ reply.
+            text_of reply ≡ text_of_lines lines.entry ++ cow_str_bytes last.entry) }
+        ensures status { IfOk result (λ reply. reply.status ≡ status) }
+    {
+        let room = vec![in alloc; 0u8; ROOM]?;
+        Ok(Reply {
+            status,
+            lines,
+            last,
+            room,
+        })
+    }
+}
+
+// Writes a report, and finishes the sink.
+//
+// The first fault ends the delivery, and what the sink took before it stays written. Where only the
+// finish failed, that is the whole report.
+pub(crate) fn deliver<K: Sink>(sink: &mut K, reply: Reply<'_>) -> Result<(), Failed>
+    ensures all { OnOk result (Took (K.written sink.old) (K.written sink.new) (text_of reply.entry)) }
+    ensures prefix { OnErr result (TookPrefix (K.written sink.old) (K.written sink.new) (text_of reply.entry)) }
+    ensures calm { OnOk result (K.faults sink.new ≡ K.faults sink.old) }
+    ensures cause { OnErr result (Rose (K.faults sink.old) (K.faults sink.new)) }
+{
+    let mut buffer = Buffer::new(reply.room);
+    write_lines(sink, &mut buffer, &reply.lines)?;
+    buffer.write(sink, reply.last.as_bytes())?;
+    buffer.flush(sink)?;
+    sink.finish()
+}
+
+// Writes lines, through a buffer.
+fn write_lines<K: Sink>(sink: &mut K, buffer: &mut Buffer, lines: &Lines<'_>) -> Result<(), Failed>
+    ensures all { OnOk result (TookBut (K.written sink.old) (K.written sink.new)
+        (held buffer.new) (held buffer.old ++ text_of_lines lines.now)) }
+    ensures prefix { OnErr result (TookPrefix (K.written sink.old) (K.written sink.new)
+        (held buffer.old ++ text_of_lines lines.now)) }
+    ensures calm { OnOk result (K.faults sink.new ≡ K.faults sink.old) }
+    ensures cause { OnErr result (Rose (K.faults sink.old) (K.faults sink.new)) }
+{
+    match lines {
+        Lines::Values(values) => write_values(sink, buffer, values),
+        Lines::Members(members) => write_members(sink, buffer, members),
+    }
+}
+
+// Writes the lines of the values, through a buffer.
+fn write_values<K: Sink>(
+    sink: &mut K,
+    buffer: &mut Buffer,
+    values: &[Option<LazyValue<'_>>],
+) -> Result<(), Failed>
+    ensures all { OnOk result (TookBut (K.written sink.old) (K.written sink.new)
+        (held buffer.new) (held buffer.old ++ flat_map line_of_value values.now)) }
+    ensures prefix { OnErr result (TookPrefix (K.written sink.old) (K.written sink.new)
+        (held buffer.old ++ flat_map line_of_value values.now)) }
+    ensures calm { OnOk result (K.faults sink.new ≡ K.faults sink.old) }
+    ensures cause { OnErr result (Rose (K.faults sink.old) (K.faults sink.new)) }
+{
+    for value in values {
+        write_entry(sink, buffer, value)?;
+    }
+    Ok(())
+}
+
+// Writes the line of a value, or of none, through a buffer.
+fn write_entry<K: Sink>(
+    sink: &mut K,
+    buffer: &mut Buffer,
+    value: &Option<LazyValue<'_>>,
+) -> Result<(), Failed>
+    ensures all { OnOk result (TookBut (K.written sink.old) (K.written sink.new)
+        (held buffer.new) (held buffer.old ++ line_of_value value.now)) }
+    ensures prefix { OnErr result (TookPrefix (K.written sink.old) (K.written sink.new)
+        (held buffer.old ++ line_of_value value.now)) }
+    ensures calm { OnOk result (K.faults sink.new ≡ K.faults sink.old) }
+    ensures cause { OnErr result (Rose (K.faults sink.old) (K.faults sink.new)) }
+{
+    match value {
+        Some(value) => write_value(sink, buffer, value),
+        None => buffer.write(sink, b"-\n"),
+    }
+}
+
+// Writes the lines of the members, through a buffer.
+fn write_members<K: Sink>(
+    sink: &mut K,
+    buffer: &mut Buffer,
+    members: &[(CowStr<'_>, LazyValue<'_>)],
+) -> Result<(), Failed>
+    ensures all { OnOk result (TookBut (K.written sink.old) (K.written sink.new)
+        (held buffer.new) (held buffer.old ++ flat_map line_of_member members.now)) }
+    ensures prefix { OnErr result (TookPrefix (K.written sink.old) (K.written sink.new)
+        (held buffer.old ++ flat_map line_of_member members.now)) }
+    ensures calm { OnOk result (K.faults sink.new ≡ K.faults sink.old) }
+    ensures cause { OnErr result (Rose (K.faults sink.old) (K.faults sink.new)) }
+{
+    for member in members {
+        write_member(sink, buffer, member)?;
+    }
+    Ok(())
+}
+
+// Writes the line of a member, through a buffer.
+fn write_member<K: Sink>(
+    sink: &mut K,
+    buffer: &mut Buffer,
+    member: &(CowStr<'_>, LazyValue<'_>),
+) -> Result<(), Failed>
+    ensures all { OnOk result (TookBut (K.written sink.old) (K.written sink.new)
+        (held buffer.new) (held buffer.old ++ line_of_member member.now)) }
+    ensures prefix { OnErr result (TookPrefix (K.written sink.old) (K.written sink.new)
+        (held buffer.old ++ line_of_member member.now)) }
+    ensures calm { OnOk result (K.faults sink.new ≡ K.faults sink.old) }
+    ensures cause { OnErr result (Rose (K.faults sink.old) (K.faults sink.new)) }
+{
+    let (key, value) = member;
+    write_counted(sink, buffer, key.as_bytes())?;
+    buffer.write(sink, b" ")?;
+    write_value(sink, buffer, value)
+}
+
+// Writes the line of a value, through a buffer.
+fn write_value<K: Sink>(
+    sink: &mut K,
+    buffer: &mut Buffer,
+    value: &LazyValue<'_>,
+) -> Result<(), Failed>
+    ensures all { OnOk result (TookBut (K.written sink.old) (K.written sink.new)
+        (held buffer.new) (held buffer.old ++ line_of_text (raw_bytes value.now))) }
+    ensures prefix { OnErr result (TookPrefix (K.written sink.old) (K.written sink.new)
+        (held buffer.old ++ line_of_text (raw_bytes value.now))) }
+    ensures calm { OnOk result (K.faults sink.new ≡ K.faults sink.old) }
+    ensures cause { OnErr result (Rose (K.faults sink.old) (K.faults sink.new)) }
+{
+    write_counted(sink, buffer, value.as_raw_str().as_bytes())?;
+    buffer.write(sink, b"\n")
+}
+
+// Writes a text after its length, through a buffer.
+fn write_counted<K: Sink>(sink: &mut K, buffer: &mut Buffer, text: &[u8]) -> Result<(), Failed>
+    ensures all { OnOk result (TookBut (K.written sink.old) (K.written sink.new)
+        (held buffer.new) (held buffer.old ++ counted text.now)) }
+    ensures prefix { OnErr result (TookPrefix (K.written sink.old) (K.written sink.new)
+        (held buffer.old ++ counted text.now)) }
+    ensures calm { OnOk result (K.faults sink.new ≡ K.faults sink.old) }
+    ensures cause { OnErr result (Rose (K.faults sink.old) (K.faults sink.new)) }
+{
+    let mut digits = itoa::Buffer::new();
+    buffer.write(sink, digits.format(text.len()).as_bytes())?;
+    buffer.write(sink, b" ")?;
+    buffer.write(sink, text)
+}

@@ -1,0 +1,2 @@
+-- What serves the invariant of `RecordStream` alone.
+pub mod Counts

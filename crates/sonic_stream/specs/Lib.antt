@@ -1,0 +1,3 @@
+pub mod Internal
+pub mod Streams
+pub mod StreamViews

@@ -1,5 +1,0 @@
-use Rattle.sonic_tool.proofs.ReplyLemmas.{if_ok, report_of_answer}
-use Rattle.sonic_tool.proofs.commands.get.report_paths.Goals as goal
-
-pub returns : goal.returns
-returns c = if_ok c.report_answer.result (λ reply reports. report_of_answer reply c.get_many_with.result c.get_many_with.ensures.ok c.get_many_with.ensures.err reports) c.report_answer.ensures

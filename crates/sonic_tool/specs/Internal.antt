@@ -1,6 +1,0 @@
--- What serves private clauses and loop invariants alone.
-pub mod Buffers
-pub mod Counted
-pub mod Listed
-pub mod Replies
-pub mod Requests

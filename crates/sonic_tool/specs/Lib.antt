@@ -1,9 +1,0 @@
-pub mod Commands
-pub mod ErrorLines
-pub mod Internal
-pub mod Laws
-pub mod Lines
-pub mod Memory
-pub mod Outside
-pub mod Reports
-pub mod Sessions
