@@ -12,7 +12,9 @@
    - No call is made from a signal handler.
 
    Nothing is kept between calls, nothing is to be freed, and no pointer is kept. Any number of threads
-   may call at once. The calls take memory by malloc, and give it back before they return. */
+   may call at once. The calls take memory by malloc, and give it back before they return. A stack of
+   256 KiB was measured to be enough for each, with paths of 255 nodes; how deep the text is plays no
+   part in it. */
 #ifndef SONIC_H
 #define SONIC_H
 
@@ -23,7 +25,8 @@
 extern "C" {
 #endif
 
-/* The bytes of a value, from json[start] to before json[end]; twice 0 for a path that lacks its key. */
+/* The bytes of a value, from json[start] to before json[end]. No value is empty, so that twice 0 is none:
+   sonic_get_many says so of a path whose key an object with members lacks. */
 typedef struct sonic_span {
   size_t start;
   size_t end;
@@ -57,8 +60,9 @@ enum {
 /* Whether the text is one value in UTF-8 with nothing but white space round it. */
 uint32_t sonic_validate(const uint8_t *json, size_t json_length, sonic_error *error);
 
-/* Where one path leads. The path is a JSON array of keys and indexes, as ["a",1], at most 255. A path
-   that leads nowhere is SONIC_DOCUMENT_ERROR. What follows the value in the text may be anything. */
+/* Where one path leads. The path is a JSON array of keys and indexes, as ["a",1], at most 255, as in all
+   four calls. A path that leads nowhere is SONIC_DOCUMENT_ERROR, also where an object lacks its key. What
+   follows the value in the text may be anything. */
 uint32_t sonic_get(const uint8_t *json, size_t json_length, const uint8_t *path, size_t path_length,
                    sonic_span *span, sonic_error *error);
 
@@ -68,8 +72,11 @@ uint32_t sonic_get_unchecked(const uint8_t *json, size_t json_length, const uint
                              size_t path_length, sonic_span *span, sonic_error *error);
 
 /* Where many paths lead, by one walk through the text. There is a path on each line, as
-   ["a",1]\n["b"]\n, and no blank line among them; spans has span_count elements, one for each. A path
-   whose key an object lacks has the span 0, 0; any other that leads nowhere is the error of all. */
+   ["a",1]\n["b"]\n, and no blank line among them; spans has span_count elements, one for each. After
+   nodes that two lines share both go on with a key, or both with an index: ["a"] and [0] don't go
+   together, and the second of them is SONIC_BAD_LINES. A path whose key an object with members lacks has
+   the span 0, 0; any other that leads nowhere is the error of all, also a key in an object without
+   members. */
 uint32_t sonic_get_many(const uint8_t *json, size_t json_length, const uint8_t *paths,
                         size_t paths_length, sonic_span *spans, size_t span_count, sonic_error *error);
 
@@ -85,25 +92,44 @@ uint32_t sonic_get_many_unchecked(const uint8_t *json, size_t json_length, const
    is 0 if no code has this number, or if memory ran out; the room is left as it was then. */
 size_t sonic_code_text(uint32_t code, uint8_t *room, size_t room_length);
 
-/* The codes of errors, by the names that FORMAT.md explains. */
+/* The codes of errors. One of the text is at the first byte that doesn't fit, or at the last byte where
+   the text ends before it; one of a path at the last byte of the value where it leads no further. */
 enum {
+  /* The text ends inside a value, or before one that is expected. */
   SONIC_CODE_EOF_WHILE_PARSING = 3,
+  /* No colon follows a key. */
   SONIC_CODE_EXPECTED_COLON = 4,
+  /* Neither a comma nor a closing bracket follows an element. */
   SONIC_CODE_EXPECTED_ARRAY_COMMA_OR_END = 5,
+  /* Neither a comma nor a closing brace follows a member. */
   SONIC_CODE_EXPECTED_OBJECT_COMMA_OR_END = 6,
+  /* A letter isn't the next one of true, false or null. */
   SONIC_CODE_INVALID_LITERAL = 7,
+  /* A value is expected, and none begins with this byte. */
   SONIC_CODE_INVALID_JSON_VALUE = 8,
+  /* No escape has this byte after its backslash. */
   SONIC_CODE_INVALID_ESCAPE = 11,
+  /* A digit is expected and isn't there, or follows a first digit 0. */
   SONIC_CODE_INVALID_NUMBER = 12,
+  /* A byte after \u is no hexadecimal digit. */
   SONIC_CODE_INVALID_UNICODE_CODE_POINT = 14,
+  /* The bytes aren't UTF-8, as far as the answer needs them. */
   SONIC_CODE_INVALID_UTF8 = 15,
+  /* A byte below 0x20 is in a string. */
   SONIC_CODE_CONTROL_CHARACTER_WHILE_PARSING_STRING = 16,
+  /* A key or a closing brace is expected, and no quote is here; after a comma, a key. */
   SONIC_CODE_EXPECT_OBJECT_KEY_OR_END = 17,
+  /* Something follows the value that was to be the whole text: of sonic_validate alone. */
   SONIC_CODE_TRAILING_CHARACTERS = 19,
+  /* A key of a path comes to an object without members. */
   SONIC_CODE_GET_IN_EMPTY_OBJECT = 21,
+  /* No member of the object has the key of the path: of sonic_get and sonic_get_unchecked alone. */
   SONIC_CODE_GET_UNKNOWN_KEY_IN_OBJECT = 22,
+  /* An index of a path comes to an array without elements. */
   SONIC_CODE_GET_IN_EMPTY_ARRAY = 23,
+  /* An index of a path isn't below the number of elements. */
   SONIC_CODE_GET_INDEX_OUT_OF_ARRAY = 24,
+  /* Half of a surrogate pair is alone. */
   SONIC_CODE_INVALID_SURROGATE_UNICODE_CODE_POINT = 26,
   /* An object has a key of a path twice. Here the first counts, so no call refuses the second. */
   SONIC_CODE_DUPLICATE_KEY = 32,

@@ -1,7 +1,7 @@
 pub mod Bits
 pub mod Closings
 pub mod Firsts
+pub mod Internal
 pub mod Outside
 pub mod Runs
-pub mod StringBlocks
 pub mod Views

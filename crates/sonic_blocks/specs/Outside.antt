@@ -1,5 +1,5 @@
 -- Which bytes of a text are escaped, and which are inside a string, as counted from a place s on.
-use Rattle.std.specs.Prelude.{◌≡◌, ℕ, ◌+◌, ◌-◌, ◌^◌, ◌≤◌, ◌==◌, ◌&&◌, Bool, false, not, if◌then◌else◌, List, slice_index}
+use Rattle.std.specs.Prelude.{◌≡◌, ℕ, ◌+◌, ◌-◌, ◌≤◌, ◌==◌, ◌&&◌, Bool, false, not, List, slice_index}
 use Rattle.sonic_blocks.specs.Bits.{is_odd, count_below, is_escaped, is_quote, is_inside}
 
 -- the n-th place from s on holds the byte b
@@ -31,9 +31,3 @@ pub record IsClear (t : List ℕ) (s k : ℕ) : Type 0 where
   pub from : s ≤ k
   pub no_escape : is_escaped_at t s k ≡ false
   pub no_string : is_inside_at t s k ≡ false
-
--- what carries over to the block at p: 1 where p is escaped, and all bits where it is inside a string, else 0
-pub record AreCarried (t : List ℕ) (s p escape string : ℕ) : Type 0 where
-  pub from : s ≤ p
-  pub escapes : escape ≡ (if is_escaped_at t s p then 1 else 0)
-  pub strings : string ≡ (if is_inside_at t s p then 2 ^ 64 - 1 else 0)

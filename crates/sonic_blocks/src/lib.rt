@@ -12,11 +12,9 @@ mod count;
 mod lanes;
 // Where a run of bytes of one kind ends, and where the first byte of another kind is.
 mod runs;
-// A counter of the views of a text.
-mod steps;
 // The backslashes, the quotes and the control bytes among 32 bytes.
 mod string_block;
-// A text that is seen by blocks of 64 bytes alone.
+// A text that is seen by blocks of 64 bytes alone, and how many views of it were taken.
 mod tape;
 
 pub use bits::{get_escaped, get_string_bits, next_bit, prefix_xor};
@@ -24,6 +22,5 @@ pub use closing::closing_bit;
 pub use count::count_of;
 pub use lanes::get_nonspace_bits;
 pub use runs::{digits_end, first_backslash, first_of, plain_end, space_end};
-pub use steps::Steps;
 pub use string_block::StringBlock;
 pub use tape::{Masks, Tape};

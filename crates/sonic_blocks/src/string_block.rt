@@ -32,7 +32,7 @@ impl Model for StringBlock {
 
     ghost Value = { FirstPlaces };
 
-    ghost use Rattle.sonic_blocks.specs.StringBlocks.{first_places, AreApart};
+    ghost use Rattle.sonic_blocks.specs.Internal.StringBlocks.{first_places, AreApart};
 
     ghost view = { first_places };
 

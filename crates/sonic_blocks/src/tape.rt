@@ -4,10 +4,9 @@ ghost use Rattle.sonic_blocks.specs.Bits.{is_set};
 ghost use Rattle.sonic_blocks.specs.Views.{AreMasks};
 
 use crate::lanes::{equal_to, spaces};
-use crate::steps::Steps;
 use std::marker::Model;
 use std::simd::prelude::*;
-use std::sync::ledger::Ledger;
+use std::sync::ledger::{Blank, Book, Ledger, Share};
 
 /// Which of 64 bytes are these, one bit for each byte.
 #[derive(Clone, Copy, Drop)]
@@ -23,51 +22,64 @@ pub struct Masks {
     pub nonspace: u64,
 }
 
-/// A text that is seen by [`Masks`] alone.
+/// A text that is seen by [`Masks`] alone, and that counts its views.
+///
+/// Nothing else shows the text, so that a caller who holds a tape can't look at it uncounted.
 ///
 /// ```text
-/// let tape = Tape::new(b"[1]");
-/// assert_eq!(rt; tape.masks_at(0, &mut steps).close_bracket, 4);
+/// let mut tape = Tape::<Brand>::new(b"[1]", Blank::new(1));
+/// assert_eq!(rt; tape.masks_at(0).close_bracket, 4);
 /// ```
 #[derive(Drop)]
-pub struct Tape<'a> {
+pub struct Tape<'a, L: Ledger> {
     text: &'a [u8],
+    // The views, which the ledger alone counts.
+    book: Book<L>,
+    share: Share<L>,
 }
 
-impl<'a> Model for Tape<'a> {
-    ghost use Rattle.std.specs.Prelude.{ℕ, List};
+impl<'a, L: Ledger> Model for Tape<'a, L> {
+    ghost use Rattle.sonic_blocks.specs.Views.{Viewed};
 
-    ghost Value = { List ℕ };
+    ghost Value = { Viewed };
 
-    ghost view = { λ tape. tape.text.now };
+    ghost use Rattle.std.specs.Prelude.{◌<◌};
+
+    ghost view = { λ tape. record { text = tape.text.now; views = tape.book.total } };
+
+    ghost invariant = { λ tape. 0 < tape.share.parts };
 }
 
-impl<'a> Tape<'a> {
-    /// The tape of a text.
-    pub fn new(text: &'a [u8]) -> Tape<'a>
-        ensures { result ≡ text.now }
+impl<'a, L: Ledger> Tape<'a, L> {
+    /// The tape of a text, of which nothing was seen.
+    pub fn new(text: &'a [u8], blank: Blank) -> Tape<'a, L>
+        requires name { blank.name ≡ L.name }
+        requires parts { blank.parts ≡ L.parts }
+        requires some { 0 < L.parts }
+        ensures { result ≡ record { text = text.now; views = 0 } }
     {
-        Tape { text }
+        let (book, share) = blank.open();
+        Tape { text, book, share }
     }
 
     /// How many bytes the text has.
     pub fn len(&self) -> usize
-        ensures value { result ≡ length self.now }
+        ensures value { result ≡ length self.now.text }
         ensures small { result < 2 ^ 63 }
     {
         self.text.len()
     }
 
-    /// The masks of the 64 bytes from `place` on. A bit past the text's end is clear. It is one step.
+    /// The masks of the 64 bytes from `place` on. A bit past the text's end is clear. It is one view.
     ///
     /// Of `{"a":1}` the quotes from 0 on are 10, the bits 1 and 3.
     #[inline(always)]
-    pub fn masks_at<L: Ledger>(&self, place: usize, steps: &mut Steps<L>) -> Masks
-        requires { place ≤ length self.now }
-        ensures masks { AreMasks self.now place result }
-        ensures step { steps.new ≡ steps.old + 1 }
+    pub fn masks_at(&mut self, place: usize) -> Masks
+        requires { place ≤ length self.old.text }
+        ensures masks { AreMasks self.old.text place result }
+        ensures view { self.new ≡ record self.old { views = self.old.views + 1 } }
     {
-        steps.tick();
+        self.book.add(&mut self.share, 1);
         masks_of(self.text, place)
     }
 }

@@ -13,9 +13,10 @@ use Rattle.sonic_paths.specs.Lines.{SaysPaths}
 use Rattle.sonic_paths.specs.declared.lines.Head.{Head}
 use Rattle.sonic_paths.specs.declared.lines.Head.TheVariants.{Paths, Bad}
 use Rattle.sonic_paths.proofs.LineOutcomes.{head_one_thing}
-use Rattle.sonic_c.specs.Told.{ManyCells, IsManyCall, RefusesLines, no_room, bad_lines, wrong_count, Say, SayBad, bad_path, blank_line, TellsAll, TellAllRefused, TellsError, no_memory, told}
+use Rattle.sonic_c.specs.Told.{ManyCells, IsManyCall, Say, SayBad, bad_path, blank_line, TellAllRefused}
+use Rattle.sonic_c.specs.Internal.Told.{RefusesLines, no_room, bad_lines, wrong_count, TellsAll, TellsError, no_memory, told}
 use Rattle.sonic_c.specs.declared.fault.Fault.{Fault}
-use Rattle.sonic_c.specs.declared.status.TheConstants.{OK, DOCUMENT_ERROR, WRONG_COUNT, BAD_LINES}
+use Rattle.sonic_c.specs.Statuses.{status_ok, status_document_error, status_wrong_count, status_bad_lines}
 use Rattle.sonic_c.proofs.ToldLemmas.{numbers_at}
 
 -- lines say one thing
@@ -70,13 +71,13 @@ refused_told (wrong_count {paths} is says other line) kept = record {
 
 -- what is told of an error with which the paths are refused
 refusal_told : {t : List ℕ} {paths : List Path} {e : Error} {before after : Fault} {status : ℕ} → IsRefusal t true paths e → TellsError e before after status
-    → status ≡ DOCUMENT_ERROR → TellAllRefused t paths after
+    → status ≡ status_document_error → TellAllRefused t paths after
 refusal_told r (no_memory m is same) d = absurd cc
 refusal_told (out_of_memory plain) (told other is numbers) d = absurd (other plain.code)
 refusal_told (answered s a at) (told other is numbers) d = record { stop = s; answer = a; numbers = numbers_at at numbers }
 
 -- an error that is told is neither of the other statuses
-told_status : {e : Error} {before after : Fault} {status : ℕ} → TellsError e before after status → (status ≢ OK) × (status ≢ WRONG_COUNT) × (status ≢ BAD_LINES)
+told_status : {e : Error} {before after : Fault} {status : ℕ} → TellsError e before after status → (status ≢ status_ok) × (status ≢ status_wrong_count) × (status ≢ status_bad_lines)
 told_status (no_memory m is same) = (λ z. absurd cc, λ z. absurd cc, λ z. absurd cc)
 told_status (told other is numbers) = (λ z. absurd cc, λ z. absurd cc, λ z. absurd cc)
 

@@ -9,10 +9,11 @@ use Rattle.sonic_find.specs.Spans.{IsFinding, IsSureFinding}
 use Rattle.sonic_find.specs.declared.span.Span.{Span as Slot}
 use Rattle.sonic_paths.specs.Lines.{IsNodeLine}
 use Rattle.sonic_paths.proofs.LineNodes.{node_line_one}
-use Rattle.sonic_c.specs.Codes.{numbers_of}
-use Rattle.sonic_c.specs.Told.{AreNumbersOf, TellsRefused, Cells, Tells, TellsError, no_memory, told, IsGetCall}
+use Rattle.sonic_c.specs.Internal.Numbers.{numbers_of}
+use Rattle.sonic_c.specs.Told.{AreNumbersOf, TellsRefused, Cells, IsGetCall}
+use Rattle.sonic_c.specs.Internal.Told.{Tells, TellsError, no_memory, told}
 use Rattle.sonic_c.specs.declared.fault.Fault.{Fault}
-use Rattle.sonic_c.specs.declared.status.TheConstants.{OK, DOCUMENT_ERROR, BAD_LINES}
+use Rattle.sonic_c.specs.Statuses.{status_ok, status_document_error, status_bad_lines}
 
 -- the numbers of an error at a stop are those of the stop
 pub numbers_at : {t : List ℕ} {e : Error} {s : Stop} {f : Fault} → IsErrorAt e s.code t s.place → f ≡ numbers_of e → AreNumbersOf t s f
@@ -20,7 +21,7 @@ numbers_at at is = record { code = rw (is, at.code) refl; line = rw (is, at.line
 
 -- what is told of an error that is refused so
 refusal_told : {t : List ℕ} {path : Path} {e : Error} {before after : Fault} {status : ℕ} → IsGetRefusal t true path e → TellsError e before after status
-    → status ≡ DOCUMENT_ERROR → TellsRefused t path after
+    → status ≡ status_document_error → TellsRefused t path after
 refusal_told r (no_memory m is same) d = absurd cc
 refusal_told (refused_memory plain) (told other is numbers) d = absurd (other plain.code)
 refusal_told (refused x) (told other is numbers) d = record { stop = x.stop; answer = x.answer; numbers = numbers_at x.error numbers }
@@ -56,11 +57,11 @@ module _ {t line : List ℕ} {path : Path} {before after : Cells} {status : ℕ}
         elim tells [ no_memory m is kept ↦ inr is | told differs is numbers ↦ absurd (differs plain.code) ];
   }
     where
-      not_ok : TellsError e before.error after.error status → status ≡ OK → ⊥
+      not_ok : TellsError e before.error after.error status → status ≡ status_ok → ⊥
       not_ok (no_memory m is same) z = absurd cc
       not_ok (told other is numbers) z = absurd cc
 
-      not_bad : TellsError e before.error after.error status → status ≡ BAD_LINES → ⊥
+      not_bad : TellsError e before.error after.error status → status ≡ status_bad_lines → ⊥
       not_bad (no_memory m is same) z = absurd cc
       not_bad (told other is numbers) z = absurd cc
 
@@ -69,7 +70,7 @@ module _ {t line : List ℕ} {path : Path} {before after : Cells} {status : ℕ}
   sure_call_told found x tells = call_told found (may_want found x) tells
 
 -- a line that says no path is told so, and nothing else
-pub bad_line_told : {t line : List ℕ} {cells : Cells} → ((p : Path) → ¬ IsNodeLine line p) → IsGetCall t line cells cells BAD_LINES
+pub bad_line_told : {t line : List ℕ} {cells : Cells} → ((p : Path) → ¬ IsNodeLine line p) → IsGetCall t line cells cells status_bad_lines
 bad_line_told none = record {
   ok = λ e. absurd cc;
   document_error = λ e. absurd cc;

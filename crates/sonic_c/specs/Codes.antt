@@ -1,13 +1,10 @@
 -- The numbers of the codes and of errors, and what is told of a number.
 use Rattle.std.specs.Prelude.{◌≡◌, ◌≢◌, ◌⊎◌, ℕ, ◌+◌, ◌*◌, List, ◌++◌, length, take, drop}
-use Rattle.sonic_c.specs.declared.fault.Fault.{Fault}
-use Rattle.sonic_error.specs.Errors.{error_code, error_line, error_column, error_offset}
 use Rattle.sonic_error.specs.Kinds.{number_of}
 use Rattle.sonic_error.specs.Texts.{code_text}
 use Rattle.sonic_error.specs.declared.json_type.Note.TheVariants.{Mismatch, SchemaNotObject}
 use Rattle.sonic_error.specs.declared.json_type.Wanted.{Wanted}
 use Rattle.sonic_error.specs.declared.json_type.Wanted.TheVariants.{Object as WantedObject, Array as WantedArray, Number as WantedNumber}
-use Rattle.sonic_error.specs.declared.error.Error.{Error}
 use Rattle.sonic_error.specs.declared.code.ErrorCode.{ErrorCode}
 use Rattle.sonic_error.specs.declared.code.ErrorCode.TheVariants.{Message, Io, EofWhileParsing, ExpectedColon, ExpectedArrayCommaOrEnd, ExpectedObjectCommaOrEnd, InvalidLiteral, InvalidJsonValue, ExpectedObjectStart, ExpectedArrayStart, InvalidEscape, InvalidNumber, NumberOutOfRange, InvalidUnicodeCodePoint, InvalidUTF8, ControlCharacterWhileParsingString, ExpectObjectKeyOrEnd, TrailingComma, TrailingCharacters, RecursionLimitExceeded, GetInEmptyObject, GetUnknownKeyInObject, GetInEmptyArray, GetIndexOutOfArray, UnexpectedVisitType, InvalidSurrogateUnicodeCodePoint, FloatMustBeFinite, ExpectedNumericKey, ExpectedQuote, SerExpectKeyIsStrOrNum, NoMemory, DuplicateKey}
 
@@ -52,10 +49,6 @@ code_number ExpectedQuote = 29
 code_number SerExpectKeyIsStrOrNum = 30
 code_number NoMemory = 31
 code_number DuplicateKey = 32
-
--- the numbers of an error
-abbrev pub numbers_of : Error → Fault
-numbers_of error = record { code = code_number (error_code error); line = error_line error; column = error_column error; offset = error_offset error }
 
 -- the room with as much of the text as it takes at its start, and what it had after that
 abbrev pub placed : List ℕ → List ℕ → List ℕ

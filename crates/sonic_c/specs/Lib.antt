@@ -1,2 +1,4 @@
 pub mod Codes
+pub mod Internal
+pub mod Statuses
 pub mod Told

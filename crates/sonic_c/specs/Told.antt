@@ -1,9 +1,5 @@
 -- What a caller is told, in its own memory.
-use Rattle.std.specs.Prelude.{◌≡◌, ◌⊎◌, ◌≢◌, ℕ, ◌+◌, ◌<◌, true, List, [], ◌∷◌, Option, Some, None, Result, Ok, Err, length, map}
-use Rattle.sonic_error.specs.Errors.{error_code}
-use Rattle.sonic_error.specs.declared.error.Error.{Error}
-use Rattle.sonic_error.specs.declared.code.ErrorCode.TheVariants.{NoMemory}
-use Rattle.sonic_find.specs.declared.span.Span.{Span as Slot}
+use Rattle.std.specs.Prelude.{◌≡◌, ◌⊎◌, ◌≢◌, ℕ, ◌+◌, ◌<◌, true, List, [], ◌∷◌, Option, Some, None, length, map}
 use Rattle.sonic_error.specs.Places.{offset_of, line_of, column_of}
 use Rattle.sonic_text.specs.declared.stop.Stop.{Stop}
 use Rattle.sonic_text.specs.Paths.{Path}
@@ -14,9 +10,8 @@ use Rattle.sonic_paths.specs.Lines.{IsNodeLine, SaysPaths}
 use Rattle.sonic_c.specs.declared.span.Span.{Span}
 use Rattle.sonic_c.specs.declared.fault.Fault.{Fault}
 use Rattle.sonic_find.specs.Causes.{IsAnswerable, IsGettable}
-use Rattle.sonic_find.specs.Spans.{pairs_of}
-use Rattle.sonic_c.specs.declared.status.TheConstants.{WRONG_COUNT, OK, DOCUMENT_ERROR, BAD_LINES, NO_MEMORY}
-use Rattle.sonic_c.specs.Codes.{code_number, numbers_of}
+use Rattle.sonic_c.specs.Statuses.{status_wrong_count, status_ok, status_document_error, status_bad_lines, status_no_memory}
+use Rattle.sonic_c.specs.Codes.{code_number}
 
 -- the numbers are those of this stop in the text
 pub record AreNumbersOf (t : List ℕ) (s : Stop) (told : Fault) : Type 0 where
@@ -52,25 +47,15 @@ pub record Cells : Type 0 where
   pub span : Span
   pub error : Fault
 
--- an error is told, unless memory ran out
-pub data TellsError (e : Error) (before after : Fault) (status : ℕ) : Type 0 where
-  no_memory : error_code e ≡ NoMemory → status ≡ NO_MEMORY → after ≡ before → TellsError e before after status
-  told : error_code e ≢ NoMemory → status ≡ DOCUMENT_ERROR → after ≡ numbers_of e → TellsError e before after status
-
--- a span is told, or an error
-abbrev pub Tells : Result Slot Error → Cells → Cells → ℕ → Type 0
-Tells (Ok found) before after status = (status ≡ OK) × (after.span ≡ record { start = found.start; end = found.end }) × (after.error ≡ before.error)
-Tells (Err e) before after status = TellsError e before.error after.error status × (after.span ≡ before.span)
-
 -- what a call for one path comes to, with these cells before and after it
 pub record IsGetCall (t line : List ℕ) (before after : Cells) (status : ℕ) : Type 0 where
-  pub ok : status ≡ OK → (path : Path) × IsNodeLine line path × TellsSpan t path after.span
-  pub document_error : status ≡ DOCUMENT_ERROR → (path : Path) × IsNodeLine line path × TellsRefused t path after.error
-  pub bad_line : status ≡ BAD_LINES → (path : Path) → ¬ IsNodeLine line path
-  pub no_other : (status ≡ OK) ⊎ (status ≡ DOCUMENT_ERROR) ⊎ (status ≡ BAD_LINES) ⊎ (status ≡ NO_MEMORY)
-  pub span_kept : status ≢ OK → after.span ≡ before.span
-  pub error_kept : status ≢ DOCUMENT_ERROR → after.error ≡ before.error
-  pub complete : (path : Path) → IsNodeLine line path → IsGettable t true path → (status ≡ OK) ⊎ (status ≡ NO_MEMORY)
+  pub ok : status ≡ status_ok → (path : Path) × IsNodeLine line path × TellsSpan t path after.span
+  pub document_error : status ≡ status_document_error → (path : Path) × IsNodeLine line path × TellsRefused t path after.error
+  pub bad_line : status ≡ status_bad_lines → (path : Path) → ¬ IsNodeLine line path
+  pub no_other : (status ≡ status_ok) ⊎ (status ≡ status_document_error) ⊎ (status ≡ status_bad_lines) ⊎ (status ≡ status_no_memory)
+  pub span_kept : status ≢ status_ok → after.span ≡ before.span
+  pub error_kept : status ≢ status_document_error → after.error ≡ before.error
+  pub complete : (path : Path) → IsNodeLine line path → IsGettable t true path → (status ≡ status_ok) ⊎ (status ≡ status_no_memory)
 
 -- the span of a value, or twice 0
 abbrev pub shown_span : Option Found → Span
@@ -101,25 +86,13 @@ pub record ManyCells : Type 0 where
 abbrev pub at_line : ℕ → Fault
 at_line number = record { code = 0; line = number; column = 0; offset = 0 }
 
--- lines are refused, as they say no paths, or not so many, or for want of memory
-pub data RefusesLines (lines : List ℕ) (count : ℕ) (before after : Fault) (status : ℕ) : Type 0 where
-  no_room : status ≡ NO_MEMORY → after ≡ before → RefusesLines lines count before after status
-  bad_lines : {n : ℕ} → status ≡ BAD_LINES → SayBad lines n → after ≡ at_line n → RefusesLines lines count before after status
-  wrong_count : {paths : List Path} → status ≡ WRONG_COUNT → Say lines paths → length paths ≢ count → after ≡ at_line (length paths)
-      → RefusesLines lines count before after status
-
--- spans are told, or an error
-abbrev pub TellsAll : Result (Unit {0}) Error → List (Option Slot) → ManyCells → ManyCells → ℕ → Type 0
-TellsAll (Ok done) slots before after status = (status ≡ OK) × (after.spans ≡ map shown_span (pairs_of slots)) × (after.error ≡ before.error)
-TellsAll (Err e) slots before after status = TellsError e before.error after.error status × (after.spans ≡ before.spans)
-
 -- what a call for many paths comes to, with these cells before and after it
 pub record IsManyCall (t lines : List ℕ) (before after : ManyCells) (status : ℕ) : Type 0 where
-  pub ok : status ≡ OK → (paths : List Path) × Say lines paths × TellSpans t paths after.spans
-  pub document_error : status ≡ DOCUMENT_ERROR → (paths : List Path) × Say lines paths × (length paths ≡ length before.spans) × TellAllRefused t paths after.error
-  pub wrong_count : status ≡ WRONG_COUNT → (paths : List Path) × Say lines paths × (length paths ≢ length before.spans) × (after.error ≡ at_line (length paths))
-  pub bad_lines : status ≡ BAD_LINES → (n : ℕ) × SayBad lines n × (after.error ≡ at_line n)
-  pub no_other : (status ≡ OK) ⊎ (status ≡ DOCUMENT_ERROR) ⊎ (status ≡ WRONG_COUNT) ⊎ (status ≡ BAD_LINES) ⊎ (status ≡ NO_MEMORY)
-  pub spans_kept : status ≢ OK → after.spans ≡ before.spans
-  pub error_kept : (status ≡ OK) ⊎ (status ≡ NO_MEMORY) → after.error ≡ before.error
-  pub complete : (paths : List Path) → Say lines paths → length paths ≡ length before.spans → IsAnswerable t true paths → (status ≡ OK) ⊎ (status ≡ NO_MEMORY)
+  pub ok : status ≡ status_ok → (paths : List Path) × Say lines paths × TellSpans t paths after.spans
+  pub document_error : status ≡ status_document_error → (paths : List Path) × Say lines paths × (length paths ≡ length before.spans) × TellAllRefused t paths after.error
+  pub wrong_count : status ≡ status_wrong_count → (paths : List Path) × Say lines paths × (length paths ≢ length before.spans) × (after.error ≡ at_line (length paths))
+  pub bad_lines : status ≡ status_bad_lines → (n : ℕ) × SayBad lines n × (after.error ≡ at_line n)
+  pub no_other : (status ≡ status_ok) ⊎ (status ≡ status_document_error) ⊎ (status ≡ status_wrong_count) ⊎ (status ≡ status_bad_lines) ⊎ (status ≡ status_no_memory)
+  pub spans_kept : status ≢ status_ok → after.spans ≡ before.spans
+  pub error_kept : (status ≡ status_ok) ⊎ (status ≡ status_no_memory) → after.error ≡ before.error
+  pub complete : (paths : List Path) → Say lines paths → length paths ≡ length before.spans → IsAnswerable t true paths → (status ≡ status_ok) ⊎ (status ≡ status_no_memory)

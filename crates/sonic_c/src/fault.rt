@@ -1,7 +1,8 @@
 // The errors that a caller is told.
 ghost use Rattle.std.specs.Prelude.{◌≡◌};
-ghost use Rattle.sonic_c.specs.Codes.{numbers_of};
-ghost use Rattle.sonic_c.specs.Told.{at_line, TellsError};
+ghost use Rattle.sonic_c.specs.Internal.Numbers.{numbers_of};
+ghost use Rattle.sonic_c.specs.Told.{at_line};
+ghost use Rattle.sonic_c.specs.Internal.Told.{TellsError};
 
 use crate::code::number;
 use crate::status::{DOCUMENT_ERROR, NO_MEMORY};

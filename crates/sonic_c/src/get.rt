@@ -1,6 +1,7 @@
 // What one path finds.
 ghost use Rattle.sonic_text.specs.Documents.{StartsWithUtf8Value};
-ghost use Rattle.sonic_c.specs.Told.{IsGetCall, Tells};
+ghost use Rattle.sonic_c.specs.Told.{IsGetCall};
+ghost use Rattle.sonic_c.specs.Internal.Told.{Tells};
 
 use crate::fault::{Fault, tell};
 use crate::span::Span;

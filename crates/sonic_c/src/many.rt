@@ -1,7 +1,8 @@
 // What many paths find.
 ghost use Rattle.std.specs.Prelude.{◌≡◌, ℕ, List, length, IfOk, IfErr, OnOk};
 ghost use Rattle.sonic_text.specs.Documents.{StartsWithUtf8Value};
-ghost use Rattle.sonic_c.specs.Told.{IsManyCall, RefusesLines, Say, TellsAll};
+ghost use Rattle.sonic_c.specs.Told.{IsManyCall, Say};
+ghost use Rattle.sonic_c.specs.Internal.Told.{RefusesLines, TellsAll};
 
 use crate::fault::{Fault, tell};
 use crate::span::{Span, fill};

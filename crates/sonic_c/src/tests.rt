@@ -192,6 +192,18 @@ fn tells_texts(rt: HostRuntime) {
     }
 }
 
+// With ample memory only a number that no code has is told no text.
+#[test]
+fn tells_a_text_of_each_code(rt: HostRuntime) {
+    for number in 0..200u32 {
+        let mut room = [0; 1];
+        let length = sonic_code_text(rt.alloc(), number, &mut room);
+        let plain = matches!(number, 1..=32);
+        let mismatch = matches!(number, 100..=152) && number % 10 <= 2;
+        assert_eq!(&rt; length > 0, plain || mismatch, "{number}");
+    }
+}
+
 #[test]
 fn keeps_the_rest_of_the_room(rt: HostRuntime) {
     let mut room = *b"........................................................";

@@ -2,7 +2,7 @@
 ghost use Rattle.std.specs.Prelude.{◌≡◌, ◌≢◌, ◌⊎◌};
 ghost use Rattle.sonic_find.specs.Documents.{IsValidDocument};
 ghost use Rattle.sonic_text.specs.Documents.{StartsWithUtf8Value};
-ghost use Rattle.sonic_c.specs.declared.status.TheConstants.{OK, DOCUMENT_ERROR, NO_MEMORY};
+ghost use Rattle.sonic_c.specs.Statuses.{status_ok, status_document_error, status_no_memory};
 ghost use Rattle.sonic_c.specs.Told.{TellsInvalid};
 
 use crate::fault::{Fault, tell};
@@ -16,12 +16,12 @@ use std::alloc::Global;
 /// `sonic_get_unchecked` and `sonic_get_many_unchecked` ask for.
 #[unsafe(no_mangle)]
 pub extern "C" fn sonic_validate(alloc: Global, json: &[u8], error: &mut Fault) -> u32
-    ensures ok { result ≡ OK → IsValidDocument json.now }
-    ensures starts { result ≡ OK → StartsWithUtf8Value json.now }
-    ensures document_error { result ≡ DOCUMENT_ERROR → TellsInvalid json.now error.new }
-    ensures no_other { (result ≡ OK) ⊎ (result ≡ DOCUMENT_ERROR) ⊎ (result ≡ NO_MEMORY) }
-    ensures error_kept { result ≢ DOCUMENT_ERROR → error.new ≡ error.old }
-    ensures complete { IsValidDocument json.now → (result ≡ OK) ⊎ (result ≡ NO_MEMORY) }
+    ensures ok { result ≡ status_ok → IsValidDocument json.now }
+    ensures starts { result ≡ status_ok → StartsWithUtf8Value json.now }
+    ensures document_error { result ≡ status_document_error → TellsInvalid json.now error.new }
+    ensures no_other { (result ≡ status_ok) ⊎ (result ≡ status_document_error) ⊎ (result ≡ status_no_memory) }
+    ensures error_kept { result ≢ status_document_error → error.new ≡ error.old }
+    ensures complete { IsValidDocument json.now → (result ≡ status_ok) ⊎ (result ≡ status_no_memory) }
 {
     match validate(alloc, json) {
         Ok(()) => OK,

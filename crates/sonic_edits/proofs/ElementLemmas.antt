@@ -4,8 +4,8 @@ use Rattle.std.proofs.lemmas.Bool.{cases_lt, cases_order}
 use Rattle.std.proofs.lemmas.List.{length-map, map-append}
 use Rattle.std.proofs.lemmas.List.Elements.{All-nil, All-push, All-head, All-tail}
 use Rattle.std.specs.List.{All}
-use Rattle.sonic_edits.specs.Lines.{AreElements}
-use Rattle.sonic_edits.specs.Reading.{HasElements}
+use Rattle.sonic_edits.specs.Lines.{AreElementTexts}
+use Rattle.sonic_edits.specs.Internal.Reading.{HasElements}
 use Rattle.sonic_lazy.proofs.WholeLemmas.{lazy_is_whole}
 use Rattle.sonic_find.specs.Documents.{IsDocumentValue}
 use Rattle.sonic_lazy.specs.Scalars.{container, scalar_of}
@@ -48,7 +48,7 @@ members_unnamed t [] h = refl
 members_unnamed t (x ∷ xs) h = rw (All-head IsUnnamed x xs h, members_unnamed t xs (All-tail IsUnnamed x xs h)) refl
 
 -- elements by their items
-pub items_elements : {t : List ℕ} {n : ℕ} {items : List Item} → AreItems t Array n items → AreClosed t Array n → AreElements t (texts_of t items)
+pub items_elements : {t : List ℕ} {n : ℕ} {items : List Item} → AreItems t Array n items → AreClosed t Array n → AreElementTexts t (texts_of t items)
 items_elements {t} {n} {items} are closes = record { count = n; items = items; are = are; closed = closes; shown = sym (members_unnamed t items (each_item IsUnnamed (λ k x is. no_key is.head) are)) }
 
 -- a closed container has one list of items
@@ -75,7 +75,7 @@ texts_one (x ∷ xs) (y ∷ ys) e =
     rw (first, texts_one xs ys rest) refl
 
 -- and so are the texts of elements
-pub elements_one : {t : List ℕ} {xs ys : List (List ℕ)} → AreElements t xs → AreElements t ys → xs ≡ ys
+pub elements_one : {t : List ℕ} {xs ys : List (List ℕ)} → AreElementTexts t xs → AreElementTexts t ys → xs ≡ ys
 elements_one {xs = xs} {ys} a b = texts_one xs ys (all_members_one a b)
 
 -- items hold each of them
@@ -135,7 +135,7 @@ ends_closed (at_bracket u x e) = x
 ends_closed (at_stop u x is) = absurd cc
 
 -- where the iterator is over these are all
-pub all_first : {it now : Iterating} {t : List ℕ} {texts : List (List ℕ)} → HasGiven it t it.given → AreFirst t it.given texts → IsOver it now → AreElements t texts
+pub all_first : {it now : Iterating} {t : List ℕ} {texts : List (List ℕ)} → HasGiven it t it.given → AreFirst t it.given texts → IsOver it now → AreElementTexts t texts
 all_first {it} {t = t} g first over = elim over.reason [
   | inl ended ↦ (let going : it.ended ≡ false = rw g refl in absurd cc)
   | inr ends ↦
@@ -144,7 +144,7 @@ all_first {it} {t = t} g first over = elim over.reason [
 ]
 
 -- where one more comes they are more
-pub more_first : {t : List ℕ} {n : ℕ} {first : List (List ℕ)} (v : LazyValue) (texts : List (List ℕ)) → AreFirst t n first → ShowsElement t n v → AreElements t texts
+pub more_first : {t : List ℕ} {n : ℕ} {first : List (List ℕ)} (v : LazyValue) (texts : List (List ℕ)) → AreFirst t n first → ShowsElement t n v → AreElementTexts t texts
     → length first < length texts
 more_first {t} {n} {first} v texts f x all =
     let later : n < all.count = closes_later f.are x.is all.closed in
@@ -154,7 +154,7 @@ more_first {t} {n} {first} v texts f x all =
     omega arith
 
 -- a line's elements are those of its value
-pub own_elements : {line text : List ℕ} {texts : List (List ℕ)} → IsDocumentValue line text → HasElements line texts → AreElements text texts
+pub own_elements : {line text : List ℕ} {texts : List (List ℕ)} → IsDocumentValue line text → HasElements line texts → AreElementTexts text texts
 own_elements x h = rw (value_one x h.value) h.array
 
 pub own_one : {line : List ℕ} {xs ys : List (List ℕ)} → HasElements line xs → HasElements line ys → xs ≡ ys
@@ -165,7 +165,7 @@ closed_opens : {t : List ℕ} {kind : Kind} {n : ℕ} → AreClosed t kind n →
 closed_opens (closed_empty z b c) = b
 closed_opens (closed_after x e c) = items_open x.before
 
-pub elements_array : (value : LazyValue) (texts : List (List ℕ)) → AreElements (raw_bytes value) texts → scalar_of (raw_bytes value) ≡ container Array
+pub elements_array : (value : LazyValue) (texts : List (List ℕ)) → AreElementTexts (raw_bytes value) texts → scalar_of (raw_bytes value) ≡ container Array
 elements_array value texts all =
     let start : after_space (raw_bytes value) 0 ≡ 0 = value_starts (lazy_is_whole value).value in
     let opens : byte (raw_bytes value) 0 ≡ 91 = rw start at (closed_opens all.closed) in

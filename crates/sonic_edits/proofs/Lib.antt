@@ -1,6 +1,5 @@
 mod EditingLemmas
 mod ElementLemmas
-mod LineHeads
 pub mod LineOutcomes
 mod LineTests
 mod ReadingLemmas

@@ -5,8 +5,8 @@ use Rattle.std.specs.Prelude.{slice_range}
 use Rattle.std.specs.Str.{IsUtf8}
 use Rattle.sonic_edits.proofs.ElementLemmas.{never_bytes, items_elements, elements_one, own_elements, texts_of}
 use Rattle.sonic_edits.proofs.SayingLemmas.{line_elements, pair_key, parts_of, says_change, denotes_one, says_two}
-use Rattle.sonic_edits.specs.Lines.{AreElements, Denotes, IsEditLine, SaysEdit}
-use Rattle.sonic_edits.specs.Reading.{SaysChange, sets, pushes, pairs, takes}
+use Rattle.sonic_edits.specs.Lines.{AreElementTexts, Denotes, IsEditLine, SaysEdit}
+use Rattle.sonic_edits.specs.Internal.Reading.{SaysChange, sets, pushes, pairs, takes}
 use Rattle.sonic_find.proofs.AnswerLemmas.One.{utf8_or_not}
 use Rattle.sonic_find.proofs.DocumentLemmas.{alone_never_invalid, document_one}
 use Rattle.sonic_lazy.proofs.ListingLemmas.{listing_one}
@@ -98,7 +98,7 @@ edit_or_none (word ∷ path ∷ operands) = elim (text_or_none word) [
 
 -- some texts of the elements of an array
 abbrev SomeElements : List ℕ → Type 0
-SomeElements t = (texts : List (List ℕ)) × AreElements t texts
+SomeElements t = (texts : List (List ℕ)) × AreElementTexts t texts
 
 -- elements end with the bracket alone
 elements_end : {t : List ℕ} {listing : Listing} → SomeElements t → IsListing t false Array listing → listing.ending ≡ closed

@@ -1,7 +1,7 @@
 -- What the elements of a line say.
 use Rattle.std.proofs.Common.{◌≡◌, ◌∙◌, ap, ap₂, sym, refl, ℕ, ◌≤◌, List, [], ◌∷◌, codes, length, arith}
 use Rattle.sonic_edits.specs.Lines.{Denotes, IsEditLine, SaysEdit, says_set, says_push, says_pair, says_take}
-use Rattle.sonic_edits.specs.Reading.{HasElements, SaysChange, sets, pushes, pairs, takes}
+use Rattle.sonic_edits.specs.Internal.Reading.{HasElements, SaysChange, sets, pushes, pairs, takes}
 use Rattle.sonic_owned.specs.Forms.{Form, raw}
 use Rattle.sonic_owned.specs.TreeEdits.{Change, pair, Edit}
 use Rattle.sonic_paths.proofs.LineNodes.{node_line_one}

@@ -1,19 +1,21 @@
 -- The edits that lines say are sound.
-use Rattle.std.proofs.Common.{ℕ, List, length, take, arith}
+use Rattle.std.proofs.Common.{ℕ, List, [], ◌∷◌, length, take, arith}
 use Rattle.std.proofs.Math.Seq.{take-length}
-use Rattle.std.proofs.lemmas.List.Elements.{All-map, All-nil, All-cons}
+use Rattle.std.proofs.lemmas.List.Elements.{All-append, All-map, All-nil, All-cons}
 use Rattle.std.specs.List.{All}
 use Rattle.std.specs.Str.{IsUtf8}
 use Rattle.sonic_edits.proofs.ElementLemmas.{each_item, elements_one, items_elements}
-use Rattle.sonic_edits.specs.Heads.{AreEditLines, no_more_lines, next_line}
-use Rattle.sonic_edits.specs.Lines.{AreElements, IsEditLine, SaysEdit, says_set, says_push, says_pair, says_take}
+use Rattle.sonic_edits.specs.Heads.{SaysNextEdit, AreEditLines}
+use Rattle.sonic_edits.specs.Lines.{AreElementTexts, IsEditLine, SaysEdit, says_set, says_push, says_pair, says_take}
 use Rattle.sonic_find.proofs.DocumentLemmas.{alone_part}
 use Rattle.sonic_find.proofs.Utf8Lemmas.{utf8_of_span}
 use Rattle.sonic_lazy.specs.Items.{Item, IsItemAt}
 use Rattle.sonic_find.specs.Answers.{span_text}
-use Rattle.sonic_owned.specs.Edits.{IsSoundChange, AreSoundEdits}
+use Rattle.sonic_owned.specs.Edits.{IsSoundChange}
+use Rattle.sonic_owned.specs.Internal.SoundEdits.{AreSoundEdits}
 use Rattle.sonic_owned.specs.Forms.{Form, raw, IsSound, raw_sound}
 use Rattle.sonic_owned.specs.TreeEdits.{Edit}
+use Rattle.sonic_paths.specs.Heads.{AreSaid, no_more_lines, next_line}
 use Rattle.sonic_text.proofs.StringTexts.{string_utf8}
 use Rattle.sonic_text.proofs.ValueParts.{value_of_part}
 use Rattle.sonic_text.proofs.Within.{value_within}
@@ -33,7 +35,7 @@ element_sound {t} utf8 n x is =
     let whole : IsUtf8 (take (length t) t) = rw (take-length t) utf8 in
     raw_sound (value_of_part is.value within) (utf8_of_span (length t) whole is.value within within)
 
-elements_sound : {t : List ℕ} (texts : List (List ℕ)) → IsUtf8 t → AreElements t texts → All IsSoundText texts
+elements_sound : {t : List ℕ} (texts : List (List ℕ)) → IsUtf8 t → AreElementTexts t texts → All IsSoundText texts
 elements_sound {t} texts utf8 all =
     let text = λ (x : Item). span_text t x.span in
     let each = each_item (λ x. IsSoundText (text x)) (element_sound utf8) all.are in
@@ -53,6 +55,13 @@ edit_line_sound x =
     says_sound x.says (elements_sound x.elements utf8 x.array)
 
 -- and what each of many says
+lines_sound : {earlier es : List (Edit Form)} {lines : List (List ℕ)} → AreSaid SaysNextEdit earlier lines es → AreSoundEdits earlier → AreSoundEdits es
+lines_sound no_more_lines sound = sound
+lines_sound {earlier} {es} (next_line {between = more} {lines = lines} x xs) sound =
+    let Sound = λ (e : Edit Form). IsSoundChange e.change in
+    let first : All Sound (x.edit ∷ []) = All-cons Sound x.edit [] (edit_line_sound x.says) (All-nil Sound) in
+    let all : AreSoundEdits more = rw x.is (All-append Sound earlier (x.edit ∷ []) sound first) in
+    lines_sound xs all
+
 pub edit_lines_sound : {lines : List (List ℕ)} {es : List (Edit Form)} → AreEditLines lines es → AreSoundEdits es
-edit_lines_sound no_more_lines = All-nil _
-edit_lines_sound (next_line {e = e} {es} x xs) = All-cons (λ (e : Edit Form). IsSoundChange e.change) e es (edit_line_sound x) (edit_lines_sound xs)
+edit_lines_sound said = lines_sound said (All-nil _)

@@ -1,24 +1,26 @@
 -- What a head of edit lines says.
-use Rattle.std.specs.Prelude.{◌≡◌, ◌+◌, ◌≤◌, ℕ, List, [], ◌∷◌, length, map}
+use Rattle.std.specs.Prelude.{◌≡◌, ◌≤◌, ℕ, List, [], ◌∷◌, ◌++◌, length, map}
 use Rattle.sonic_edits.specs.Edits.{edit_of}
-use Rattle.sonic_edits.specs.Lines.{IsEditLine, SaysNoEdit}
+use Rattle.sonic_edits.specs.Lines.{IsEditLine}
 use Rattle.sonic_edits.specs.declared.lines.EditHead.{EditHead}
 use Rattle.sonic_edits.specs.declared.lines.EditHead.TheVariants.{Edits, Bad}
 use Rattle.sonic_owned.specs.Forms.{Form}
 use Rattle.sonic_owned.specs.TreeEdits.{Edit}
-use Rattle.sonic_paths.specs.Heads.{IsHead}
+use Rattle.sonic_paths.specs.Heads.{IsHead, AreSaid, IsFirstBad}
+
+-- after the earlier edits the line says one more
+pub record SaysNextEdit (earlier : List (Edit Form)) (line : List ℕ) (es : List (Edit Form)) : Type 0 where
+  pub edit : Edit Form
+  pub says : IsEditLine line edit
+  pub is : es ≡ earlier ++ edit ∷ []
 
 -- each line in order says its edit
-pub data AreEditLines : List (List ℕ) → List (Edit Form) → Type 0 where
-  no_more_lines : AreEditLines [] []
-  next_line : {line : List ℕ} {lines : List (List ℕ)} {e : Edit Form} {es : List (Edit Form)} → IsEditLine line e → AreEditLines lines es
-      → AreEditLines (line ∷ lines) (e ∷ es)
+abbrev pub AreEditLines : List (List ℕ) → List (Edit Form) → Type 0
+AreEditLines lines es = AreSaid SaysNextEdit [] lines es
 
 -- line n, counted from 1, is the first that says no edit
-pub data IsFirstBadEdit : List (List ℕ) → ℕ → Type 0 where
-  bad_here : {line : List ℕ} {lines : List (List ℕ)} {n : ℕ} → SaysNoEdit line → n ≡ 1 → IsFirstBadEdit (line ∷ lines) n
-  bad_later : {line : List ℕ} {lines : List (List ℕ)} {e : Edit Form} {n m : ℕ} → IsEditLine line e → IsFirstBadEdit lines m → n ≡ m + 1
-      → IsFirstBadEdit (line ∷ lines) n
+abbrev pub IsFirstBadEdit : List (List ℕ) → ℕ → Type 0
+IsFirstBadEdit lines n = IsFirstBad SaysNextEdit [] lines n
 
 -- the lines of the input's head say these edits, and the document begins at d
 pub record SaysEditsOf (t : List ℕ) (es : List (Edit Form)) (d : ℕ) : Type 0 where

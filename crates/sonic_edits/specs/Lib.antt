@@ -1,5 +1,5 @@
 pub mod Edits
 pub mod Heads
+pub mod Internal
 pub mod Laws
 pub mod Lines
-pub mod Reading

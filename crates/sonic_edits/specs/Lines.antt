@@ -24,8 +24,8 @@ pub data SaysEdit : List (List ℕ) → Edit Form → Type 0 where
   says_take : {word path : List ℕ} {e : Edit Form} → Denotes word (codes "take") → IsNodeLine path e.path → e.change ≡ take → SaysEdit (word ∷ path ∷ []) e
 
 -- the text begins with an array, whose elements have these texts
-abbrev pub AreElements : List ℕ → List (List ℕ) → Type 0
-AreElements t texts = AreAllMembers t Array (unnamed (map raw texts))
+abbrev pub AreElementTexts : List ℕ → List (List ℕ) → Type 0
+AreElementTexts t texts = AreAllMembers t Array (unnamed (map raw texts))
 
 -- the line is a document in UTF-8, one value with nothing but white space around it, and that is an array whose elements say this edit
 pub record IsEditLine (line : List ℕ) (e : Edit Form) : Type 0 where
@@ -33,9 +33,5 @@ pub record IsEditLine (line : List ℕ) (e : Edit Form) : Type 0 where
   pub text : List ℕ
   pub value : IsDocumentValue line text
   pub elements : List (List ℕ)
-  pub array : AreElements text elements
+  pub array : AreElementTexts text elements
   pub says : SaysEdit elements e
-
--- the line says no edit
-abbrev pub SaysNoEdit : List ℕ → Type 0
-SaysNoEdit line = (e : Edit Form) → ¬ IsEditLine line e

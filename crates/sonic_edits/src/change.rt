@@ -3,7 +3,7 @@ ghost use Rattle.std.specs.Prelude.{◌≡◌, ℕ, List, None, IfOk, IfSome, ma
 ghost use Rattle.std.specs.Cow.{cow_str_bytes};
 ghost use Rattle.sonic_edits.specs.Edits.{edit_of};
 ghost use Rattle.sonic_edits.specs.Lines.{Denotes, SaysEdit};
-ghost use Rattle.sonic_edits.specs.Reading.{SaysChange};
+ghost use Rattle.sonic_edits.specs.Internal.Reading.{SaysChange};
 ghost use Rattle.sonic_lazy.specs.LazyValues.{raw_bytes};
 ghost use Rattle.sonic_owned.specs.Changes.{change_of};
 ghost use Rattle.sonic_owned.specs.Forms.{Form, raw};

@@ -1,6 +1,6 @@
 // The edit that a line says.
 use sonic_owned::Change;
-use sonic_paths::LinePath;
+use sonic_pointer::OwnedPath;
 
 /// An edit: where a path leads, a change is made.
 ///
@@ -9,7 +9,7 @@ use sonic_paths::LinePath;
 #[derive(Drop)]
 pub struct Edit {
     /// Where.
-    pub path: LinePath,
+    pub path: OwnedPath,
     /// And what.
     pub change: Change,
 }

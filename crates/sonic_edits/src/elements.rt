@@ -1,7 +1,7 @@
 // The elements of the array that a line is.
 ghost use Rattle.std.specs.Prelude.{◌≡◌, ◌<◌, ℕ, List, None, IfOk, IfSome, length, map, false};
-ghost use Rattle.sonic_edits.specs.Lines.{AreElements};
-ghost use Rattle.sonic_edits.specs.Reading.{HasElements};
+ghost use Rattle.sonic_edits.specs.Lines.{AreElementTexts};
+ghost use Rattle.sonic_edits.specs.Internal.Reading.{HasElements};
 ghost use Rattle.sonic_lazy.specs.Iterators.{iterator_over};
 ghost use Rattle.sonic_lazy.specs.LazyValues.{raw_bytes};
 ghost use Rattle.sonic_text.specs.declared.kind.Kind.TheVariants.{Array};
@@ -44,9 +44,9 @@ fn first_elements<'de>(
 ) -> Result<Option<Vec<LazyValue<'de>>>, AllocError>
     requires { array ≡ iterator_over Array array.text false false }
     ensures some { IfOk result (λ found. IfSome found (λ elements.
-        AreElements array.entry.text (map raw_bytes elements.items))) }
+        AreElementTexts array.entry.text (map raw_bytes elements.items))) }
     ensures none { IfOk result (λ found. found ≡ None
-        → (texts : List (List ℕ)) → AreElements array.entry.text texts → 4 < length texts) }
+        → (texts : List (List ℕ)) → AreElementTexts array.entry.text texts → 4 < length texts) }
 {
     let mut elements = Vec::new(alloc);
     'elements: while let Some(element) = array.next() {

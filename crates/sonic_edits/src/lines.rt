@@ -1,10 +1,10 @@
 // Heads of any number of lines, each of an edit.
 ghost use Rattle.std.specs.Prelude.{IfOk};
-ghost use Rattle.sonic_edits.specs.Heads.{SaysEdits};
+ghost use Rattle.sonic_edits.specs.Heads.{SaysNextEdit, SaysEdits};
 
 use crate::edit::Edit;
 use crate::line::edit_of_line;
-use sonic_paths::{document_start, find_line_end, is_blank};
+use sonic_paths::{HeadEnd, LineReader, read_head};
 use std::alloc::{AllocError, Global};
 
 /// What the head of an input says.
@@ -27,20 +27,37 @@ pub enum EditHead {
 pub fn read_edits(alloc: Global, input: &[u8]) -> Result<EditHead, AllocError>
     ensures { IfOk result (λ head. SaysEdits input.now head) }
 {
-    let mut edits = Vec::new(alloc);
-    let mut start = 0;
-    'lines: loop {
-        let end = find_line_end(input, start);
-        if is_blank(input, start, end) {
-            return Ok(EditHead::Edits(edits, document_start(input, start, end)));
-        }
-        let Some(edit) = edit_of_line(alloc, &input[start..end])? else {
-            return Ok(EditHead::Bad(edits.len() + 1));
+    let edits = Vec::new(alloc);
+    let mut reader = EditReader { edits };
+    match read_head(alloc, input, &mut reader)? {
+        HeadEnd::Document(place) => Ok(EditHead::Edits(reader.edits, place)),
+        HeadEnd::Bad(number) => Ok(EditHead::Bad(number)),
+    }
+}
+
+// The edits of the lines that were read.
+#[derive(Drop)]
+struct EditReader {
+    edits: Vec<Edit>,
+}
+
+impl LineReader for EditReader {
+    ghost use Rattle.std.specs.Prelude.{List, map};
+    ghost use Rattle.sonic_edits.specs.Edits.{edit_of};
+    ghost use Rattle.sonic_owned.specs.Forms.{Form};
+    ghost use Rattle.sonic_owned.specs.TreeEdits as tree_edits;
+
+    ghost Said = { List (tree_edits.Edit Form) };
+
+    ghost said = { λ reader. map edit_of reader.edits.items };
+
+    ghost says = { SaysNextEdit };
+
+    fn read_line(&mut self, alloc: Global, line: &[u8]) -> Result<bool, AllocError> {
+        let Some(edit) = edit_of_line(alloc, line)? else {
+            return Ok(false);
         };
-        edits.push(edit)?;
-        if end == input.len() {
-            return Ok(EditHead::Edits(edits, end));
-        }
-        start = end + 1;
+        self.edits.push(edit)?;
+        Ok(true)
     }
 }

@@ -6,6 +6,7 @@ ghost use Rattle.sonic_error.specs.Texts.{code_text};
 
 use crate::code::{Category, ErrorCode};
 use crate::position::Position;
+use std::alloc::AllocError;
 use std::fmt;
 use std::io::ErrorKind;
 
@@ -198,6 +199,18 @@ impl Error {
             ErrorCode::NoMemory => ErrorKind::OutOfMemory,
             _ => ErrorKind::InvalidData,
         }
+    }
+}
+
+/// So a function whose errors are these asks for memory with `?`.
+impl From<AllocError> for Error {
+    ghost use Rattle.sonic_error.specs.Errors.{IsPlainError};
+    ghost use Rattle.sonic_error.specs.declared.code.ErrorCode.TheVariants.{NoMemory};
+
+    ghost from_gives = { λ refused error. IsPlainError error NoMemory };
+
+    fn from(_: AllocError) -> Error {
+        Error::plain(ErrorCode::NoMemory)
     }
 }
 

@@ -1,17 +1,20 @@
 // The items of a container, one after the other.
-ghost use Rattle.std.specs.Prelude.{IfOk};
-ghost use Rattle.sonic_examples.specs.Elements.{AreElements};
+ghost use Rattle.std.specs.Prelude.{IfOk, IfErr};
+ghost use Rattle.sonic_error.specs.Errors.{IsPlainError};
+ghost use Rattle.sonic_examples.specs.Elements.{AreElements, IsClosedArray, IsElementsError};
 
 use sonic_error::{Error, ErrorCode};
 use sonic_lazy::{JsonValueTrait, LazyValue, to_array_iter, to_object_iter};
 use std::alloc::Global;
 use std::io;
 
-/// All elements of an array, or what is wrong with it.
+/// All elements of an array, or what is wrong with it, unless memory runs out.
 ///
 /// Of `[1, [2]]` they are `1` and `[2]`.
 pub fn elements<'t>(alloc: Global, json: &'t str) -> Result<Vec<LazyValue<'t>>, Error>
-    ensures { IfOk result (λ values. AreElements json.now values.items) }
+    ensures ok { IfOk result (λ values. AreElements json.now values.items) }
+    ensures err { IfErr result (IsElementsError json.now) }
+    ensures complete { IsClosedArray json.now → IfErr result (λ error. IsPlainError error ErrorCode.NoMemory) }
 {
     let mut values = Vec::new(alloc);
     let mut elements = to_array_iter(alloc, json);

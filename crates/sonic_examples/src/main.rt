@@ -7,10 +7,14 @@ mod gateway;
 mod items;
 // A look-up of one path by the library's calls, for measuring them.
 mod lookup;
+// A service that reads its options whole.
+mod plain;
 // A log reader that takes three fields of each record.
 mod records;
 // An editor that opens a file of settings.
 mod settings;
+// An editor that marks where the fields of a document are.
+mod spans;
 // A log reader that takes a stream of records in pieces.
 mod stream;
 // What no clause says: that an edit keeps every byte that it doesn't concern.
@@ -30,7 +34,9 @@ fn show(rt: &impl Print, alloc: Global) -> io::Result<()> {
     values::show(rt, alloc)?;
     items::show(rt, alloc)?;
     settings::show(rt, alloc)?;
-    stream::show(rt, alloc)
+    stream::show(rt, alloc)?;
+    spans::show(rt, alloc)?;
+    plain::show(rt, alloc)
 }
 
 fn main(rt: HostRuntime) -> ExitCode {

@@ -3,13 +3,13 @@ ghost use Rattle.std.specs.Prelude.{false, IfOk, IfErr};
 ghost use Rattle.sonic_find.specs.Causes.{IsRefusal};
 ghost use Rattle.sonic_lazy.specs.Shown.{AreValues};
 
-use sonic_error::{Error, ErrorCode};
+use sonic_error::Error;
 use sonic_lazy::{LazyValue, get_many};
 use sonic_pointer::{PointerTree, pointer};
 use std::alloc::Global;
 use std::io;
 
-/// The paths of the three fields.
+/// The paths of the three fields, or that memory ran out.
 pub fn paths(alloc: Global) -> Result<PointerTree, Error> {
     let mut tree = PointerTree::new(alloc);
     for path in [
@@ -17,9 +17,7 @@ pub fn paths(alloc: Global) -> Result<PointerTree, Error> {
         &pointer!["user", "id"][..],
         &pointer!["tags", 0][..],
     ] {
-        if tree.add_path(alloc, path).is_err() {
-            return Err(Error::plain(ErrorCode::NoMemory));
-        }
+        tree.add_path(alloc, path)?;
     }
     Ok(tree)
 }

@@ -7,18 +7,17 @@ use Rattle.std.specs.Prelude.{Option, Some, None, slice_get, option_map, replica
 use Rattle.sonic_find.proofs.AnswerLemmas.Agree.{answer_of_gathered, spans_of_all}
 use Rattle.sonic_find.proofs.AnswerLemmas.Walk.{Ends, gather, settled_ends, stop_answers, root_reported, replicate_none, kept_found, lead_from}
 use Rattle.sonic_find.proofs.GetLemmas.{by_whole}
-use Rattle.sonic_find.proofs.PathLemmas.Outcome.{by_one, cut_is_fault, fails_agree}
+use Rattle.sonic_find.proofs.PathLemmas.Outcome.{MixNowhere, by_one, cut_is_fault, fails_agree}
 use Rattle.sonic_find.proofs.WalkLemmas.End.{filled_later}
 use Rattle.sonic_find.proofs.WalkLemmas.List.{fill_mapped}
 use Rattle.sonic_find.proofs.WalkLemmas.Path.{contained, child_at, path_of_child, path_down, comes_down, not_later, later_twice}
 use Rattle.sonic_find.proofs.UncheckedLemmas.{found_part}
 use Rattle.sonic_find.specs.Answers.{Span, Answer, IsAnswerBy}
-use Rattle.sonic_find.specs.Internal.Fill.{Filling, filling_at, IsNoted, SomeFail, AreSlots, IsFuller, IsSlot, slot_found, slot_lacked, slot_failed, AllSlots, NodeSlots, IsBegun}
+use Rattle.sonic_find.specs.Internal.Fill.{Filling, filling_at, IsNoted, SomeFail, AreSlots, IsFuller, IsSlot, slot_found, slot_lacked, slot_failed, AllSlots, NodeSlots, IsFillBegun}
 use Rattle.sonic_find.specs.Internal.Follow.{IsDeadNode, LacksNode}
 use Rattle.sonic_find.specs.Internal.Located.{AreSpans}
 use Rattle.sonic_find.specs.Internal.Steps.{HasWhole}
-use Rattle.sonic_find.specs.Internal.Walk.{Point, root_point, child_point, ComesTo, AreFindings, was_lacked, IsFilled, IsStopped, fails_so, cut_so, path_stops, IsStop, IsError}
-use Rattle.sonic_find.specs.Laws.{MixNowhere}
+use Rattle.sonic_find.specs.Internal.Walk.{Point, root_point, child_point, ComesTo, AreFindings, was_lacked, AreSetTo, IsPathStop, fails_so, cut_so, path_stops, IsStop, IsError}
 use Rattle.sonic_find.specs.Paths.{found, lacks, fails, kind_of, LeadsBy, EvaluatesBy, LeadsUnder}
 use Rattle.sonic_find.specs.Paths.EvaluatesBy.{found_here}
 use Rattle.sonic_find.specs.Spans.{pair_of, pairs_of}
@@ -47,7 +46,7 @@ pub fuller_slots : {t : List ℕ} {paths : List Path} {f g : Filling} {rule : Ke
 fuller_slots x = record { are = x.later.are; failing = x.failing }
 
 -- where slots are fuller, one more prefix may begin
-pub still_begun : {p : Point} {f g : Filling} → IsBegun p f → IsFuller p.rule p.text p.paths f g → IsBegun p g
+pub still_begun : {p : Point} {f g : Filling} → IsFillBegun p f → IsFuller p.rule p.text p.paths f g → IsFillBegun p g
 still_begun x y = record { whole = x.whole; comes = x.comes; slots = fuller_slots y }
 
 -- what is known of a slot stays known
@@ -61,7 +60,7 @@ pub slots_up : (p : Point) (node : Node) (v : ℕ) {f : Filling} → AllSlots (c
 slots_up p node v all k rest h = rw append_assoc at (all k rest (path_down p k node rest v h))
 
 -- the value of a child begins so, too
-pub child_begun : {p : Point} {f : Filling} {v : ℕ} (node : Node) → LeadsBy p.rule p.text p.place node v → IsBegun p f → IsBegun (child_point p node v) f
+pub child_begun : {p : Point} {f : Filling} {v : ℕ} (node : Node) → LeadsBy p.rule p.text p.place node v → IsFillBegun p f → IsFillBegun (child_point p node v) f
 child_begun {p} node l x = record { whole = by_whole p.rule node l x.whole; comes = comes_down node x.comes l; slots = x.slots }
 
 -- what is known of the first children is known of one more
@@ -87,7 +86,7 @@ pub lacks_slots : {p : Point} {f : Filling} {node : Node} {q : ℕ} → ComesTo 
 lacks_slots {node = node} {q} comes lack k rest h = slot_lacked (comes.up (node ∷ rest) (lacks q) (lack rest))
 
 -- in a whole value a path that is stopped fails
-pub stopped_fails : {t : List ℕ} {i : ℕ} {path : Path} {s : Stop} {rule : KeyRule} → HasWhole t i → IsStopped rule t i path s → EvaluatesBy rule t i path (fails s)
+pub stopped_fails : {t : List ℕ} {i : ℕ} {path : Path} {s : Stop} {rule : KeyRule} → HasWhole t i → IsPathStop rule t i path s → EvaluatesBy rule t i path (fails s)
 stopped_fails x (fails_so e) = e
 stopped_fails {path = path} x (cut_so e) = absurd (value_never_both x.1 (cut_is_fault path e))
 
@@ -97,12 +96,12 @@ dead_leads : {p : Point} {node : Node} {s : Stop} → HasWhole p.text p.place �
 dead_leads {node = node} {s} x comes dead rest = comes.up (node ∷ rest) (fails s) (stopped_fails x (dead rest))
 
 -- and its slots wait for a nearer stop
-pub dead_slots : {p : Point} {f g : Filling} {node : Node} {s : Stop} → IsBegun p f → IsDeadNode p.rule p.text p.place node s → IsNoted g.nearest s.place
+pub dead_slots : {p : Point} {f g : Filling} {node : Node} {s : Stop} → IsFillBegun p f → IsDeadNode p.rule p.text p.place node s → IsNoted g.nearest s.place
     → NodeSlots p g node
 dead_slots x dead noted k rest h = slot_failed (dead_leads x.whole x.comes dead rest) noted
 
 -- what is noted of a dead node is a stop at which a path fails
-noted_fails : {p : Point} {node : Node} {s : Stop} {children : List Node} {f : Filling} {now : Option Stop} (c : ℕ) → IsBegun p f
+noted_fails : {p : Point} {node : Node} {s : Stop} {children : List Node} {f : Filling} {now : Option Stop} (c : ℕ) → IsFillBegun p f
     → IsChildren p.paths p.prefix children → slice_get children c ≡ Some node → IsDeadNode p.rule p.text p.place node s
     → (now ≡ f.nearest) ⊎ (now ≡ Some s) → IfSome now (SomeFail p.rule p.text p.paths)
 noted_fails c x all is dead (inl same) = rw same x.slots.failing
@@ -112,14 +111,14 @@ noted_fails {p} {node} c x all is dead (inr new) =
 
 -- and the slots are as full
 pub noted_fuller : {p : Point} {node : Node} {s : Stop} {children : List Node} {spans : List (Option Span)} {was now : Option Stop} (c : ℕ)
-    → IsBegun p (record { spans = spans; nearest = was }) → IsChildren p.paths p.prefix children → slice_get children c ≡ Some node
+    → IsFillBegun p (record { spans = spans; nearest = was }) → IsChildren p.paths p.prefix children → slice_get children c ≡ Some node
     → IsDeadNode p.rule p.text p.place node s → (now ≡ was) ⊎ (now ≡ Some s) → ((q : ℕ) → IsNoted was q → IsNoted now q)
     → IsFuller p.rule p.text p.paths (record { spans = spans; nearest = was }) (record { spans = spans; nearest = now })
 noted_fuller c x all is dead one nearer = record { later = not_later x.slots.are; failing = noted_fails c x all is dead one; nearer = nearer }
 
 -- where the slots of the paths that end at the prefix are filled, the slots are fuller
-pub kept_fuller : {p : Point} {j : ℕ} {orders : List ℕ} {slots more : List (Option slot.Span)} {nearest : Option Stop} → IsBegun p (filling_at slots nearest)
-    → IsValue strict p.text p.place j → IsOrders p.paths p.prefix orders → IsFilled orders slots more (record { start = p.place; end = j })
+pub kept_fuller : {p : Point} {j : ℕ} {orders : List ℕ} {slots more : List (Option slot.Span)} {nearest : Option Stop} → IsFillBegun p (filling_at slots nearest)
+    → IsValue strict p.text p.place j → IsOrders p.paths p.prefix orders → AreSetTo orders slots more (record { start = p.place; end = j })
     → IsFuller p.rule p.text p.paths (filling_at slots nearest) (filling_at more nearest)
 kept_fuller x value o fill = record {
   later = filled_later x.comes value o x.slots.are (fill_mapped pair_of fill);
@@ -128,8 +127,8 @@ kept_fuller x value o fill = record {
 }
 
 -- and those of all with the prefix are known
-pub kept_slots : (p : Point) {j : ℕ} {orders : List ℕ} {slots more : List (Option slot.Span)} {nearest : Option Stop} → IsBegun p (filling_at slots nearest)
-    → IsValue strict p.text p.place j → IsOrders p.paths p.prefix orders → IsFilled orders slots more (record { start = p.place; end = j })
+pub kept_slots : (p : Point) {j : ℕ} {orders : List ℕ} {slots more : List (Option slot.Span)} {nearest : Option Stop} → IsFillBegun p (filling_at slots nearest)
+    → IsValue strict p.text p.place j → IsOrders p.paths p.prefix orders → AreSetTo orders slots more (record { start = p.place; end = j })
     → ((node : Node) → NodeSlots p (filling_at slots nearest) node) → AllSlots p (filling_at more nearest)
 kept_slots p {j} x value o fill below k [] h =
     let is : slice_get p.paths k ≡ Some p.prefix = rw append-nil at h in
@@ -147,7 +146,7 @@ early_slots p o none below k (node ∷ rest) h = below node k rest h
 
 -- at the root the empty slots are true
 pub root_begun : {t : List ℕ} {paths : List Path} {rule : KeyRule} (n : ℕ) → StartsWithUtf8Value t → n ≡ length paths
-    → IsBegun (root_point rule t paths) (filling_at (replicate n None) None)
+    → IsFillBegun (root_point rule t paths) (filling_at (replicate n None) None)
 root_begun {t} {paths} {rule = rule} n x e = record {
   whole = (x.end, x.root);
   comes = record { up = λ rest o l. l; fault = λ s f. f };
@@ -188,6 +187,11 @@ pub paths_unmixed : {paths : List Path} {p q : Path} → IsUnmixed paths → Con
 paths_unmixed unmixed x y = λ prefix r s a b e f.
     same_kind a b (unmixed prefix a b (record { rest = r; path = rw e at x }) (record { rest = s; path = rw f at y }))
 
+-- so two that fail at one place fail at one stop
+pub unmixed_agree : {rule : KeyRule} {t : List ℕ} {paths : List Path} (p q : Path) {s r : Stop} → IsUnmixed paths → Contains paths p → Contains paths q
+    → LeadsUnder rule t p (fails s) → LeadsUnder rule t q (fails r) → s.place ≡ r.place → s ≡ r
+unmixed_agree p q unmixed x y = fails_agree p q (paths_unmixed unmixed x y)
+
 -- no path fails before the stop that is noted, and none fails there for another reason
 none_before : {t : List ℕ} {paths : List Path} {spans : List (Option Span)} {s r : Stop} {rule : KeyRule} (k : ℕ) (path : Path) → IsUnmixed paths → SomeFail rule t paths s
     → slice_get paths k ≡ Some path → IsSlot rule t (record { spans = spans; nearest = Some s }) k path → LeadsUnder rule t path (fails r) → (r ≡ s) ⊎ (s.place < r.place)
@@ -198,9 +202,7 @@ none_before {paths = paths} {s = s} {r} k path unmixed x is (slot_failed {s = q}
     let same : q ≡ r = cc in
     let near : s.place ≤ r.place = rw same at n in
     elim (cases_order s.place r.place) [
-      | inl equal ↦
-          let mix = paths_unmixed unmixed (contained paths x.number x.is) (contained paths k is) in
-          inl (sym (fails_agree x.path path mix x.leads e equal))
+      | inl equal ↦ inl (sym (unmixed_agree x.path path unmixed (contained paths x.number x.is) (contained paths k is) x.leads e equal))
       | inr (inl less) ↦ inr less
       | inr (inr more) ↦ absurd (omega (arith, near, more))
     ]

@@ -6,7 +6,8 @@ use Rattle.std.specs.declared.option.Option.{Option}
 use Rattle.std.specs.declared.option.Option.TheVariants.{Some, None}
 use Rattle.sonic_text.specs.Paths.{Path}
 use Rattle.sonic_find.specs.declared.located.Located.{Located}
-use Rattle.sonic_find.specs.Answers.{Span, spans, AllLead, IsAnswer, ComeTo}
+use Rattle.sonic_find.specs.Answers.{Span, spans, IsAnswer, ComeTo}
+use Rattle.sonic_find.specs.Internal.FirstAnswers.{AllLead}
 use Rattle.sonic_find.specs.Answers.AllLeadBy.{no_more, one_more}
 use Rattle.sonic_find.specs.Answers.ComeTo.{no_path, finding}
 use Rattle.sonic_find.specs.Internal.Located.{slot_at, spans_of}

@@ -7,7 +7,7 @@ use Rattle.sonic_find.proofs.PathLemmas.Lead.{none_leads, one_more_unnamed, not_
 use Rattle.sonic_find.proofs.PathLemmas.Outcome.{nowhere_past, evaluates_one, evaluates_some, cut_is_fault, ends_before_end, ends_before_fault, EndsAt}
 use Rattle.sonic_find.proofs.PathLemmas.Rule.{by_named, by_first}
 use Rattle.sonic_find.specs.Internal.Follow.{IsDeadEnd, stops_so, lacks_so, IsDeadNode, LacksNode, IsTried, IsRest}
-use Rattle.sonic_find.specs.Internal.Walk.{IsStopped, fails_so, cut_so, IsNoEntry}
+use Rattle.sonic_find.specs.Internal.Walk.{IsPathStop, fails_so, cut_so, IsNoEntry}
 use Rattle.sonic_find.specs.Paths.{Outcome, lacks, fails, cut, past_end, kind_of, IsNamed, NoneNamed, LeadsOn, LeadsBy, EvaluatesBy, found, LeadsUnder, Leads}
 use Rattle.sonic_find.specs.Paths.EvaluatesBy.{found_here, leads_nowhere, cut_here, cut_before}
 use Rattle.sonic_pointer.specs.declared.node.PointerNode.{PointerNode}
@@ -111,7 +111,7 @@ tried_leads {t} {n = n} {h} {v} {node} before x =
     named_leads before item
 
 -- where the rest of a path stops, the whole path does
-pub rest_stopped : {t : List ℕ} {i v : ℕ} {path rest : Path} {s : Stop} {rule : KeyRule} → IsRest rule t i path v rest → IsStopped rule t v rest s → IsStopped rule t i path s
+pub rest_stopped : {t : List ℕ} {i v : ℕ} {path rest : Path} {s : Stop} {rule : KeyRule} → IsRest rule t i path v rest → IsPathStop rule t v rest s → IsPathStop rule t i path s
 rest_stopped up (fails_so e) = fails_so (up _ e)
 rest_stopped up (cut_so e) = cut_so (up _ e)
 

@@ -1,5 +1,5 @@
 -- The span of a value is UTF-8 where the text is, and so is the text up to its end.
-use Rattle.std.proofs.Common.{◌≡◌, codes, ℕ, ◌+◌, ◌-◌, ◌<◌, List, true, false, length, arith, ◌≤◌, take, drop, add-zero}
+use Rattle.std.proofs.Common.{◌≡◌, codes, ℕ, ◌+◌, ◌-◌, ◌<◌, List, length, arith, ◌≤◌, take, drop, add-zero}
 use Rattle.std.proofs.lemmas.List.{length-take, get_or-take, drop-take, take-take}
 use Rattle.std.proofs.lemmas.Str.{IsUtf8-between, IsUtf8-take, IsCharBoundary-after_ascii}
 use Rattle.std.specs.Prelude.{slice_range}

@@ -16,10 +16,6 @@ pub data AllLeadBy (r : KeyRule) (t : List ℕ) : List Path → List Outcome →
   one_more : {path : Path} {paths : List Path} {o : Outcome} {os : List Outcome} → LeadsUnder r t path o → AllLeadBy r t paths os
       → AllLeadBy r t (path ∷ paths) (o ∷ os)
 
--- and by first equal keys
-abbrev pub AllLead : List ℕ → List Path → List Outcome → Type 0
-AllLead t paths os = AllLeadBy First t paths os
-
 -- some path fails at this stop: at the least place of all that fail, and of those that fail there it is the first
 pub data IsNearest : List Outcome → Stop → Type 0 where
   nearest_here : {s : Stop} {os : List Outcome} → ((r : Stop) → Contains os (fails r) → s.place ≤ r.place) → IsNearest (fails s ∷ os) s

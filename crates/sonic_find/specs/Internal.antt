@@ -1,6 +1,7 @@
 -- What serves the steps of walks, and the calls that the crates above make of them.
 pub mod Collected
 pub mod Fill
+pub mod FirstAnswers
 pub mod Follow
 pub mod Located
 pub mod Marks

@@ -1,10 +1,10 @@
 -- What the laws say of paths, of their answers, and of documents.
-use Rattle.std.specs.Prelude.{◌≡◌, ◌⊎◌, ℕ, ◌+◌, Bool, List, [], ◌∷◌, ◌++◌, Option, Some, None}
+use Rattle.std.specs.Prelude.{◌≡◌, ◌⊎◌, ℕ, ◌+◌, Bool, List, [], ◌∷◌, Option, Some, None}
 use Rattle.sonic_error.specs.declared.code.ErrorCode.TheVariants.{GetUnknownKeyInObject}
 use Rattle.sonic_text.specs.declared.stop.Stop.{Stop}
-use Rattle.sonic_text.specs.Paths.{Node, Path}
+use Rattle.sonic_text.specs.Paths.{Path}
 use Rattle.sonic_find.specs.Answers.{Span, spans, error, IsGetAnswer, span_text}
-use Rattle.sonic_find.specs.Paths.{Outcome, found, lacks, fails, cut, kind_of, Leads}
+use Rattle.sonic_find.specs.Paths.{Outcome, found, lacks, fails, cut, Leads}
 
 -- this holds of something, and of nothing else
 pub record ExactlyOne {A : Type 0} (Holds : A → Type 0) : Type 0 where
@@ -16,10 +16,6 @@ pub record HoldsOrHasOneReason (Holds : Type 0) (Fails : Stop → Type 0) : Type
   pub some_reason : Holds ⊎ ((s : Stop) × Fails s)
   pub one_reason : (s r : Stop) → Fails s → Fails r → s ≡ r
   pub never_both : (s : Stop) → Holds → Fails s → ⊥
-
--- after each prefix that the two paths share, their next nodes ask for one kind of container: both are keys, or both indexes
-abbrev pub MixNowhere : Path → Path → Type 0
-MixNowhere p q = (prefix r s : Path) (a b : Node) → p ≡ prefix ++ a ∷ r → q ≡ prefix ++ b ∷ s → kind_of a ≡ kind_of b
 
 -- the entry says what get answers of the path: the span of its value, or none where an object lacks its key
 pub data IsGetEntry (t : List ℕ) (is_bytes : Bool) (path : Path) : Option Span → Type 0 where

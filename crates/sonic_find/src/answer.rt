@@ -11,7 +11,7 @@ ghost use Rattle.sonic_parser.specs.Honest.{IsHonest};
 ghost use Rattle.sonic_find.specs.Answers.{IsAnswerBy, Answer};
 ghost use Rattle.sonic_find.specs.Causes.{IsAnswerableBy, IsRefusalBy};
 ghost use Rattle.sonic_find.specs.Internal.Located.{AreParts, HaveStatuses, span_at, spans_of};
-ghost use Rattle.sonic_find.specs.Internal.Walk.{root_point, IsStop, IsError, IsFurthest, IsReached};
+ghost use Rattle.sonic_find.specs.Internal.Walk.{root_point, IsStop, IsError, IsFurthest, AllReached};
 
 use crate::located::Located;
 use crate::state::Walk;
@@ -34,8 +34,13 @@ struct Reached<'de> {
 /// Where the values are that the paths of a tree find in an input under a rule, in the order of the
 /// paths, with `None` for one that lacks its key.
 ///
-/// What follows the last byte that the paths need plays no part. It is what `get_many_with` of
-/// `sonic_lazy` makes its lazy values of, and [`find_many`](crate::find_many) its spans.
+/// The nearest place at which another path leads nowhere is the error, or the fault of the text,
+/// whichever comes first; where there is neither, the first byte that isn't UTF-8. What follows the
+/// last byte that the paths need plays no part. It is what `get_many_with` of `sonic_lazy` makes its
+/// lazy values of, and [`find_many`](crate::find_many) its spans.
+///
+/// With the path `["a"]` over `{"a":1,"a":2}` it is from 5 to 6 by `First`, and from 11 to 12 by
+/// `Last`.
 pub fn locate_many<'de, I: JsonInput<'de>>(
     alloc: Global,
     json: I,
@@ -100,7 +105,7 @@ fn reach<'de>(
     requires some { tree.now ≢ [] }
     ensures text { IfOk result (λ x. x.text.now ≡ read.entry.text) }
     ensures reached { IfOk result (λ x.
-        IsReached rule read.entry.text tree.now (spans_of x.found.items) x.reach) }
+        AllReached rule read.entry.text tree.now (spans_of x.found.items) x.reach) }
     ensures statuses { IfOk result (λ x. HaveStatuses read.entry.text x.found.items) }
     ensures err { IfErr result (IsStopFor (IsStop (root_point rule read.entry.text tree.now) false)) }
 {

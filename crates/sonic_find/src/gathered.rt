@@ -16,7 +16,7 @@ ghost use Rattle.sonic_parser.specs.Faults.{IsStopFor};
 ghost use Rattle.sonic_find.specs.Internal.Collected.{AllCollected, NodeCollected, IsFailBelow};
 ghost use Rattle.sonic_find.specs.Internal.Fill.{IsNoted};
 ghost use Rattle.sonic_find.specs.Internal.Follow.{IsDeadNode, LacksNode};
-ghost use Rattle.sonic_find.specs.Internal.Marks.{AreMarks, IsClosed, IsLevel, IsMarked, IsMarkedItem, IsMarking, IsPassedBy, IsWholeMark, KeptBeside, NodeSays, SaysAll, IsLive};
+ghost use Rattle.sonic_find.specs.Internal.Marks.{AreMarks, IsClosed, IsWholeLevel, IsMarked, IsMarkedItem, IsMarking, IsPassedBy, IsWholeMark, KeptBeside, NodeSays, SaysAll, IsLive};
 ghost use Rattle.sonic_find.specs.Internal.View.{container_at, marked_at, marking_at, point_at};
 ghost use Rattle.sonic_find.specs.Internal.Walk.{AllSettled, AreFindings, ComesTo, IsLater, IsStop};
 ghost use Rattle.sonic_find.specs.Paths.{empty_code, kind_of, wanted_of};
@@ -36,7 +36,7 @@ use sonic_text::{Kind, Stop, byte_at, type_of};
 // has to be whole.
 pub(crate) fn follow_whole(walk: &mut Walk<'_>, level: &Level<'_, '_>) -> Result<(), Fault>
     requires start { level.now.start ≡ walk.old.place }
-    requires level { IsLevel (container_at walk.old.rule walk.old.text level.now) }
+    requires level { IsWholeLevel (container_at walk.old.rule walk.old.text level.now) }
     requires object { level.now.kind ≡ Kind.Object }
     requires some { level.now.view.now.children ≢ List.[] }
     requires comes { ComesTo (point_at walk.old level.now.view.now) }
@@ -141,7 +141,7 @@ fn passed(walk: &Walk<'_>, start: usize, status: ParseStatus, has_items: bool) -
 // Passes the items of the level's container, from the first one on, up to its end.
 #[cycle(gather)]
 fn members(walk: &mut Walk<'_>, level: &Level<'_, '_>) -> Result<(), Fault>
-    requires level { IsLevel (container_at walk.old.rule walk.old.text level.now) }
+    requires level { IsWholeLevel (container_at walk.old.rule walk.old.text level.now) }
     requires marking { IsMarking (marking_at walk.old level.now.view.now)
         (container_at walk.old.rule walk.old.text level.now) 0 walk.old.place }
     ensures closed { OnOk result (IsClosed (marking_at walk.new level.now.view.now)
@@ -168,7 +168,7 @@ fn members(walk: &mut Walk<'_>, level: &Level<'_, '_>) -> Result<(), Fault>
 // Passes the item at the cursor, and gathers it where it is a child that may count.
 #[cycle(gather)]
 fn member(walk: &mut Walk<'_>, level: &Level<'_, '_>, passed: usize) -> Result<(), Fault>
-    requires level { IsLevel (container_at walk.old.rule walk.old.text level.now) }
+    requires level { IsWholeLevel (container_at walk.old.rule walk.old.text level.now) }
     requires marking { IsMarking (marking_at walk.old level.now.view.now)
         (container_at walk.old.rule walk.old.text level.now) passed walk.old.place }
     ensures marked { OnOk result (IsMarkedItem (marking_at walk.new level.now.view.now)

@@ -1,4 +1,5 @@
 ghost use Rattle.std.specs.Prelude.{◌≡◌, ◌<◌, ◌+◌, ◌++◌, ◌↔◌, ℕ, Bool, List, Option, false, slice_range};
+ghost use Rattle.std.specs.List.{Contains};
 ghost use Rattle.std.specs.Str.{IsUtf8};
 ghost use Rattle.sonic_text.specs.declared.stop.Stop.{Stop};
 ghost use Rattle.sonic_text.specs.Documents.{IsRootFault, StartsWithUtf8Value};
@@ -6,8 +7,9 @@ ghost use Rattle.sonic_text.specs.Paths.{Node, Path};
 ghost use Rattle.sonic_find.specs.Answers.{IsAnswer, IsAnswerBy, IsGetAnswer, Span, spans, span_text};
 ghost use Rattle.sonic_find.specs.Documents.{IsValidDocument, IsInvalid};
 ghost use Rattle.sonic_find.specs.FirstPaths.{EvaluatesFirst};
-ghost use Rattle.sonic_find.specs.Laws.{AreGetAnswers, ExactlyOne, HoldsOrHasOneReason, Finds, LeadsInPart, MixNowhere, outcome_in_whole};
+ghost use Rattle.sonic_find.specs.Laws.{AreGetAnswers, ExactlyOne, HoldsOrHasOneReason, Finds, LeadsInPart, outcome_in_whole};
 ghost use Rattle.sonic_find.specs.Paths.{Outcome, EvaluatesBy, Leads, LeadsUnder, found, lacks, fails, cut};
+ghost use Rattle.sonic_pointer.specs.Paths.{IsUnmixed};
 ghost use Rattle.sonic_pointer.specs.declared.rule.KeyRule.{KeyRule};
 ghost use Rattle.sonic_pointer.specs.declared.rule.KeyRule.TheVariants.{First, Refuse};
 
@@ -59,14 +61,15 @@ pub fn outcomes_come_before_the_fault()
         → LeadsUnder r t path (lacks q) → q < f.place }
 {}
 
-/// A law of two paths that don't mix keys and indexes after one prefix: where both fail at one
-/// place, they fail for one reason.
+/// A law of two paths of a list in which the nodes that follow one prefix have one kind, as those of a
+/// tree are (the clause `unmixed` of `PointerTree::view`): where both fail at one place, they fail for
+/// one reason.
 ///
-/// Of `["a"]` and `[0]`, which do mix, the first fails in `7` as no object is there, and the
-/// second as no array does, both at the `7`.
-#[tactic(auto, using(crate::proofs::PathLemmas::Outcome::fails_agree))]
+/// Of `["a"]` and `[0]`, which no tree has both, the first fails in `7` as no object is there, and the
+/// second as no array is, both at the `7`.
 pub fn fails_at_one_place_agree()
-    ensures { (r : KeyRule) (t : List ℕ) (p q : List Node) (s f : Stop) → MixNowhere p q
+    ensures { (r : KeyRule) (t : List ℕ) (paths : List Path) (p q : Path) (s f : Stop) → IsUnmixed paths
+        → Contains paths p → Contains paths q
         → LeadsUnder r t p (fails s) → LeadsUnder r t q (fails f) → s.place ≡ f.place → s ≡ f }
 {}
 

@@ -10,11 +10,11 @@ ghost use Rattle.sonic_pointer.specs.Nodes.{node_of};
 ghost use Rattle.sonic_pointer.specs.Paths.{IsChildren};
 ghost use Rattle.sonic_find.specs.Answers.{IsAnswer, Answer};
 ghost use Rattle.sonic_find.specs.Causes.{IsAnswerable, IsAnswerError};
-ghost use Rattle.sonic_find.specs.Internal.Fill.{filling_at, origin_at, IsNoted, IsFuller, AllSlots, NodeSlots, IsBegun};
+ghost use Rattle.sonic_find.specs.Internal.Fill.{filling_at, origin_at, IsNoted, IsFuller, AllSlots, NodeSlots, IsFillBegun};
 ghost use Rattle.sonic_find.specs.Internal.Follow.{IsDeadNode, LacksNode};
 ghost use Rattle.sonic_find.specs.Internal.Located.{IsStatus};
 ghost use Rattle.sonic_find.specs.Internal.Steps.{HasWhole};
-ghost use Rattle.sonic_find.specs.Internal.Walk.{IsFilled, IsError};
+ghost use Rattle.sonic_find.specs.Internal.Walk.{AreSetTo, IsError};
 ghost use Rattle.sonic_find.specs.Paths.{LeadsOn};
 ghost use Rattle.sonic_find.specs.Spans.{pairs_of};
 ghost use Rattle.sonic_pointer.specs.declared.rule.KeyRule.TheVariants.{First};
@@ -112,7 +112,7 @@ fn note(nearest: &mut Option<Stop>, stop: Stop)
 // Fills the slots of the paths of these numbers.
 fn keep(slots: &mut [Option<Span>], orders: &[usize], span: Span)
     requires { (k : ℕ) → Contains orders.now k → k < length slots.old }
-    ensures { IsFilled orders.now slots.old slots.new span }
+    ensures { AreSetTo orders.now slots.old slots.new span }
 {
     for order in orders {
         slots[*order] = Some(span);
@@ -127,7 +127,7 @@ fn fill(
     slots: &mut [Option<Span>],
     nearest: &mut Option<Stop>,
 )
-    requires { IsBegun (origin_at origin view.now) (filling_at slots.old nearest.old) }
+    requires { IsFillBegun (origin_at origin view.now) (filling_at slots.old nearest.old) }
     ensures fuller { IsFuller First origin.entry.text.now view.now.paths (filling_at slots.old nearest.old)
         (filling_at slots.new nearest.new) }
     ensures all { AllSlots (origin_at origin.entry view.now) (filling_at slots.new nearest.new) }
@@ -154,7 +154,7 @@ fn fill_child(
 )
     requires child { i < length view.now.children }
     requires children { IsChildren view.now.paths view.now.prefix view.now.children }
-    requires begun { IsBegun (origin_at origin view.now) (filling_at slots.old nearest.old) }
+    requires begun { IsFillBegun (origin_at origin view.now) (filling_at slots.old nearest.old) }
     ensures fuller { IsFuller First origin.entry.text.now view.now.paths (filling_at slots.old nearest.old)
         (filling_at slots.new nearest.new) }
     ensures all { (node : Node) → slice_get view.now.children i ≡ Some node
@@ -226,6 +226,9 @@ pub fn find_many_unchecked<'de, I: JsonInput<'de>>(
 
 /// Where the value of a span is, and whether it is a string with a backslash, for which a string
 /// alone is read: what `get_many_unchecked` of `sonic_lazy` makes of a span.
+///
+/// Of `["a\n"]` the span from 1 to 6 has `ParseStatus::HasEscaped`, and that from 0 to 7, which is no
+/// string, has `ParseStatus::None`.
 pub fn with_status(text: &[u8], span: Span) -> Located
     requires { IsValue strict text.now span.start span.end }
     ensures start { result.start ≡ span.start }

@@ -10,7 +10,7 @@ ghost use Rattle.sonic_find.specs.Answers.{Answer, IsGetAnswer};
 ghost use Rattle.sonic_find.specs.Internal.Follow.{IsDeadEnd, IsDeadNode, LacksNode, IsTried, IsRest};
 ghost use Rattle.sonic_find.specs.Internal.Located.{IsStatus};
 ghost use Rattle.sonic_find.specs.Internal.Steps.{IsAtKey, IsSkippable};
-ghost use Rattle.sonic_find.specs.Internal.Walk.{IsStopped};
+ghost use Rattle.sonic_find.specs.Internal.Walk.{IsPathStop};
 ghost use Rattle.sonic_find.specs.Paths.{found, lacks, kind_of, Evaluates, LeadsOn};
 ghost use Rattle.sonic_pointer.specs.declared.rule.KeyRule.TheVariants.{First};
 
@@ -26,8 +26,9 @@ use std::alloc::Global;
 
 /// Where the value is to which a path leads from the value at the cursor of the steps.
 ///
-/// Steps that look at nothing take no memory, and give no `Fault::OutOfMemory`. Over `[5,{"a":7}]`
-/// the path `[1, "a"]` leads to the `7`, from 8 to 9.
+/// Else the stop is where it leads nowhere, or the fault of the text before that. Steps that look at
+/// nothing take no memory, and give no `Fault::OutOfMemory`. Over `[5,{"a":7}]` the path `[1, "a"]`
+/// leads to the `7`, from 8 to 9.
 pub fn locate(steps: &mut Steps<'_>, path: &[PointerNode<'_>]) -> Result<Located, Fault>
     requires { IsSkippable steps.old }
     ensures ok { IfOk result (λ x.
@@ -53,8 +54,11 @@ pub fn locate(steps: &mut Steps<'_>, path: &[PointerNode<'_>]) -> Result<Located
 /// Where the value is to which a path leads from the start of a text, up to whose end this is UTF-8,
 /// where it came as bytes.
 ///
-/// What follows the value plays no part. It is what `get` of `sonic_lazy` makes its lazy value of,
-/// and [`find`](crate::find) its span.
+/// Else the stop is where it leads nowhere, or the fault of the text before that, or, where it leads to
+/// a value, the first byte up to its end that isn't UTF-8. What follows the value plays no part. It is
+/// what `get` of `sonic_lazy` makes its lazy value of, and [`find`](crate::find) its span.
+///
+/// The path `["a", 1]` over `{"a":[2,3]` leads to the `3`, from 8 to 9.
 pub fn locate_from(
     alloc: Global,
     read: Read<'_>,
@@ -88,7 +92,7 @@ fn follow(steps: &mut Steps<'_>, path: &[PointerNode<'_>]) -> Result<bool, Fault
     ensures lacks { IfOk result (λ on. on ≡ false → (0 < steps.new.place)
         × Evaluates steps.old.text steps.old.place (path_of path.now) (lacks (steps.new.place - 1))) }
     ensures moved { OnOk result (steps.new ≡ record steps.old { place = steps.new.place }) }
-    ensures err { IfErr result (IsStopFor (IsStopped First steps.old.text steps.old.place
+    ensures err { IfErr result (IsStopFor (IsPathStop First steps.old.text steps.old.place
         (path_of path.now))) }
     ensures memory { IsErrOf result Fault.OutOfMemory → steps.old.checks ≡ true }
 {

@@ -1,9 +1,8 @@
 // What a walk through a text has come to.
 ghost use Rattle.std.specs.Prelude.{◌≡◌, ◌≢◌, ◌⊎◌, ◌<◌, ◌≤◌, ◌^◌, ◌+◌, ℕ, List, Some, None, true, false, length, replicate, set, slice_get, IfOk, IfErr, OnOk};
 ghost use Rattle.std.specs.List.{Contains};
-ghost use Rattle.sonic_text.specs.Places.{after_space};
+ghost use Rattle.sonic_text.specs.Places.{after_space, byte};
 ghost use Rattle.sonic_text.specs.Strings.{IsString, strict};
-ghost use Rattle.sonic_text.specs.Places.{byte};
 ghost use Rattle.sonic_text.specs.Values.{opening, IsValue, IsKey, ItemsFit};
 ghost use Rattle.sonic_text.specs.Faults.{IsFault, IsKeyFault};
 ghost use Rattle.sonic_parser.specs.Containers.{IsEnd, IsSeparated, IsSeparatorFault};
@@ -11,7 +10,7 @@ ghost use Rattle.sonic_parser.specs.Faults.{IsStopFor};
 ghost use Rattle.sonic_pointer.specs.declared.rule.KeyRule.TheVariants.{First, Refuse};
 ghost use Rattle.sonic_find.specs.declared.marks.Mark.{Mark};
 ghost use Rattle.sonic_find.specs.Internal.Located.{IsStatus, HaveStatuses, span_at, spans_of};
-ghost use Rattle.sonic_find.specs.Internal.Walk.{IsNoEntry, IsFilled};
+ghost use Rattle.sonic_find.specs.Internal.Walk.{IsNoEntry, AreSetTo};
 
 use crate::located::Located;
 use crate::marks::Mark;
@@ -211,7 +210,7 @@ impl<'de> Walk<'de> {
     pub(crate) fn keep(&mut self, orders: &[usize], start: usize, status: ParseStatus)
         requires known { (k : ℕ) → Contains orders.now k → k < length self.old.findings.spans }
         requires status { IsStatus self.old.text start self.old.place status }
-        ensures filled { IsFilled orders.now self.old.findings.spans self.new.findings.spans
+        ensures filled { AreSetTo orders.now self.old.findings.spans self.new.findings.spans
             (start, self.old.place) }
         ensures kept { self.new ≡ record self.old {
           findings =
@@ -226,7 +225,7 @@ impl<'de> Walk<'de> {
     pub(crate) fn keep_value(&mut self, orders: &[usize], value: Located)
         requires known { (k : ℕ) → Contains orders.now k → k < length self.old.findings.spans }
         requires status { IsStatus self.old.text value.start value.end value.status }
-        ensures filled { IsFilled orders.now self.old.findings.spans self.new.findings.spans
+        ensures filled { AreSetTo orders.now self.old.findings.spans self.new.findings.spans
             (span_at value) }
         ensures kept { self.new ≡ record self.old {
           findings =
@@ -272,7 +271,7 @@ fn marks(alloc: Global, rule: KeyRule, prefixes: usize) -> Result<Vec<Mark>, All
 #[tactic(auto, using(crate::proofs::WalkLemmas::List::fillings))]
 fn fill(spans: &mut Vec<Option<Located>>, orders: &[usize], value: Located)
     requires { (k : ℕ) → Contains orders.now k → k < length spans.old.items }
-    ensures { IsFilled orders.now spans.old.items spans.new.items value }
+    ensures { AreSetTo orders.now spans.old.items spans.new.items value }
 {
     for order in orders {
         spans[*order] = Some(value);

@@ -5,11 +5,12 @@ ghost use Rattle.sonic_text.specs.Strings.{strict};
 ghost use Rattle.sonic_text.specs.Paths.{Node};
 ghost use Rattle.sonic_text.specs.Values.{IsValue};
 ghost use Rattle.sonic_text.specs.Faults.{IsKeyFault};
-ghost use Rattle.sonic_pointer.specs.Paths.{HasPrefix, IsChildren};
+ghost use Rattle.sonic_pointer.specs.Internal.Prefixes.{HasPrefix};
+ghost use Rattle.sonic_pointer.specs.Paths.{IsChildren};
 ghost use Rattle.sonic_parser.specs.Faults.{IsStopFor};
 ghost use Rattle.sonic_find.specs.Internal.Located.{IsStatus};
 ghost use Rattle.sonic_find.specs.Paths.{kind_of};
-ghost use Rattle.sonic_find.specs.Internal.Walk.{IsStop, ComesTo, AreFindings, IsLater, AllSettled, BelowSettled, IsContainer, IsFollowed, IsPassed, IsWanted, IsItem, SomeOpen};
+ghost use Rattle.sonic_find.specs.Internal.Walk.{IsStop, ComesTo, AreFindings, IsLater, AllSettled, BelowSettled, IsContainer, IsFollowed, IsItemPassed, IsWanted, IsChildItem, SomeOpen};
 ghost use Rattle.sonic_find.specs.Internal.Marks.{KeepsMarks};
 ghost use Rattle.sonic_find.specs.Internal.View.{point_at, container_at, marking_at, progress_at};
 
@@ -108,8 +109,7 @@ fn items(walk: &mut Walk<'_>, level: &Level<'_, '_>) -> Result<bool, Fault>
         walk.new.findings) }
     ensures settled { OnOk result (BelowSettled (container_at walk.old.rule walk.old.text level.now).point
         walk.new.findings) }
-    ensures whole { IfOk result (λ whole. whole ≡ true
-        → IsValue strict walk.old.text walk.old.place walk.new.place) }
+    ensures whole { IfOk result (λ whole. whole ≡ true → IsValue strict walk.old.text walk.old.place walk.new.place) }
     ensures status { IfOk result (λ whole. whole ≡ true
         → IsStatus walk.old.text walk.old.place walk.new.place ParseStatus.None) }
     ensures unneeded { IfOk result (λ whole. whole ≡ false
@@ -150,7 +150,7 @@ fn item(
     requires wanted { IsWanted (container_at walk.old.rule walk.old.text level.now)
         (progress_at passed walk.old.place visited.old walk.old.findings) }
     requires marks { KeepsMarks (marking_at walk.old level.now.view.now) walk.old.place }
-    ensures passed { OnOk result (IsPassed (container_at walk.old.rule walk.old.text level.now)
+    ensures passed { OnOk result (IsItemPassed (container_at walk.old.rule walk.old.text level.now)
         (progress_at passed walk.old.place visited.new walk.new.findings) walk.new.place) }
     ensures later { OnOk result (IsLater walk.old.rule walk.old.text level.now.view.now.paths walk.old.findings
         walk.new.findings) }
@@ -188,7 +188,7 @@ pub(crate) fn head(
     level: &Level<'_, '_>,
     passed: usize,
 ) -> Result<Option<usize>, Stop>
-    ensures item { IfOk result (λ child. IsItem (container_at walk.old.rule walk.old.text level.now) passed
+    ensures item { IfOk result (λ child. IsChildItem (container_at walk.old.rule walk.old.text level.now) passed
         walk.old.place walk.new.place child) }
     ensures moved { OnOk result (walk.new ≡ record walk.old { place = walk.new.place }) }
     ensures later { OnOk result (walk.old.place ≤ walk.new.place) }

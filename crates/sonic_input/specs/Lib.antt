@@ -1,3 +1,3 @@
 pub mod Cursors
-pub mod Reads
+pub mod Internal
 pub mod Slices

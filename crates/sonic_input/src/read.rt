@@ -39,11 +39,11 @@ impl<'de> Model for Read<'de> {
 
     ghost Value = { Cursor };
 
-    ghost use Rattle.sonic_input.specs.Reads.{cursor_of, IsRead};
+    ghost use Rattle.sonic_input.specs.Internal.Reads.{cursor_of, IsSoundRead};
 
     ghost view = { cursor_of };
 
-    ghost invariant = { IsRead };
+    ghost invariant = { IsSoundRead };
 }
 
 // The first place from `place` on where the UTF-8 of the bytes from there is broken.

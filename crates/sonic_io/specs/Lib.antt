@@ -1,3 +1,4 @@
 pub mod Buffers
 pub mod Memory
 pub mod Outside
+pub mod System

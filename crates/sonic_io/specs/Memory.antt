@@ -40,3 +40,21 @@ portion supply room = min room (min supply.piece (length supply.left))
 -- the bytes without the first so many
 abbrev pub without : Supply → ℕ → Supply
 without supply count = record { left = drop count supply.left; piece = supply.piece }
+
+-- a source: its bytes, and its calls
+pub record Stocked : Type 0 where
+  pub stock : Supply
+  pub calls : CallState
+
+-- one byte, and how many times it is still to be given
+pub record Repeated : Type 0 where
+  pub byte : ℕ
+  pub times : ℕ
+
+-- a sink: the bytes that it has taken, for how many it has room in all and memory, how many a call takes at most, and its calls
+pub record Holding : Type 0 where
+  pub held : List ℕ
+  pub room : ℕ
+  pub reserved : ℕ
+  pub piece : ℕ
+  pub calls : CallState

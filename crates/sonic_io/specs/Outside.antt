@@ -22,3 +22,7 @@ Took before after bytes = after ≡ append_known before bytes
 -- a prefix of these bytes was written after the others
 abbrev pub TookPrefix : Option (List ℕ) → Option (List ℕ) → List ℕ → Type 0
 TookPrefix before after bytes = (prefix rest : List ℕ) × (bytes ≡ prefix ++ rest) × Took before after prefix
+
+-- how many bytes an input may have: 256 MiB
+abbrev pub input_limit : ℕ
+input_limit = 268435456

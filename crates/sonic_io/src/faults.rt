@@ -9,13 +9,21 @@ use std::marker::Model;
 /// How many calls failed. After 2^64 - 1 of them the count stays.
 #[derive(Debug, Drop)]
 pub struct Faults {
-    pub(crate) count: u64,
+    count: u64,
+}
+
+impl Model for Faults {
+    ghost use Rattle.std.specs.Prelude.{ℕ};
+
+    ghost Value = { ℕ };
+
+    ghost view = { λ faults. faults.count };
 }
 
 impl Faults {
     /// No call has failed yet.
     pub fn new() -> Faults
-        ensures { result.count ≡ 0 }
+        ensures { result ≡ 0 }
     {
         Faults { count: 0 }
     }
@@ -24,7 +32,7 @@ impl Faults {
     ///
     /// After a first fault the count is 1.
     pub fn fail(&mut self) -> Failed
-        ensures { Rose self.old.count self.new.count }
+        ensures { Rose self.old self.new }
     {
         self.count = self.count.saturating_add(1);
         Failed
@@ -47,7 +55,7 @@ impl Model for Calls {
 
     ghost Value = { CallState };
 
-    ghost view = { λ calls. record { fails = calls.fails.items; number = calls.number; faults = calls.faults.count } };
+    ghost view = { λ calls. record { fails = calls.fails.items; number = calls.number; faults = calls.faults } };
 }
 
 impl Calls {

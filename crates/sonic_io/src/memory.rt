@@ -1,5 +1,5 @@
 //! The sources and the sinks over memory.
-ghost use Rattle.std.specs.Prelude.{◌≡◌, ◌↔◌, ◌⊎◌, ◌++◌, ◌-◌, ◌<◌, ◌≤◌, min, Some, None, List, [], length, take, replicate, vec_capacity, IsOk, IfOk, IfErr, IsErr, OnOk, OnErr};
+ghost use Rattle.std.specs.Prelude.{◌≡◌, ◌↔◌, ◌⊎◌, ◌++◌, ◌-◌, ◌<◌, ◌≤◌, min, Ok, Some, None, List, [], length, take, replicate, vec_capacity, IsOk, IfOk, IfErr, IsErr, OnOk, OnErr};
 ghost use Rattle.std.specs.Io.KnownBytes.{IsAtEnd};
 ghost use Rattle.sonic_error.specs.Errors.{IsPlainError};
 ghost use Rattle.sonic_io.specs.Memory.{Supply, IsToFail, uncalled, worked, failed, portion, without};
@@ -66,6 +66,14 @@ pub struct SureSource {
     stock: Stock,
 }
 
+impl Model for SureSource {
+    ghost use Rattle.sonic_io.specs.Memory.{Supply};
+
+    ghost Value = { Supply };
+
+    ghost view = { λ source. source.stock };
+}
+
 impl SureSource {
     /// A source of all of `bytes`, that gives at most `piece` of them in one call.
     ///
@@ -73,7 +81,7 @@ impl SureSource {
     pub fn new(bytes: Vec<u8>, piece: usize) -> SureSource
         requires { 1 ≤ piece }
         ensures all { ⟦<SureSource as Source>⟧.left result ≡ Some bytes.items }
-        ensures piece { result.stock.piece ≡ piece }
+        ensures piece { result.piece ≡ piece }
         ensures calm { ⟦<SureSource as Source>⟧.faults result ≡ 0 }
     {
         let stock = Stock::new(bytes, piece);
@@ -82,17 +90,17 @@ impl SureSource {
 }
 
 impl Source for SureSource {
-    ghost left = { λ source. Some source.stock.left };
+    ghost left = { λ source. Some source.left };
 
     ghost faults = { λ _. 0 };
 
     fn read(&mut self, room: &mut [u8]) -> Result<usize, Failed>
         ensures sure { IsOk result }
-        ensures count { IfOk result (λ count. count ≡ portion self.old.stock (length room.old)) }
-        ensures given { IfOk result (λ count. take count room.new ≡ take count self.old.stock.left) }
-        ensures left { IfOk result (λ count. self.new.stock ≡ without self.old.stock count) }
+        ensures count { IfOk result (λ count. count ≡ portion self.old (length room.old)) }
+        ensures given { IfOk result (λ count. take count room.new ≡ take count self.old.left) }
+        ensures left { IfOk result (λ count. self.new ≡ without self.old count) }
         ensures end { IfOk result (λ count.
-            count ≡ 0 → 0 < length room.new → IsAtEnd (Some self.new.stock.left)) }
+            count ≡ 0 → 0 < length room.new → IsAtEnd (Some self.new.left)) }
     {
         Ok(self.stock.give(room))
     }
@@ -103,6 +111,14 @@ impl Source for SureSource {
 pub struct MemorySource {
     stock: Stock,
     calls: Calls,
+}
+
+impl Model for MemorySource {
+    ghost use Rattle.sonic_io.specs.Memory.{Stocked};
+
+    ghost Value = { Stocked };
+
+    ghost view = { λ source. record { stock = source.stock; calls = source.calls } };
 }
 
 impl MemorySource {
@@ -149,6 +165,14 @@ impl Source for MemorySource {
 pub struct RepeatSource {
     byte: u8,
     times: u64,
+}
+
+impl Model for RepeatSource {
+    ghost use Rattle.sonic_io.specs.Memory.{Repeated};
+
+    ghost Value = { Repeated };
+
+    ghost view = { λ source. record { byte = source.byte; times = source.times } };
 }
 
 impl RepeatSource {
@@ -203,13 +227,20 @@ impl SureSink {
 impl Sink for SureSink {
     ghost written = { λ _. None };
 
+    ghost sent = { λ _. None };
+
     ghost faults = { λ _. 0 };
 
-    fn write(&mut self, piece: &[u8]) -> Result<usize, Failed> {
+    fn write(&mut self, piece: &[u8]) -> Result<usize, Failed>
+        requires { 0 < length piece.now }
+        ensures all { result ≡ Ok (length piece.now) }
+    {
         Ok(piece.len())
     }
 
-    fn finish(&mut self) -> Result<(), Failed> {
+    fn finish(&mut self) -> Result<(), Failed>
+        ensures sure { IsOk result }
+    {
         Ok(())
     }
 }
@@ -224,9 +255,24 @@ pub struct MemorySink {
     room: usize,
     piece: usize,
     calls: Calls,
-    ghost within: { length held.items ≤ room },
-    ghost reserved: { room ≤ vec_capacity held },
-    ghost moves: { 1 ≤ piece },
+}
+
+impl Model for MemorySink {
+    ghost use Rattle.std.specs.Prelude.{◌≤◌, length, vec_capacity};
+    ghost use Rattle.sonic_io.specs.Memory.{Holding};
+
+    ghost Value = { Holding };
+
+    ghost view = { λ sink. record {
+      held = sink.held.items;
+      room = sink.room;
+      reserved = vec_capacity sink.held;
+      piece = sink.piece;
+      calls = sink.calls;
+    } };
+
+    ghost invariant = { λ sink.
+        (length sink.held.items ≤ sink.room) × (sink.room ≤ vec_capacity sink.held) × (1 ≤ sink.piece) };
 }
 
 impl MemorySink {
@@ -247,7 +293,7 @@ impl MemorySink {
         ensures room { IfOk result (λ sink. sink.room ≡ room) }
         ensures piece { IfOk result (λ sink. sink.piece ≡ piece) }
         ensures calls { IfOk result (λ sink. sink.calls ≡ uncalled fails.items) }
-        ensures reserved { IfOk result (λ sink. room ≤ vec_capacity sink.held) }
+        ensures reserved { IfOk result (λ sink. room ≤ sink.reserved) }
         ensures only_memory { IfErr result (λ error. IsPlainError error ErrorCode.NoMemory) }
     {
         let Ok(held) = Vec::with_capacity(alloc, room) else {
@@ -271,17 +317,20 @@ impl MemorySink {
 }
 
 impl Sink for MemorySink {
-    ghost written = { λ sink. Some sink.held.items };
+    ghost written = { λ sink. Some sink.held };
+
+    ghost sent = { λ sink. Some sink.held };
 
     ghost faults = { λ sink. sink.calls.faults };
 
     fn write(&mut self, piece: &[u8]) -> Result<usize, Failed>
         requires { 0 < length piece.now }
-        ensures fails { IsErr result ↔ IsToFail self.old.calls ⊎ (self.old.room ≡ length self.old.held.items) }
+        ensures fails { IsErr result ↔ IsToFail self.old.calls ⊎ (self.old.room ≡ length self.old.held) }
         ensures count { IfOk result (λ count.
-            count ≡ min (length piece.now) (min self.old.piece (self.old.room - length self.old.held.items))) }
+            count ≡ min (length piece.now) (min self.old.piece (self.old.room - length self.old.held))) }
+        ensures some { IfOk result (λ count. 0 < count) }
         ensures held { IfOk result (λ count.
-            self.new.held.items ≡ self.old.held.items ++ take count piece.now) }
+            self.new.held ≡ self.old.held ++ take count piece.now) }
         ensures kept { OnErr result (self.new.held ≡ self.old.held) }
         ensures ok { OnOk result (self.new.calls ≡ worked self.old.calls) }
         ensures err { OnErr result (self.new.calls ≡ failed self.old.calls) }

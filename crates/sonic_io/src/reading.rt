@@ -1,8 +1,7 @@
 //! The loop that reads the whole input.
 ghost use Rattle.std.specs.Prelude.{◌≡◌, ◌++◌, ◌+◌, ◌<◌, ◌≤◌, ℕ, List, length, vec_len, IfOk, OnOk, IsErrOf};
 ghost use Rattle.std.specs.Io.KnownBytes.{IsAtEnd};
-ghost use Rattle.sonic_io.specs.Outside.{Rose, Gave};
-ghost use Rattle.sonic_io.specs.declared.reading.TheConstants.{LIMIT};
+ghost use Rattle.sonic_io.specs.Outside.{Rose, Gave, input_limit};
 ghost use Rattle.sonic_io.specs.declared.reading.ReadError.TheVariants.{Memory};
 
 use crate::source::Source;
@@ -41,9 +40,9 @@ impl From<AllocError> for ReadError {
 pub fn read_all<S: Source>(alloc: Global, source: &mut S) -> Result<Vec<u8>, ReadError>
     ensures all { IfOk result (λ bytes. Gave (S.left source.old) (S.left source.new) bytes.items) }
     ensures end { OnOk result (IsAtEnd (S.left source.new)) }
-    ensures within { IfOk result (λ bytes. vec_len bytes ≤ LIMIT) }
+    ensures within { IfOk result (λ bytes. vec_len bytes ≤ input_limit) }
     ensures large { IsErrOf result ReadError.TooLarge
-        → (bytes : List ℕ) × (length bytes ≡ LIMIT + 1)
+        → (bytes : List ℕ) × (length bytes ≡ input_limit + 1)
         × Gave (S.left source.old) (S.left source.new) bytes }
     ensures cause { IsErrOf result ReadError.Fault
         → Rose (S.faults source.old) (S.faults source.new) }

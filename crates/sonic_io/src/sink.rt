@@ -13,6 +13,9 @@ pub trait Sink {
     // The bytes that it has taken, where that is known.
     ghost written: { Self → Option (List ℕ) };
 
+    // The bytes that it has sent on, where that is known.
+    ghost sent: { Self → Option (List ℕ) };
+
     // How many of its calls failed, up to the greatest number of 64 bits.
     ghost faults: { Self → ℕ };
 
@@ -29,8 +32,10 @@ pub trait Sink {
         ensures calm { OnOk result (faults self.new ≡ faults self.old) }
         ensures cause { OnErr result (Rose (faults self.old) (faults self.new)) };
 
-    /// Sends on what was taken and is still held back. To be called once, after the last write.
+    /// Sends on what was taken and is still held back. To be called once, after the last write: nothing
+    /// else says that what was taken was sent on.
     fn finish(&mut self) -> Result<(), Failed>
+        ensures sent { OnOk result (sent self.new ≡ written self.new) }
         ensures kept { written self.new ≡ written self.old }
         ensures calm { OnOk result (faults self.new ≡ faults self.old) }
         ensures cause { OnErr result (Rose (faults self.old) (faults self.new)) };

@@ -1,10 +1,13 @@
 //! The source and the sink over the system, as standard input and output.
-ghost use Rattle.std.specs.Prelude.{◌≡◌, None};
+ghost use Rattle.std.specs.Prelude.{◌≡◌, ◌<◌, ◌≤◌, None, length, IfOk, OnOk, OnErr};
+ghost use Rattle.std.specs.Io.KnownBytes.{Keeps, ReadConsumes, WriteAppends};
+ghost use Rattle.sonic_io.specs.Outside.{Rose};
 
 use crate::faults::Faults;
 use crate::sink::Sink;
 use crate::source::{Failed, Source};
 use std::io::{Read, Write};
+use std::marker::Model;
 
 /// A source over a reader of the system, as standard input.
 ///
@@ -13,6 +16,14 @@ use std::io::{Read, Write};
 pub struct InputSource<R> {
     reader: R,
     faults: Faults,
+}
+
+impl<R> Model for InputSource<R> {
+    ghost use Rattle.sonic_io.specs.System.{Reading};
+
+    ghost Value = { Reading R };
+
+    ghost view = { λ source. record { reader = source.reader; faults = source.faults } };
 }
 
 impl<R: Read> InputSource<R> {
@@ -28,9 +39,14 @@ impl<R: Read> InputSource<R> {
 impl<R: Read> Source for InputSource<R> {
     ghost left = { λ _. None };
 
-    ghost faults = { λ source. source.faults.count };
+    ghost faults = { λ source. source.faults };
 
-    fn read(&mut self, room: &mut [u8]) -> Result<usize, Failed> {
+    fn read(&mut self, room: &mut [u8]) -> Result<usize, Failed>
+        ensures bound { IfOk result (λ count. count ≤ length room.new) }
+        ensures reader { ReadConsumes (R.remaining self.old.reader) (R.remaining self.new.reader) result room.new }
+        ensures calm { OnOk result (self.new.faults ≡ self.old.faults) }
+        ensures cause { OnErr result (Rose self.old.faults self.new.faults) }
+    {
         match self.reader.read(room) {
             Ok(count) => Ok(count),
             Err(_) => Err(self.faults.fail()),
@@ -48,6 +64,14 @@ pub struct OutputSink<W> {
     faults: Faults,
 }
 
+impl<W> Model for OutputSink<W> {
+    ghost use Rattle.sonic_io.specs.System.{Writing};
+
+    ghost Value = { Writing W };
+
+    ghost view = { λ sink. record { writer = sink.writer; faults = sink.faults } };
+}
+
 impl<W: Write> OutputSink<W> {
     /// A sink that writes to `writer`, and has seen no fault.
     pub fn new(writer: W) -> Self
@@ -61,16 +85,28 @@ impl<W: Write> OutputSink<W> {
 impl<W: Write> Sink for OutputSink<W> {
     ghost written = { λ _. None };
 
-    ghost faults = { λ sink. sink.faults.count };
+    ghost sent = { λ _. None };
 
-    fn write(&mut self, piece: &[u8]) -> Result<usize, Failed> {
+    ghost faults = { λ sink. sink.faults };
+
+    fn write(&mut self, piece: &[u8]) -> Result<usize, Failed>
+        requires { 0 < length piece.now }
+        ensures bound { IfOk result (λ count. (0 < count) × (count ≤ length piece.now)) }
+        ensures writer { WriteAppends (W.contents self.old.writer) (W.contents self.new.writer) result piece.now }
+        ensures calm { OnOk result (self.new.faults ≡ self.old.faults) }
+        ensures cause { OnErr result (Rose self.old.faults self.new.faults) }
+    {
         match self.writer.write(piece) {
             Ok(count) if count > 0 => Ok(count),
             _ => Err(self.faults.fail()),
         }
     }
 
-    fn finish(&mut self) -> Result<(), Failed> {
+    fn finish(&mut self) -> Result<(), Failed>
+        ensures writer { Keeps (W.contents self.old.writer) (W.contents self.new.writer) }
+        ensures calm { OnOk result (self.new.faults ≡ self.old.faults) }
+        ensures cause { OnErr result (Rose self.old.faults self.new.faults) }
+    {
         match self.writer.flush() {
             Ok(()) => Ok(()),
             Err(_) => Err(self.faults.fail()),

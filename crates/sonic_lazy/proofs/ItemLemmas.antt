@@ -7,7 +7,7 @@ use Rattle.std.proofs.Math.Seq.{take-length}
 use Rattle.std.proofs.lemmas.Bool.{cases_eq}
 use Rattle.std.proofs.lemmas.Bool.Decides.{nat_tests}
 use Rattle.sonic_error.specs.declared.code.ErrorCode.{ErrorCode}
-use Rattle.sonic_lazy.specs.Internal.Items.{IsAfterItems, before_all, after_last, IsKeyAt, IsHead, no_key, a_key, IsFound, IsFoundPart, IsKeyOf}
+use Rattle.sonic_lazy.specs.Internal.Items.{IsAfterItems, before_all, after_last, IsKeyAt, IsFoundHead, no_key, a_key, IsFound, IsFoundPart, IsKeyOf}
 use Rattle.sonic_lazy.specs.Internal.StringSpans.{IsStringSpan}
 use Rattle.sonic_find.specs.Internal.Steps.{HasWhole}
 use Rattle.sonic_lazy.specs.Items.{ItemsReach, IsItemAt, AreClosed, closed_after, BeginsNoItem, no_quote, text_ends, stop_at, AreStopped, no_container, no_item, no_separator, no_key as key_stops, no_value}
@@ -86,12 +86,12 @@ pub quote_there : {t : List ℕ} {n h : ℕ} → ¬ BeginsNoItem t Object n h �
 quote_there {t} {h = h} begins = elim (cases_eq (byte t h) 34) [ inl e ↦ e | inr other ↦ absurd (begins (no_quote other)) ]
 
 -- of the key and the colon that were passed the member's value is expected
-pub head_of : {t : List ℕ} {kind : Kind} {h v : ℕ} {key : Option StringSpan} → IsHead t kind h v key → (label : Option (List ℕ)) × ItemHead strict t kind h v label
+pub head_of : {t : List ℕ} {kind : Kind} {h v : ℕ} {key : Option StringSpan} → IsFoundHead t kind h v key → (label : Option (List ℕ)) × ItemHead strict t kind h v label
 head_of (no_key e) = (None, no_head e)
 head_of (a_key x) = (Some x.bytes, key_head x.colon)
 
 -- its value is whole where the container is
-pub head_whole : {t : List ℕ} {kind : Kind} {n h v : ℕ} {key : Option StringSpan} → ItemsReach t kind n h → IsHead t kind h v key → HasWhole t (after_space t 0)
+pub head_whole : {t : List ℕ} {kind : Kind} {n h v : ℕ} {key : Option StringSpan} → ItemsReach t kind n h → IsFoundHead t kind h v key → HasWhole t (after_space t 0)
     → HasWhole t v
 head_whole is x y = item_whole y.1 is (head_of x).1
 
@@ -104,7 +104,7 @@ key_stopped {t} {kind} {n} {h} is begins k f =
 
 -- and so does the fault of a value
 pub value_stopped : {t : List ℕ} {kind : Kind} {n h v : ℕ} {key : Option StringSpan} {s : Stop} → ItemsReach t kind n h → ¬ BeginsNoItem t kind n h
-    → IsHead t kind h v key → IsFault strict t v s → AreStopped t kind n s
+    → IsFoundHead t kind h v key → IsFault strict t v s → AreStopped t kind n s
 value_stopped is begins x f = no_value is begins (head_of x).1 f
 
 -- where the items stop is within the text
@@ -174,7 +174,7 @@ key_is_part {t} {h} {v} {key = key} u x l =
     record { bytes = x.bytes; is = own; within = value_within (string own); utf8 = key_utf8 u x.colon l; escaped = escaped }
 
 -- where there is one
-head_is_part : {t : List ℕ} {kind : Kind} {h v e : ℕ} {key : Option StringSpan} → IsUtf8To t e → IsHead t kind h v key → v ≤ e → IfSome key (IsStringSpan t)
+head_is_part : {t : List ℕ} {kind : Kind} {h v e : ℕ} {key : Option StringSpan} → IsUtf8To t e → IsFoundHead t kind h v key → v ≤ e → IfSome key (IsStringSpan t)
 head_is_part u (no_key e) l = tt
 head_is_part u (a_key x) l = key_is_part u x l
 
@@ -197,7 +197,7 @@ err_weaker (Ok x) f h = tt
 err_weaker (Err e) f h = f e h
 
 -- a member has a key
-pub member_key : {t : List ℕ} {kind : Kind} {h v : ℕ} (key : Option StringSpan) → kind ≡ Object → IsHead t kind h v key → IfSome key (IsStringSpan t)
+pub member_key : {t : List ℕ} {kind : Kind} {h v : ℕ} (key : Option StringSpan) → kind ≡ Object → IsFoundHead t kind h v key → IfSome key (IsStringSpan t)
     → IsKeyOf t key
 member_key None k (no_key e) s = absurd cc
 member_key (Some key) k h s = s

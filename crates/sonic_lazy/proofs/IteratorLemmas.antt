@@ -9,7 +9,7 @@ use Rattle.sonic_error.specs.Errors.{IsPlainError}
 use Rattle.sonic_error.specs.declared.code.ErrorCode.TheVariants.{NoMemory}
 use Rattle.sonic_error.specs.declared.error.Error.{Error}
 use Rattle.sonic_lazy.proofs.ItemLemmas.{found_item}
-use Rattle.sonic_lazy.specs.Internal.Items.{IsHead, no_key, a_key, IsFoundPart, IsKeyText}
+use Rattle.sonic_lazy.specs.Internal.Items.{IsFoundHead, no_key, a_key, IsFoundPart, IsKeyText}
 use Rattle.sonic_lazy.specs.Items.{Item, ItemsReach, IsItemAt, AreClosed, closed_empty, closed_after, BeginsNoItem, no_quote, text_ends, Ending, stopped, AreStopped, no_container, no_item, no_separator, no_key as key_stops, no_value, EndsItems, at_broken_text, at_bracket, at_stop}
 use Rattle.sonic_lazy.specs.Iterators.{Iterating, IsEscapedKey, ShowsElement, ShowsMember, HasNext, IsNextError, out_of_memory, no_next_item, IsGiven, IsStuck, IsOver, IsNext}
 use Rattle.sonic_lazy.specs.LazyValues.{raw_bytes}
@@ -114,6 +114,7 @@ element_given {before} {now} k g shown =
     let text : now.text ≡ before.text = rw g.moved refl in
     record {
       going = g.going;
+      utf8 = g.utf8;
       shown = record { item = _; is = of_array k item.1; shown = rw text at shown };
       within = g.within;
       moved = g.moved;
@@ -127,7 +128,7 @@ record IsOwnKey (t : List ℕ) (n v : ℕ) (key : StringSpan) : Type 0 where
   head : ItemHead strict t Object key.start v (Some bytes)
 
 -- the key that was found is that
-own_key : {t : List ℕ} {kind : Kind} {n h v : ℕ} {key : StringSpan} → ItemsReach t kind n h → IsHead t kind h v (Some key) → (kind ≡ Object) × IsOwnKey t n v key
+own_key : {t : List ℕ} {kind : Kind} {n h v : ℕ} {key : StringSpan} → ItemsReach t kind n h → IsFoundHead t kind h v (Some key) → (kind ≡ Object) × IsOwnKey t n v key
 own_key {t} {n = n} {key = key} r (a_key x) =
     let before : ItemsReach t Object n key.start = rw x.start r in
     let string : IsString strict t key.start key.end x.bytes = rw x.start x.string in
@@ -162,6 +163,7 @@ shown_member {Z} {before} {now} {x} {text} {value} g (Some key) k t shown =
     record { place = key.start; before = own.1.before; head = own.1.head; value = f.value } in
     record {
       going = g.going;
+      utf8 = g.utf8;
       shown = record {
         item = item;
         is = is;
@@ -180,7 +182,7 @@ pub member_given : {Z : Type 0} {before now : Iterating} {x : Found} {text : Cow
 member_given {Z} {before} {now} {x} {text} {value} g = shown_member g x.key refl
 
 -- nothing is before the value of an element alone
-no_key_in_array : {t : List ℕ} {kind : Kind} {h v : ℕ} → IsHead t kind h v None → kind ≢ Object
+no_key_in_array : {t : List ℕ} {kind : Kind} {h v : ℕ} → IsFoundHead t kind h v None → kind ≢ Object
 no_key_in_array (no_key e) k = cc
 
 -- memory ran out for its key

@@ -3,7 +3,8 @@ use Rattle.std.proofs.Common.{◌≡◌, ℕ, List, [], ◌∷◌, Bool}
 use Rattle.std.specs.Prelude.{Option, Some, None, option_map}
 use Rattle.sonic_find.specs.Answers.{IsAnswerBy, Answer, Span, span_text}
 use Rattle.sonic_lazy.specs.LazyValues.{raw_bytes}
-use Rattle.sonic_lazy.specs.Shown.{Shows, shows_none, shows_span, ShowAll, no_more_values, one_more_value, AreValuesBy, HaveTexts}
+use Rattle.sonic_lazy.specs.Shown.{Shows, shows_none, shows_span, ShowAll, no_more_values, one_more_value, AreValuesBy}
+use Rattle.sonic_lazy.specs.Internal.Shown.{HaveTexts}
 use Rattle.sonic_lazy.specs.declared.lazyvalue.LazyValue.{LazyValue}
 use Rattle.sonic_pointer.specs.declared.rule.KeyRule.{KeyRule}
 use Rattle.sonic_text.specs.Paths.{Path}

@@ -1,3 +1,4 @@
 -- What serves private clauses and loop invariants alone.
 pub mod Items
+pub mod Shown
 pub mod StringSpans

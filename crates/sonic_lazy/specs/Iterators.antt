@@ -72,9 +72,10 @@ pub data IsNextError (it : Iterating) (e : Error) : Type 0 where
   out_of_memory : IsPlainError e NoMemory → TakesMemory it → IsNextError it e
   no_next_item : {s : Stop} → EndsItems it.text it.is_bytes it.kind it.given (stopped s) → IsErrorAt e s.code it.text s.place → IsNextError it e
 
--- the next item was given
+-- the next item was given, of a text in UTF-8 where that is looked at
 pub record IsGiven {V : Type 0} (Shows : List ℕ → ℕ → V → Type 0) (before now : Iterating) (item : V) : Type 0 where
   pub going : before.ended ≡ false
+  pub utf8 : before.is_bytes ≡ true → IsUtf8 before.text
   pub shown : Shows before.text before.given item
   pub within : before.given < length before.text
   pub moved : now ≡ record before { given = before.given + 1 }

@@ -1,10 +1,10 @@
 -- Which lazy values show the spans of an answer.
-use Rattle.std.specs.Prelude.{◌≡◌, ℕ, Bool, List, [], ◌∷◌, slice_range, map, option_map, Result, IfOk, IfErr, IsOk}
+use Rattle.std.specs.Prelude.{◌≡◌, ℕ, Bool, List, [], ◌∷◌, slice_range, Result, IfOk, IfErr, IsOk}
 use Rattle.std.specs.declared.option.Option.{Option}
 use Rattle.std.specs.declared.option.Option.TheVariants.{Some, None}
 use Rattle.sonic_text.specs.Paths.{Path}
 use Rattle.sonic_lazy.specs.declared.lazyvalue.LazyValue.{LazyValue}
-use Rattle.sonic_find.specs.Answers.{Span, IsAnswerBy, IsGetAnswer, span_text, spans}
+use Rattle.sonic_find.specs.Answers.{Span, IsAnswerBy, IsGetAnswer, spans}
 use Rattle.sonic_lazy.specs.LazyValues.{raw_bytes}
 use Rattle.sonic_find.specs.Causes.{IsGetRefusal, IsGetError, IsGettable}
 use Rattle.sonic_find.specs.Paths.{found, Leads}
@@ -34,10 +34,6 @@ pub record AreValuesBy (r : KeyRule) (t : List ℕ) (is_bytes : Bool) (paths : L
 -- and by first equal keys
 abbrev pub AreValues : List ℕ → Bool → List Path → List (Option LazyValue) → Type 0
 AreValues t is_bytes paths values = AreValuesBy First t is_bytes paths values
-
--- the values have the texts of the spans, one by one, and there is none where there is no span
-abbrev pub HaveTexts : List ℕ → List (Option LazyValue) → List (Option Span) → Type 0
-HaveTexts t values entries = map (option_map raw_bytes) values ≡ map (option_map (span_text t)) entries
 
 -- the value is the answer of the path
 pub record IsValueOf (t : List ℕ) (is_bytes : Bool) (path : Path) (value : LazyValue) : Type 0 where

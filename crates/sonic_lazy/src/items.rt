@@ -5,7 +5,7 @@ ghost use Rattle.sonic_text.specs.Values.{ItemHead};
 ghost use Rattle.sonic_text.specs.Strings.{strict};
 ghost use Rattle.sonic_text.specs.Faults.{IsKeyFault};
 ghost use Rattle.sonic_parser.specs.Faults.{IsStopFor};
-ghost use Rattle.sonic_lazy.specs.Internal.Items.{IsAfterItems, IsFound, IsHead, IsKeyAt};
+ghost use Rattle.sonic_lazy.specs.Internal.Items.{IsAfterItems, IsFound, IsFoundHead, IsKeyAt};
 ghost use Rattle.sonic_find.specs.Internal.Steps.{HasWhole, IsAtKey};
 ghost use Rattle.sonic_lazy.specs.Items.{ItemsReach, AreClosed, BeginsNoItem, AreStopped, code_of_start, code_before_item};
 
@@ -117,7 +117,7 @@ fn begins_none(steps: &Steps<'_>, kind: Kind, given: usize) -> bool
 // Passes what comes before the value of the item at the cursor.
 fn pass_head(steps: &mut Steps<'_>, kind: Kind) -> Result<Option<StringSpan>, Stop>
     requires { kind ≡ Kind.Object → IsAtKey steps.old }
-    ensures ok { IfOk result (IsHead steps.old.text kind steps.old.place steps.new.place) }
+    ensures ok { IfOk result (IsFoundHead steps.old.text kind steps.old.place steps.new.place) }
     ensures moved { steps.new ≡ record steps.old { place = steps.new.place } }
     ensures err { IfErr result (λ s. (kind ≡ Kind.Object)
         × IsKeyFault strict steps.old.text steps.old.place s) }

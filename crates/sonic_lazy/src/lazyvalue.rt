@@ -32,7 +32,7 @@ pub struct LazyValue<'a> {
 }
 
 impl<'a> LazyValue<'a> {
-    ghost use Rattle.std.specs.Prelude.{◌≡◌, ◌↔◌, IsSome, IfSome, IfOk, IfErr, OnErr};
+    ghost use Rattle.std.specs.Prelude.{◌≡◌, ◌↔◌, IsSome, IsTrue, IfSome, IfOk, IfErr, OnErr};
     ghost use Rattle.std.specs.Cow.{IsBorrowedStr, cow_str_bytes};
     ghost use Rattle.sonic_error.specs.Errors.{IsPlainError};
     ghost use Rattle.sonic_lazy.specs.LazyValues.{raw_bytes, has_escapes};
@@ -116,7 +116,8 @@ impl<'a> LazyValue<'a> {
     ///
     /// Of `"\n"` it is true, and of `"n"` and `["\n"]` it isn't.
     pub fn has_escaped(&self) -> bool
-        ensures { result ≡ has_escapes self.now }
+        ensures escapes { result ≡ has_escapes self.now }
+        ensures text { IsTrue result ↔ IsEscapedText (raw_bytes self.now) }
     {
         self.has_escaped
     }
@@ -243,6 +244,7 @@ impl<'a> fmt::Display for LazyValue<'a> {
     }
 }
 
+/// The text of the value in quotes, as that of a `&str` is shown: of `["a"]` it is `"[\"a\"]"`.
 impl<'a> fmt::Debug for LazyValue<'a> {
     fn fmt<W: fmt::Write>(&self, f: &mut fmt::Formatter<W>) -> fmt::Result {
         fmt::Debug::fmt(&self.text(), f)

@@ -7,7 +7,8 @@ ghost use Rattle.sonic_find.specs.Answers.{span_text};
 ghost use Rattle.sonic_find.specs.Causes.{IsAnswerable, IsAnswerableBy, IsRefusal, IsRefusalBy};
 ghost use Rattle.sonic_lazy.specs.LazyValues.{raw_bytes};
 ghost use Rattle.sonic_find.specs.Internal.Located.{IsStatus, HaveStatuses, AreParts, span_at, spans_of};
-ghost use Rattle.sonic_lazy.specs.Shown.{AreValues, AreValuesBy, HaveTexts};
+ghost use Rattle.sonic_lazy.specs.Shown.{AreValues, AreValuesBy};
+ghost use Rattle.sonic_lazy.specs.Internal.Shown.{HaveTexts};
 ghost use Rattle.sonic_find.specs.Parts.{IsPart};
 
 use crate::entry::entry;

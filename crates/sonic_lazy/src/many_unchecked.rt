@@ -8,7 +8,8 @@ ghost use Rattle.sonic_find.specs.Internal.Located.{AreSpans};
 ghost use Rattle.sonic_find.specs.Parts.{IsPart};
 ghost use Rattle.sonic_find.specs.Spans.{pair_of, pairs_of};
 ghost use Rattle.sonic_lazy.specs.LazyValues.{raw_bytes};
-ghost use Rattle.sonic_lazy.specs.Shown.{AreValues, HaveTexts};
+ghost use Rattle.sonic_lazy.specs.Shown.{AreValues};
+ghost use Rattle.sonic_lazy.specs.Internal.Shown.{HaveTexts};
 
 use crate::entry::entry;
 use crate::lazyvalue::LazyValue;

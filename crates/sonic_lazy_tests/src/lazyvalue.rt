@@ -2,7 +2,7 @@
 // they succeed where memory is ample.
 ghost use Rattle.std.specs.Prelude.{◌≡◌, false};
 
-use crate::same::same;
+use crate::same::{same, same_at};
 use sonic_input::{FastStr, JsonInput, JsonSlice, Read};
 use sonic_lazy::LazyValue;
 use sonic_parser::{ParseStatus, Parser};
@@ -71,7 +71,19 @@ fn clones_and_prints_a_value(rt: HostRuntime) -> Result<(), Fail> {
     let copy = value.clone()?;
     assert!(rt; copy == value);
     same(&rt, copy.to_string(rt.alloc())?.as_str(), "[1, \"é\"]");
-    assert!(rt; !format!(in rt.alloc(); "{copy:?}")?.is_empty());
+    Ok(())
+}
+
+#[test]
+fn shows_the_text_in_quotes(rt: HostRuntime) -> Result<(), Fail> {
+    for &(text, wanted) in &[
+        ("1", "\"1\""),
+        ("[1, \"é\"]", "\"[1, \\\"é\\\"]\""),
+        ("\"\\n\"", "\"\\\"\\\\n\\\"\""),
+    ] {
+        let value = value_of(rt.alloc(), text).expect(&rt, "a value");
+        same_at(&rt, &format!(in rt.alloc(); "{value:?}")?[..], wanted, text);
+    }
     Ok(())
 }
 

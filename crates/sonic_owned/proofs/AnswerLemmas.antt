@@ -7,12 +7,14 @@ use Rattle.sonic_find.specs.Paths.{kind_of}
 use Rattle.sonic_lazy.specs.Scalars.{container}
 use Rattle.sonic_owned.proofs.ChangeLemmas.{opened_kind}
 use Rattle.sonic_owned.proofs.Loans.{so_none, so_lent}
-use Rattle.sonic_owned.proofs.WalkLemmas.{left_means, lost_nowhere}
+use Rattle.sonic_owned.proofs.ReachLemmas.{kept_along, kept_as_before}
+use Rattle.sonic_owned.proofs.WalkLemmas.{lost_nowhere}
 use Rattle.sonic_owned.specs.Forms.{Form, IsSound, level, Members, scalar_of_form}
-use Rattle.sonic_owned.specs.Lends.{answer_name, Answer, HasItem, HasNoItem, IsFound, IsItemPut, IsLeft, IsPathFound, IsStopped, IsAnswer, IsLevelFound, Lending, IsLeftBehind, OfPart, OfAnswer}
+use Rattle.sonic_owned.specs.Lends.{answer_name, LoanAnswer, IsLeftBehind, OfAnswer}
+use Rattle.sonic_owned.specs.Internal.Lends.{HasItem, HasNoItem, IsLent, IsItemPut, IsLeft, IsPathFound, IsRefusedLoan, IsLoanAnswer, IsLevelFound, Lending, OfPart}
 use Rattle.sonic_owned.specs.Opened.{IsOpened, IsClosedOf}
-use Rattle.sonic_owned.specs.Puts.{put_in, IsPart, IsPut, put_here, put_on}
-use Rattle.sonic_owned.specs.Reached.{IsOpenedOn, IsUnreached, LeadsNowhere, MeansStill, out_of_memory, too_long}
+use Rattle.sonic_owned.specs.Puts.{put_in, IsPartOf, IsPut, put_here, put_on}
+use Rattle.sonic_owned.specs.Reached.{IsOpenedAlong, IsKeptAlong, IsOpenedOn, IsUnreached, LeadsNowhere, out_of_memory, too_long}
 use Rattle.sonic_owned.specs.Views.{form}
 use Rattle.sonic_owned.specs.contracts.value.OwnedLazyValue.{the_row as R}
 use Rattle.sonic_owned.specs.declared.value.OwnedLazyValue.{OwnedLazyValue}
@@ -31,30 +33,30 @@ use seplogic.Ra.Ura.{Ura}
 use types.Logic.{Logic, sem}
 
 -- what is said of the part that is lent, and of a path that leads to none
-pub record Says (path : Path) (f : Form) (a : Answer OwnedLazyValue) : Type 0 where
-  pub some : IfOk a (λ found. IfSome found (λ part. IsPart path f (form part.now)))
+pub record Says (path : Path) (f : Form) (a : LoanAnswer OwnedLazyValue) : Type 0 where
+  pub some : IfOk a (λ found. IfSome found (λ part. IsPartOf path f (form part.now)))
   pub none : IfOk a (λ found. found ≡ None → LeadsNowhere path f)
 
-pub record SaysOfPath (path : List PointerNode) (f : Form) (a : Answer OwnedLazyValue) : Type 0 where
+pub record SaysOfPath (path : List PointerNode) (f : Form) (a : LoanAnswer OwnedLazyValue) : Type 0 where
   pub says : Says (path_of path) f a
   pub err : IfErr a (IsUnreached (path_of path))
   pub limit : 255 < length path → IsErr a
   pub memory : OnErr a (length path ≤ 255 → IsOpenedOn (path_of path) f)
 
-pub record SaysOfNode (node : Node) (f : Form) (a : Answer OwnedLazyValue) : Type 0 where
+pub record SaysOfNode (node : Node) (f : Form) (a : LoanAnswer OwnedLazyValue) : Type 0 where
   pub says : Says (node ∷ []) f a
   pub err : IfErr a (λ e. IsPlainError e code.NoMemory)
   pub memory : OnErr a (IsClosedOf (kind_of node) f)
 
 -- what is said of the level that is lent, and of a value of another kind
-pub record SaysOfLevel {L : Type 0} (kind : Kind) (items : L → Members) (f : Form) (a : Answer L) : Type 0 where
+pub record SaysOfLevel {L : Type 0} (kind : Kind) (items : L → Members) (f : Form) (a : LoanAnswer L) : Type 0 where
   pub some : IfOk a (λ found. IfSome found (λ l. IsOpened f (level kind (items l.now))))
   pub none : IfOk a (λ found. IsSome found ↔ (scalar_of_form f ≡ container kind))
   pub err : IfErr a (λ e. IsPlainError e code.NoMemory)
   pub memory : OnErr a (IsClosedOf kind f)
 
 -- of a path
-pub path_says : (path : List PointerNode) (f : Form) (o : Lending) (a : Answer OwnedLazyValue) → IsPathFound path f o → IsAnswer o a → SaysOfPath path f a
+pub path_says : (path : List PointerNode) (f : Form) (o : Lending) (a : LoanAnswer OwnedLazyValue) → IsPathFound path f o → IsLoanAnswer o a → SaysOfPath path f a
 path_says path f (Ok x) a found is = rw is (record {
   says = record { some = found.1; none = λ e. absurd cc };
   err = tt;
@@ -84,7 +86,7 @@ path_says path f (Err TooDeep) a long (e, is, plain) = rw is (record {
 pub item_put_there : {node : Node} {f i j h : Form} → IsItemPut node f i j h → IsPut (node ∷ []) f i j h
 item_put_there p = put_on p.opened p.item put_here p.put
 
-pub node_says : (node : Node) (f : Form) (o : Lending) (a : Answer OwnedLazyValue) → IsSound f → IsFound (HasItem node f) (HasNoItem node f) (IsClosedOf (kind_of node) f) o → IsAnswer o a
+pub node_says : (node : Node) (f : Form) (o : Lending) (a : LoanAnswer OwnedLazyValue) → IsSound f → IsLent (HasItem node f) (HasNoItem node f) (IsClosedOf (kind_of node) f) o → IsLoanAnswer o a
     → SaysOfNode node f a
 node_says node f (Ok x) a sound found is = rw is (record {
   says = record { some = (put_in node (form x.now) found.level, put_on found.opened found.item put_here refl); none = λ e. absurd cc };
@@ -97,8 +99,8 @@ node_says node f (Err NoMemory) a sound found (e, is, plain) = rw is (record { s
 node_says node f (Err TooDeep) a sound found is = absurd found
 
 -- of a level
-pub level_says : {L : Type 0} (kind : Kind) (items : L → Members) (f : Form) (o : Result (MutBor L) Stop) (a : Answer L) → IsLevelFound kind f items o
-    → IsAnswer o a
+pub level_says : {L : Type 0} (kind : Kind) (items : L → Members) (f : Form) (o : Result (MutBor L) Stop) (a : LoanAnswer L) → IsLevelFound kind f items o
+    → IsLoanAnswer o a
     → SaysOfLevel kind items f a
 level_says kind items f (Ok x) a found is = rw is (record { some = found; none = ((λ _. opened_kind found), (λ _. refl)); err = tt; memory = tt })
 level_says kind items f (Err Nowhere) a other is = rw is (record { some = tt; none = ((λ e. absurd cc), (λ k. absurd (other k))); err = tt; memory = tt })
@@ -106,43 +108,44 @@ level_says kind items f (Err NoMemory) a found (e, is, plain) = rw is (record { 
 level_says kind items f (Err TooDeep) a found is = absurd found
 
 -- nothing is asked of what isn't lent
-of_stopped : (stop : Stop) (a : Answer OwnedLazyValue) (P : Form → Type 0) → IsStopped stop a → OfAnswer a P
+of_stopped : (stop : Stop) (a : LoanAnswer OwnedLazyValue) (P : Form → Type 0) → IsRefusedLoan stop a → OfAnswer a P
 of_stopped Nowhere a P is = rw is tt
 of_stopped NoMemory a P (e, is, plain) = rw is tt
 of_stopped TooDeep a P (e, is, plain) = rw is tt
 
-some_stopped : {L : Type 0} (stop : Stop) (a : Answer L) (P : Type 0) → IsStopped stop a → IfOk a (λ found. OnSome found P)
+some_stopped : {L : Type 0} (stop : Stop) (a : LoanAnswer L) (P : Type 0) → IsRefusedLoan stop a → IfOk a (λ found. OnSome found P)
 some_stopped Nowhere a P is = rw is tt
 some_stopped NoMemory a P (e, is, plain) = rw is tt
 some_stopped TooDeep a P (e, is, plain) = rw is tt
 
 -- what is left of a value whose item isn't lent
-node_left : (f h : Form) (stop : Stop) (a : Answer OwnedLazyValue) → IsStopped stop a → IsLeft (Err stop) f h → MeansStill f h × OnErr a (h ≡ f)
-node_left f h Nowhere a is left = rw is (left_means Nowhere f h left, tt)
-node_left f h NoMemory a (e, is, plain) left = rw is (left_means NoMemory f h left, left)
-node_left f h TooDeep a is left = absurd left
+node_left : (node : Node) (f h : Form) (stop : Stop) (a : LoanAnswer OwnedLazyValue) → IsRefusedLoan stop a → IsLeft (IsOpenedAlong (node ∷ []) f h) (Err stop) f h
+    → IsKeptAlong (node ∷ []) f h × OnErr a (h ≡ f)
+node_left node f h Nowhere a is along = rw is (kept_along along, tt)
+node_left node f h NoMemory a (e, is, plain) left = rw is (kept_as_before left, left)
+node_left node f h TooDeep a is left = absurd left
 
 -- what is lent is what the answer lends
 module _ {M : Type 1} {𝓤 : Ura M} (𝓛 : Logic 𝓤) (S : RattleType) (r : MutBor R.Denot) where
   abbrev Lends : Result (MutBor S.Denot) Stop → (R.Denot → S.Denot → Type 0) → (R.Denot → Type 0) → SProp 𝓤
   Lends o P P₀ = sem 𝓛 (LendsSoOk R S r o P P₀)
 
-  abbrev Follows : Answer S.Denot → (S.Denot → R.Denot → Type 0) → (R.Denot → Type 0) → SProp 𝓤
+  abbrev Follows : LoanAnswer S.Denot → (S.Denot → R.Denot → Type 0) → (R.Denot → Type 0) → SProp 𝓤
   Follows a Q Q₀ = sem 𝓛 (follows_so R S r.ghost_name (answer_name a) Q Q₀)
 
   some_answered : (x : MutBor S.Denot) (P : R.Denot → S.Denot → Type 0) (P₀ : R.Denot → Type 0) (Q : S.Denot → R.Denot → Type 0) (Q₀ : R.Denot → Type 0)
       → ((w : S.Denot) (m : R.Denot) → P m w → Q w m) → (v : R.Denot) → Q₀ v → ent 𝓤 (Lends (Ok x) P P₀) (Follows (Ok (Some x)) Q Q₀)
   some_answered x P P₀ Q Q₀ part v left = so_lent 𝓛 R S r.ghost_name x.ghost_name _ Q _ Q₀ (λ w m p. part w m (p refl)) v left
 
-  none_answered : (stop : Stop) (a : Answer S.Denot) (P : R.Denot → S.Denot → Type 0) (P₀ : R.Denot → Type 0) (Q : S.Denot → R.Denot → Type 0)
+  none_answered : (stop : Stop) (a : LoanAnswer S.Denot) (P : R.Denot → S.Denot → Type 0) (P₀ : R.Denot → Type 0) (Q : S.Denot → R.Denot → Type 0)
       (Q₀ : R.Denot → Type 0)
-      → IsStopped stop a → ((w : S.Denot) (m : R.Denot) → Q w m) → ((m : R.Denot) → P₀ m → Q₀ m) → ent 𝓤 (Lends (Err stop) P P₀) (Follows a Q Q₀)
+      → IsRefusedLoan stop a → ((w : S.Denot) (m : R.Denot) → Q w m) → ((m : R.Denot) → P₀ m → Q₀ m) → ent 𝓤 (Lends (Err stop) P P₀) (Follows a Q Q₀)
   none_answered Nowhere a P P₀ Q Q₀ is none left = rw is (so_none 𝓛 R S r.ghost_name _ _ Q Q₀ none left)
   none_answered NoMemory a P P₀ Q Q₀ (e, is, plain) none left = rw is (so_none 𝓛 R S r.ghost_name _ _ Q Q₀ none left)
   none_answered TooDeep a P P₀ Q Q₀ (e, is, plain) none left = rw is (so_none 𝓛 R S r.ghost_name _ _ Q Q₀ none left)
 
   -- of a level
-  pub level_back : (kind : Kind) (items : S.Denot → Members) (o : Result (MutBor S.Denot) Stop) (a : Answer S.Denot) → IsAnswer o a
+  pub level_back : (kind : Kind) (items : S.Denot → Members) (o : Result (MutBor S.Denot) Stop) (a : LoanAnswer S.Denot) → IsLoanAnswer o a
       → ent 𝓤 (sem 𝓛 (LendsSoOk R S r o (λ m w. form m ≡ level kind (items w)) (λ m. form m ≡ form r.now)))
       (sem 𝓛 (follows_so R S r.ghost_name (answer_name a) (λ w m. IfOk a (λ found. OnSome found (form m ≡ level kind (items w)))) (λ m. form m ≡ form r.now)))
   level_back kind items (Ok x) a is =
@@ -151,22 +154,22 @@ module _ {M : Type 1} {𝓤 : Ura M} (𝓛 : Logic 𝓤) (S : RattleType) (r : M
 
 -- of a part, and of an item
 module _ {M : Type 1} {𝓤 : Ura M} (𝓛 : Logic 𝓤) (r : MutBor R.Denot) where
-  pub path_back : (path : List PointerNode) (o : Lending) (a : Answer OwnedLazyValue) → IsAnswer o a
+  pub path_back : (path : List PointerNode) (o : Lending) (a : LoanAnswer OwnedLazyValue) → IsLoanAnswer o a
       → ent 𝓤 (sem 𝓛 (LendsSoOk R R r o (λ m w. OfPart o (λ i. IsPut (path_of path) (form r.now) i (form w) (form m)))
       (λ m. IsLeftBehind path (form r.now) (form m))))
       (sem 𝓛 (follows_so R R r.ghost_name (answer_name a) (λ w m. OfAnswer a (λ i. IsPut (path_of path) (form r.now) i (form w) (form m)))
       (λ m. IsLeftBehind path (form r.now) (form m))))
   path_back path (Ok x) a is =
       rw is (some_answered 𝓛 R r x _ (λ m. IsLeftBehind path (form r.now) (form m)) (λ w m. IsPut (path_of path) (form r.now) (form x.now) (form w) (form m))
-      (λ m. IsLeftBehind path (form r.now) (form m)) (λ w m p. p) r.now ((λ y m. m), λ _. refl))
+      (λ m. IsLeftBehind path (form r.now) (form m)) (λ w m p. p) r.now (kept_as_before refl, λ _. refl))
   path_back path (Err stop) a is = none_answered 𝓛 R r stop a _ _ _ _ is (λ w m. of_stopped stop a _ is) (λ m p. p)
 
-  pub node_back : (node : Node) (o : Lending) (a : Answer OwnedLazyValue) → IsAnswer o a
-      → ent 𝓤 (sem 𝓛 (LendsSoOk R R r o (λ m w. OfPart o (λ i. IsItemPut node (form r.now) i (form w) (form m))) (λ m. IsLeft o (form r.now) (form m))))
+  pub node_back : (node : Node) (o : Lending) (a : LoanAnswer OwnedLazyValue) → IsLoanAnswer o a
+      → ent 𝓤 (sem 𝓛 (LendsSoOk R R r o (λ m w. OfPart o (λ i. IsItemPut node (form r.now) i (form w) (form m))) (λ m. IsLeft (IsOpenedAlong (node ∷ []) (form r.now) (form m)) o (form r.now) (form m))))
       (sem 𝓛 (follows_so R R r.ghost_name (answer_name a) (λ w m. OfAnswer a (λ i. IsPut (node ∷ []) (form r.now) i (form w) (form m)))
-      (λ m. MeansStill (form r.now) (form m) × OnErr a (form m ≡ form r.now))))
+      (λ m. IsKeptAlong (node ∷ []) (form r.now) (form m) × OnErr a (form m ≡ form r.now))))
   node_back node (Ok x) a is =
       rw is (some_answered 𝓛 R r x _ (λ m. Unit {0}) (λ w m. IsPut (node ∷ []) (form r.now) (form x.now) (form w) (form m))
-      (λ m. MeansStill (form r.now) (form m) × Unit {0}) (λ w m p. item_put_there p) r.now ((λ y m. m), tt))
+      (λ m. IsKeptAlong (node ∷ []) (form r.now) (form m) × Unit {0}) (λ w m p. item_put_there p) r.now (kept_as_before refl, tt))
   node_back node (Err stop) a is =
-      none_answered 𝓛 R r stop a _ _ _ _ is (λ w m. of_stopped stop a _ is) (λ m left. node_left (form r.now) (form m) stop a is left)
+      none_answered 𝓛 R r stop a _ _ _ _ is (λ w m. of_stopped stop a _ is) (λ m left. node_left node (form r.now) (form m) stop a is left)

@@ -5,7 +5,7 @@ use Rattle.std.specs.contracts.result.Result as RS
 use Rattle.sonic_error.proofs.error.Error.TheLaws.{the_row_laws as error_laws}
 use Rattle.sonic_error.specs.contracts.error.Error.{the_row as ErrorRow}
 use Rattle.sonic_owned.proofs.value.lend.Stop.TheLaws.{the_row_laws as stop_laws}
-use Rattle.sonic_owned.specs.Lends.{Answer}
+use Rattle.sonic_owned.specs.Lends.{LoanAnswer}
 use Rattle.sonic_owned.specs.contracts.value.lend.Stop.{the_row as StopRow}
 use Rattle.sonic_owned.specs.declared.value.lend.Stop.{Stop}
 use base.Fml.{Lft}
@@ -48,5 +48,5 @@ module _ (κ : Lft) (S : RattleType) where
         let t : Declared = OP.the_type Part in
         recorded_lawful (Enum (shape t)) t.D t.to t.to_one 𝓛 (Enum-Lawful 𝓛 (shape t) tt (tt, ((mut_Lawful 𝓛 (named 0) κ S, tt), tt)))
 
-    pub answer_typed : (a : Answer S.Denot) (v : Val) → Is Answer_at a (v ∷ []) → T (has_ty (layout Answer_at) v) × WT v
+    pub answer_typed : (a : LoanAnswer S.Denot) (v : Val) → Is Answer_at a (v ∷ []) → T (has_ty (layout Answer_at) v) × WT v
     answer_typed a v is = ((Enum-Lawful 𝓛 (shape (RS.the_type Maybe ErrorRow)) tt ((maybe_laws, tt), ((error_laws.lawful 𝓛, tt), tt))).typed _ (v ∷ []) is).0

@@ -8,9 +8,10 @@ use Rattle.sonic_error.specs.declared.error.Error.{Error}
 use Rattle.sonic_owned.proofs.MeantPathLemmas.{meant_leads}
 use Rattle.sonic_owned.proofs.PutLawLemmas.{put_one}
 use Rattle.sonic_owned.proofs.PutLemmas.{put_part}
-use Rattle.sonic_owned.proofs.ReachLemmas.{put_still}
-use Rattle.sonic_owned.specs.Puts.{IsPut}
-use Rattle.sonic_owned.specs.Reached.{MeansStill, LeadsNowhere, IsUnreached, out_of_memory, IsChanged, change_made, change_refused, change_failed}
+use Rattle.sonic_owned.proofs.ReachLemmas.{kept_along, put_along, put_same}
+use Rattle.sonic_owned.specs.Puts.{put_in, IsPartOf, IsPut, put_here, put_on}
+use Rattle.sonic_owned.specs.Reached.{IsOpenedAlong, IsKeptAlong, way_to_appended, LeadsNowhere, IsUnreached, out_of_memory, Appends, NeedsMemory, for_an_item}
+use Rattle.sonic_owned.specs.Internal.Changed.{IsChanged, change_made, change_refused, change_failed}
 use Rattle.sonic_pointer.specs.Nodes.{node_of, path_of}
 use Rattle.sonic_pointer.specs.declared.node.PointerNode.{PointerNode}
 use Rattle.sonic_text.specs.Paths.{Path}
@@ -66,25 +67,36 @@ pub edit_made : {path : Path} {c : Change Form} {f m g h : Form} (r : Result Boo
     → IfOk r (λ made. IsTrue made → IsEdit (edit_at path c) f h)
 edit_made (Ok true) put (change_made change) = λ e. record { part = _; changed = _; change = change; put = put }
 edit_made (Ok false) put (change_refused none same) = λ e. absurd cc
-edit_made (Err e) put (change_failed plain still) = tt
+edit_made (Err e) put (change_failed plain appends along) = tt
 
 pub edit_refused : {path : Path} {c : Change Form} {f m g h : Form} (r : Result Bool Error) → IsPut path f m g h → IsChanged c m g r
     → IfOk r (λ made. made ≡ false → IsRefused (edit_at path c) f)
 edit_refused (Ok true) put (change_made change) = λ e. absurd cc
 edit_refused (Ok false) put (change_refused none same) = λ e h edit. none edit.changed (rw (← (put_one put edit.put).0) at edit.change)
-edit_refused (Err e) put (change_failed plain still) = tt
+edit_refused (Err e) put (change_failed plain appends along) = tt
 
 pub edit_same : {path : Path} {c : Change Form} {f m g h : Form} (r : Result Bool Error) → IsPut path f m g h → IsChanged c m g r
-    → IfOk r (λ made. made ≡ false → MeansStill f h)
+    → IfOk r (λ made. made ≡ false → IsKeptAlong path f h)
 edit_same (Ok true) put (change_made change) = λ e. absurd cc
-edit_same (Ok false) put (change_refused none same) = λ e. put_still put (λ x m. rw same m)
-edit_same (Err e) put (change_failed plain still) = tt
+edit_same (Ok false) put (change_refused none same) = λ e. kept_along (put_same put same)
+edit_same (Err e) put (change_failed plain appends along) = tt
 
 pub edit_failed : {path : Path} {c : Change Form} {f m g h : Form} (r : Result Bool Error) → IsPut path f m g h → IsChanged c m g r
-    → IfErr r (λ e. IsPlainError e NoMemory) × OnErr r (MeansStill f h)
+    → IfErr r (λ e. IsPlainError e NoMemory) × OnErr r (IsKeptAlong (path ++ way_to_appended c) f h)
 edit_failed (Ok true) put (change_made change) = (tt, tt)
 edit_failed (Ok false) put (change_refused none same) = (tt, tt)
-edit_failed (Err e) put (change_failed plain still) = (plain, put_still put still)
+edit_failed (Err e) put (change_failed plain appends along) = (plain, kept_along (put_along put along))
+
+-- which takes memory
+part_of : {path : Path} {f m g h : Form} → IsPut path f m g h → IsPartOf path f m
+part_of put_here = (_, put_here)
+part_of (put_on {node} {o = o} opened item p is) = let (j, q) = part_of p in (put_in node j o, put_on opened item q refl)
+
+pub edit_takes : {path : Path} {c : Change Form} {f m g h : Form} (P : Type 0) (r : Result Bool Error) → IsPut path f m g h → IsChanged c m g r
+    → OnErr r (P → NeedsMemory (edit_at path c) f)
+edit_takes P (Ok true) put (change_made change) = tt
+edit_takes P (Ok false) put (change_refused none same) = tt
+edit_takes P (Err e) put (change_failed plain appends along) = λ _. for_an_item (part_of put) appends
 
 -- where the path leads nowhere, there is nothing to edit
 pub edit_nowhere : {path : Path} {c : Change Form} {f : Form} {x : Tree} → FormMeans f x → LeadsNowhere path f → IsRefused (edit_at path c) f
@@ -94,10 +106,10 @@ edit_nowhere m none h edit =
     none g leads
 
 -- an error for want of memory is that of a change that failed
-pub change_stopped : {c : Change Form} {f g : Form} (r : Result Bool Error) → IsErr r → IfErr r (λ e. IsPlainError e NoMemory) → MeansStill f g
-    → IsChanged c f g r
-change_stopped (Ok b) is plain still = absurd cc
-change_stopped (Err e) is plain still = change_failed plain still
+pub change_stopped : {c : Change Form} {f g : Form} (r : Result Bool Error) → IsErr r → IfErr r (λ e. IsPlainError e NoMemory)
+    → Appends c f → IsOpenedAlong (way_to_appended c) f g → IsChanged c f g r
+change_stopped (Ok b) is plain appends along = absurd cc
+change_stopped (Err e) is plain appends along = change_failed plain appends along
 
 -- so it is with an edit whose path is within the limit
 pub edit_unreached : (path : List PointerNode) (r : Result Bool Error) → ¬ (255 < length path) → IfErr r (λ e. IsPlainError e NoMemory)

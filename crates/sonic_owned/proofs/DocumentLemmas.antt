@@ -1,5 +1,5 @@
 -- The value that a document is.
-use Rattle.std.proofs.Common.{◌≡◌, ◌∙◌, sym, refl, ap, ap₂, ℕ, List, length}
+use Rattle.std.proofs.Common.{◌≡◌, ◌∙◌, sym, refl, ap, ap₂, ℕ, List}
 use Rattle.std.specs.Prelude.{slice_range}
 use Rattle.sonic_find.proofs.DocumentLemmas.{alone_one, alone_part}
 use Rattle.sonic_find.specs.Documents.{IsAlone, IsDocumentValue, IsValidDocument}

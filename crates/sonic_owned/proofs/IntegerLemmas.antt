@@ -21,7 +21,8 @@ use Rattle.std.proofs.Math.Seq.{take-length}
 use Rattle.std.proofs.lemmas.Slice.{between_from_start}
 use Rattle.sonic_text.proofs.Places.{after_space_later, byte_after}
 use Rattle.sonic_text.proofs.Within.{after_space_within}
-use Rattle.sonic_owned.specs.Integers.{natural, value}
+use Rattle.sonic_owned.specs.Internal.Naturals.{natural}
+use Rattle.sonic_owned.specs.Integers.{value}
 use Rattle.sonic_text.proofs.Values.{value_starts}
 use Rattle.sonic_text.specs.Values.IsValue.{number}
 use Rattle.sonic_text.specs.Strings.{strict}

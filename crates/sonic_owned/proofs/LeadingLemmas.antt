@@ -10,7 +10,8 @@ use Rattle.sonic_owned.specs.Forms.{Form, raw, level, Members, unnamed, named}
 use Rattle.sonic_find.proofs.PathLemmas.Outcome.{nowhere_ends}
 use Rattle.sonic_find.specs.Paths.{kind_of, found_here, goes_on, leads_nowhere}
 use Rattle.sonic_lazy.specs.Shown.{FindsNone}
-use Rattle.sonic_owned.specs.Leading.{Nowhere, item_at, item_of, item_in, LeadsTo, leads_on, leads_in_text}
+use Rattle.sonic_owned.specs.Internal.Seen.{Nowhere}
+use Rattle.sonic_owned.specs.Leading.{item_at, item_of, item_in, LeadsTo, leads_on, leads_in_text}
 use Rattle.sonic_text.proofs.Values.{items_open, value_starts}
 use Rattle.sonic_text.specs.Paths.{Node, Path}
 use Rattle.sonic_text.specs.Places.{byte, after_space}

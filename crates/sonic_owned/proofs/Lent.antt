@@ -1,17 +1,18 @@
 -- Items that are lent.
-use Rattle.std.proofs.Common.{◌≡◌, ◌∙◌, ap, sym, refl, ℕ, ◌+◌, ◌-◌, ◌<◌, ◌≤◌, length, get_or, Ok, Err, List, Option, Some, None, option_map, OnSome, OnErr, IfSome, MutBor, subst, arith, ◌≢◌}
+use Rattle.std.proofs.Common.{[], ◌∷◌, ◌≡◌, ◌∙◌, ap, sym, refl, ℕ, ◌+◌, ◌-◌, ◌<◌, ◌≤◌, length, get_or, Ok, Err, List, Option, Some, None, option_map, OnSome, OnErr, IfSome, MutBor, subst, arith, ◌≢◌}
 use Rattle.std.specs.List.{slice_get, slice_set}
 use Rattle.sonic_owned.proofs.LeadingLemmas.{item_at_list, item_of_first, next_node}
 use Rattle.sonic_owned.proofs.Lists.{none_not_some}
-use Rattle.sonic_owned.proofs.ReachLemmas.{put_unnamed, put_named}
+use Rattle.sonic_owned.proofs.ReachLemmas.{kept_along, put_unnamed, put_named}
 use Rattle.sonic_owned.specs.Forms.{Form, level, unnamed, named, raw, Members}
 use Rattle.sonic_owned.specs.Leading.{item_in}
-use Rattle.sonic_owned.specs.Lends.{IsItemPut, AtNode, Lending, OfPart, IsFound, IsPathFound, IsLeftBehind, last_nodes}
+use Rattle.sonic_owned.specs.Internal.Lends.{IsItemPut, AtNode, Lending, OfPart, IsLent, IsLeft, IsPathFound, last_nodes}
+use Rattle.sonic_owned.specs.Lends.{IsLeftBehind}
 use Rattle.sonic_owned.specs.declared.value.lend.Stop.TheVariants.{Nowhere, NoMemory, TooDeep}
 use Rattle.sonic_owned.specs.Opened.{IsOpened}
 use Rattle.sonic_owned.specs.Owned.{IsFirstOfKey}
-use Rattle.sonic_owned.specs.Puts.{put_in, with_value, IsPart}
-use Rattle.sonic_owned.specs.Reached.{IsOpenedOn, MeansStill, LeadsNowhere}
+use Rattle.sonic_owned.specs.Puts.{put_in, with_value, IsPartOf}
+use Rattle.sonic_owned.specs.Reached.{IsOpenedAlong, IsOpenedOn, LeadsNowhere}
 use Rattle.sonic_owned.specs.Views.{form}
 use Rattle.sonic_owned.specs.declared.value.OwnedLazyValue.{OwnedLazyValue}
 use Rattle.sonic_pointer.specs.Nodes.{node_of, path_of}
@@ -89,11 +90,20 @@ pub of_part : (r : Lending) (P Q : Form → Type 0) → ((i : Form) → P i → 
 of_part (Ok x) P Q f p = f (form x.now) p
 of_part (Err e) P Q f p = tt
 
-pub found_by : (r : Lending) (P Q : Form → Type 0) (L K O U : Type 0) → ((i : Form) → P i → Q i) → (L → K) → (O → U) → IsFound P L O r → IsFound Q K U r
+pub found_by : (r : Lending) (P Q : Form → Type 0) (L K O U : Type 0) → ((i : Form) → P i → Q i) → (L → K) → (O → U) → IsLent P L O r → IsLent Q K U r
 found_by (Ok x) P Q L K O U f g h p = f (form x.now) p
 found_by (Err Nowhere) P Q L K O U f g h p = g p
 found_by (Err NoMemory) P Q L K O U f g h p = h p
 found_by (Err TooDeep) P Q L K O U f g h p = p
+
+-- where nothing is lent by the next node, its level alone is opened
+pub left_next : (r : Lending) (path : List PointerNode) (left : ℕ) (d : PointerNode) (f h : Form) → left ≤ length path → length path - left < length path
+    → OnErr r (IsLeft (IsOpenedAlong (node_of (get_or path (length path - left) d) ∷ []) f h) r f h)
+    → OnErr r (IsLeft (AtNode left path (λ node. IsOpenedAlong (node ∷ []) f h)) r f h)
+left_next (Ok x) path left d f h fits less is = tt
+left_next (Err Nowhere) path left d f h fits less is = next_is path left d (λ node. IsOpenedAlong (node ∷ []) f h) fits less is
+left_next (Err NoMemory) path left d f h fits less is = is
+left_next (Err TooDeep) path left d f h fits less is = is
 
 -- all nodes of a path are its last ones
 pub all_nodes : (path : List PointerNode) → last_nodes (length path) path ≡ path_of path
@@ -101,13 +111,14 @@ all_nodes path = let none : length path - length path ≡ 0 = omega arith in rw 
 
 -- what is found along the nodes that are left is found along the path
 pub path_found : (path : List PointerNode) (f : Form) (r : Lending) → length path ≤ 255
-    → IsFound (IsPart (last_nodes (length path) path) f) (LeadsNowhere (last_nodes (length path) path) f)
+    → IsLent (IsPartOf (last_nodes (length path) path) f) (LeadsNowhere (last_nodes (length path) path) f)
     (length path ≤ length path → IsOpenedOn (last_nodes (length path) path) f) r → IsPathFound path f r
 path_found path f (Ok x) short p = (short, rw (all_nodes path) at p)
 path_found path f (Err Nowhere) short p = (short, rw (all_nodes path) at p)
 path_found path f (Err NoMemory) short p = (short, rw (all_nodes path) at (p (omega arith)))
 path_found path f (Err TooDeep) short p = absurd p
 
-pub left_behind : (path : List PointerNode) (f h : Form) (r : Lending) → length path ≤ 255 → OnErr r (MeansStill f h) → OnErr r (IsLeftBehind path f h)
-left_behind path f h (Ok x) short m = tt
-left_behind path f h (Err e) short m = (m, λ long. absurd (omega (arith, short, long)))
+pub left_behind : (path : List PointerNode) (f h : Form) (r : Lending) → length path ≤ 255 → OnErr r (IsOpenedAlong (last_nodes (length path) path) f h)
+    → OnErr r (IsLeftBehind path f h)
+left_behind path f h (Ok x) short along = tt
+left_behind path f h (Err e) short along = (kept_along (rw (all_nodes path) at along), λ long. absurd (omega (arith, short, long)))

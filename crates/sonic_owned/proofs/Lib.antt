@@ -8,6 +8,7 @@ mod IntegerLemmas
 mod KeptTextLemmas
 mod LeadingLemmas
 mod Lent
+mod LentTexts
 mod LevelLemmas
 mod Lists
 mod Loans

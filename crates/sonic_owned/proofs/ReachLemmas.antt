@@ -1,5 +1,5 @@
 -- A step to an item of a level, and what follows for the value where the item is changed.
-use Rattle.std.proofs.Common.{◌≡◌, ◌≢◌, ◌∙◌, sym, ap, refl, ℕ, zero, suc, List, [], ◌∷◌, Option, Some, None, inl, inr, nat_eq, true, option_map, subst, ◌<◌, ◌-◌, take, get_or, drop, length, ◌≤◌, arith, Result, Ok, Err}
+use Rattle.std.proofs.Common.{◌≡◌, ◌≢◌, ◌∙◌, sym, ap, refl, ℕ, zero, suc, List, [], ◌∷◌, ◌++◌, Option, Some, None, inl, inr, nat_eq, true, option_map, subst, ◌<◌, ◌-◌, take, get_or, drop, length, ◌≤◌, arith, Result, Ok, Err}
 use Rattle.std.proofs.lemmas.Bool.{cases_Bool}
 use Rattle.std.proofs.lemmas.Option.{same_Some}
 use Rattle.std.proofs.lemmas.List.{take_rest}
@@ -18,7 +18,7 @@ use Rattle.sonic_lazy.specs.Scalars.{container as container_of}
 use Rattle.sonic_owned.specs.Opened.{IsClosedContainer, IsClosedOf, IsOpened, as_it_was, level_opened}
 use Rattle.sonic_owned.specs.Owned.{HasKeyAt, IsFirstOfKey}
 use Rattle.sonic_owned.specs.Puts.{put_at, put_of, put_in, IsPut, put_here, put_on, with_value}
-use Rattle.sonic_owned.specs.Reached.{IsOpenedOn, opened_here, opened_further, MeansStill, LeadsNowhere}
+use Rattle.sonic_owned.specs.Reached.{IsOpenedOn, opened_here, opened_further, IsOpenedAlong, as_before, opened_at, opened_below, IsKeptAlong, MeansStill, LeadsNowhere}
 use Rattle.sonic_pointer.specs.Nodes.{node_of, path_of}
 use Rattle.sonic_pointer.specs.declared.node.PointerNode.{PointerNode}
 use Rattle.sonic_pointer.specs.declared.node.PointerNode.TheVariants as pointer
@@ -118,21 +118,46 @@ item_still (index n) (level_means {kind = Object} ms) e same = absurd (none_not_
 item_still (key k) (level_means {kind = Array} ms) e same = absurd (none_not_some e)
 item_still (key k) (level_means {kind = Object} ms) e same = level_means (of_still k ms e same)
 
--- where the item means what it meant, the value does
-pub step_still : {node : Node} {f o k w h : Form} → IsStepIn node f o k w h → MeansStill k w → MeansStill f h
-step_still {node} s same x m = rw s.put (item_still node (opened_means s.opened m) s.item same)
+-- where only levels on the way of a path are opened, the value means what it meant
+along_still : {path : Path} {f h : Form} → IsOpenedAlong path f h → MeansStill f h
+along_still (as_before e) x m = rw e m
+along_still (opened_at kind opened) x m = opened_means opened m
+along_still (opened_below {node} opened item along is) x m = rw is (item_still node (opened_means opened m) item (along_still along))
 
--- so it does where it is opened alone
-pub opened_still : {f o : Form} → IsOpened f o → MeansStill f o
-opened_still opened x m = opened_means opened m
+pub kept_along : {path : Path} {f h : Form} → IsOpenedAlong path f h → IsKeptAlong path f h
+kept_along along = (along_still along, along)
 
--- and where the level is as it was
-pub array_still : {f o h : Form} {fs gs : List Form} → IsOpened f o → o ≡ level Array (unnamed fs) → gs ≡ fs → h ≡ level Array (unnamed gs) → MeansStill f h
-array_still opened is same all x m = rw (all ∙ ap (λ l. level Array (unnamed l)) same ∙ sym is) (opened_means opened m)
+pub kept_as_before : {path : Path} {f h : Form} → h ≡ f → IsKeptAlong path f h
+kept_as_before same = kept_along (as_before same)
 
-pub object_still : {f o h : Form} {ms ns : List (List ℕ × Form)} → IsOpened f o → o ≡ level Object (named ms) → ns ≡ ms → h ≡ level Object (named ns)
-    → MeansStill f h
-object_still opened is same all x m = rw (all ∙ ap (λ l. level Object (named l)) same ∙ sym is) (opened_means opened m)
+-- they are on the way of a longer path too
+pub longer : {path : Path} {f h : Form} (more : Path) → IsOpenedAlong path f h → IsOpenedAlong (path ++ more) f h
+longer more (as_before e) = as_before e
+longer more (opened_at kind opened) = opened_at kind opened
+longer more (opened_below opened item along is) = opened_below opened item (longer more along) is
+
+pub kept_longer : {path : Path} {f h : Form} (more : Path) → IsKeptAlong path f h → IsKeptAlong (path ++ more) f h
+kept_longer more kept = (kept.0, longer more kept.1)
+
+-- where the item is kept so, the value is
+pub step_kept : {node : Node} {path rest : Path} {f o k w h : Form} → path ≡ node ∷ rest → IsStepIn node f o k w h → IsKeptAlong rest k w → IsKeptAlong path f h
+step_kept is s kept = rw is (kept_along (opened_below s.opened s.item kept.1 s.put))
+
+-- so it is where its level is opened alone
+pub level_along : {node : Node} {rest : Path} {f o h : Form} → scalar_of_form f ≡ container_of (kind_of node) → IsOpened f o → h ≡ o
+    → IsOpenedAlong (node ∷ rest) f h
+level_along kind opened same = opened_at kind (rw same opened)
+
+pub level_kept : {node : Node} {path rest : Path} {f o h : Form} → path ≡ node ∷ rest → scalar_of_form f ≡ container_of (kind_of node) → IsOpened f o → h ≡ o
+    → IsKeptAlong path f h
+level_kept is kind opened same = rw is (kept_along (level_along kind opened same))
+
+-- a level whose list is as it was
+pub array_same : {o h : Form} {fs gs : List Form} → o ≡ level Array (unnamed fs) → gs ≡ fs → h ≡ level Array (unnamed gs) → h ≡ o
+array_same is same all = all ∙ ap (λ l. level Array (unnamed l)) same ∙ sym is
+
+pub object_same : {o h : Form} {ms ns : List (List ℕ × Form)} → o ≡ level Object (named ms) → ns ≡ ms → h ≡ level Object (named ns) → h ≡ o
+object_same is same all = all ∙ ap (λ l. level Object (named l)) same ∙ sym is
 
 -- an opened form that means a container is a level
 open_level : {f o : Form} {kind : Kind} {xs : Items} → IsOpened f o → FormMeans o (container kind xs) → (ms : Members) × (o ≡ level kind ms)
@@ -181,10 +206,14 @@ pub object_lacks : {f o : Form} (ms : List (List ℕ × Form)) {k : List ℕ} {p
     → ((p : ℕ) → ¬ HasKeyAt ms k p) → LeadsNowhere path f
 object_lacks ms {k} path opened is none = lacks path opened (rw is (item_of_none ms k none)) (λ b e. absurd cc)
 
--- what is left of a part means what it meant, and so does the whole
-pub put_still : {path : Path} {f m g h : Form} → IsPut path f m g h → MeansStill m g → MeansStill f h
-put_still put_here same x m = same x m
-put_still (put_on {node} opened item p is) same x m = rw is (item_still node (opened_means opened m) item (put_still p same))
+-- where a part is as it was, levels on its way alone are opened, and where levels on a way in it are opened, those too
+pub put_same : {path : Path} {f m g h : Form} → IsPut path f m g h → g ≡ m → IsOpenedAlong path f h
+put_same put_here same = as_before same
+put_same (put_on opened item p is) same = opened_below opened item (put_same p same) is
+
+pub put_along : {path more : Path} {f m g h : Form} → IsPut path f m g h → IsOpenedAlong more m g → IsOpenedAlong (path ++ more) f h
+put_along put_here along = along
+put_along (put_on opened item p is) along = opened_below opened item (put_along p along) is
 
 -- a path of the program begins with its first node, and goes on with the others
 abbrev rest_of : List PointerNode → List PointerNode

@@ -4,16 +4,16 @@ use Rattle.std.proofs.lemmas.List.{drop_all}
 use Rattle.sonic_owned.proofs.KeptTextLemmas.{opened_alike}
 use Rattle.sonic_owned.proofs.LeadingLemmas.{goes_in, kind_nowhere, level_nowhere, scalar_nowhere}
 use Rattle.sonic_owned.proofs.Lent.{found_by}
-use Rattle.sonic_owned.proofs.OpeningLemmas.{opened_means}
-use Rattle.sonic_owned.proofs.ReachLemmas.{item_still}
+use Rattle.sonic_owned.proofs.ReachLemmas.{longer}
 use Rattle.sonic_find.specs.Paths.{kind_of}
 use Rattle.sonic_lazy.specs.Scalars.{container, scalar_of}
 use Rattle.sonic_owned.specs.Forms.{Form, raw, level, Members, scalar_of_form, IsSound, raw_sound, level_sound}
-use Rattle.sonic_owned.specs.Leading.{Nowhere, item_in}
-use Rattle.sonic_owned.specs.Lends.{AtNode, HasItem, HasNoItem, lacks_item, other_kind, IfAtNode, IsFound, IsItemPut, IsLeft, Lending, last_nodes}
+use Rattle.sonic_owned.specs.Internal.Seen.{Nowhere}
+use Rattle.sonic_owned.specs.Leading.{item_in}
+use Rattle.sonic_owned.specs.Internal.Lends.{AtNode, HasItem, HasNoItem, lacks_item, other_kind, IfAtNode, IsLent, IsItemPut, IsLeft, Lending, last_nodes}
 use Rattle.sonic_owned.specs.Opened.{IsClosedContainer, IsClosedOf, IsOpened, as_it_was, level_opened}
-use Rattle.sonic_owned.specs.Puts.{put_in, IsPart, IsPut, put_here, put_on}
-use Rattle.sonic_owned.specs.Reached.{IsOpenedOn, opened_here, opened_further, MeansStill, LeadsNowhere}
+use Rattle.sonic_owned.specs.Puts.{put_in, IsPartOf, IsPut, put_here, put_on}
+use Rattle.sonic_owned.specs.Reached.{IsOpenedOn, opened_here, opened_further, IsOpenedAlong, as_before, opened_below, LeadsNowhere}
 use Rattle.sonic_owned.specs.declared.value.lend.Stop.{Stop}
 use Rattle.sonic_owned.specs.declared.value.lend.Stop.TheVariants.{Nowhere as Lost, NoMemory, TooDeep}
 use Rattle.sonic_pointer.specs.declared.node.PointerNode.{PointerNode}
@@ -38,8 +38,8 @@ pub put_further : {left : ℕ} {path : List PointerNode} {f i m g j h : Form} �
 put_further at p = rw at.first (put_on at.holds.opened at.holds.item p at.holds.put)
 
 part_further : {left : ℕ} {path : List PointerNode} {f i : Form} → AtNode left path (λ node. HasItem node f i) → (m : Form)
-    → IsPart (last_nodes (left - 1) path) i m
-    → IsPart (last_nodes left path) f m
+    → IsPartOf (last_nodes (left - 1) path) i m
+    → IsPartOf (last_nodes left path) f m
 part_further at m p = rw at.first (put_in at.node p.0 at.holds.level, put_on at.holds.opened at.holds.item p.1 refl)
 
 -- a level is to be opened on the way of the last nodes, if the path has so many
@@ -58,7 +58,7 @@ opened_later at later fits = rw at.first (opened_further at.holds.opened at.hold
 
 -- what is said of the part along the nodes that are left
 abbrev pub IsWalked : ℕ → List PointerNode → Form → Lending → Type 0
-IsWalked left path f r = IsFound (IsPart (last_nodes left path) f) (LeadsNowhere (last_nodes left path) f) (OpensFor left path f) r
+IsWalked left path f r = IsLent (IsPartOf (last_nodes left path) f) (LeadsNowhere (last_nodes left path) f) (OpensFor left path f) r
 
 pub found_further : {left : ℕ} {path : List PointerNode} {f i : Form} (r : Lending) → AtNode left path (λ node. HasItem node f i)
     → IsWalked (left - 1) path i r → IsWalked left path f r
@@ -100,18 +100,20 @@ kind_lost is sound other g l = lost_nowhere sound (other_kind other) _ g (rw is 
 
 -- where nothing is lent the path leads nowhere, or a level is to be opened, if it is said so
 pub found_stop : (left : ℕ) (path : List PointerNode) {f : Form} (stop : Stop) (P : Form → Type 0) → IsSound f → 0 < left
-    → IsFound P (AtNode left path (λ node. HasNoItem node f)) (IfAtNode left path (λ node. IsClosedOf (kind_of node) f)) (Err stop)
+    → IsLent P (AtNode left path (λ node. HasNoItem node f)) (IfAtNode left path (λ node. IsClosedOf (kind_of node) f)) (Err stop)
     → IsWalked left path f (Err stop)
 found_stop left path Lost P sound some at = λ g l. lost_nowhere sound at.holds _ g (rw at.first at l)
 found_stop left path {f} NoMemory P sound some opens = λ fits. let at = opens some fits in rw at.first (opened_here at.holds)
 found_stop left path TooDeep P sound some at = at
 
--- what is left means what it did
-pub left_means : (stop : Stop) (f h : Form) → IsLeft (Err stop) f h → MeansStill f h
-left_means Lost f h still x m = still x m
-left_means NoMemory f h e x m = rw e m
-left_means TooDeep f h e x m = absurd e
+-- where nothing is lent, only levels on the way of the last nodes are opened
+pub left_along : (left : ℕ) (path : List PointerNode) (stop : Stop) (f h : Form) → IsLeft (AtNode left path (λ node. IsOpenedAlong (node ∷ []) f h)) (Err stop) f h
+    → IsOpenedAlong (last_nodes left path) f h
+left_along left path Lost f h at = rw at.first (longer {path = at.node ∷ []} (last_nodes (left - 1) path) at.holds)
+left_along left path NoMemory f h e = as_before e
+left_along left path TooDeep f h e = absurd e
 
--- the value means what it did, where the item does
-pub means_further : {left : ℕ} {path : List PointerNode} {f i j h : Form} → AtNode left path (λ node. IsItemPut node f i j h) → MeansStill i j → MeansStill f h
-means_further at k x m = rw at.holds.put (item_still at.node (opened_means at.holds.opened m) at.holds.item k)
+-- and so it is where it is so of the item
+pub along_further : {left : ℕ} {path : List PointerNode} {f i j h : Form} → AtNode left path (λ node. IsItemPut node f i j h)
+    → IsOpenedAlong (last_nodes (left - 1) path) i j → IsOpenedAlong (last_nodes left path) f h
+along_further at along = rw at.first (opened_below at.holds.opened at.holds.item along at.holds.put)

@@ -1,5 +1,5 @@
 -- Integers of 64 bits, with a sign or without one.
-use Rattle.std.specs.Prelude.{ℕ, Option, Some, None, ℤ, pos, negsuc}
+use Rattle.std.specs.Prelude.{ℤ, pos}
 use Rattle.sonic_owned.specs.declared.integer.Kept.{Kept}
 use Rattle.sonic_owned.specs.declared.integer.Kept.TheVariants.{Unsigned, Signed}
 
@@ -7,8 +7,3 @@ use Rattle.sonic_owned.specs.declared.integer.Kept.TheVariants.{Unsigned, Signed
 abbrev pub value : Kept → ℤ
 value (Unsigned n) = pos n
 value (Signed z) = z
-
--- the value of an integer that has no sign
-abbrev pub natural : ℤ → Option ℕ
-natural (pos n) = Some n
-natural (negsuc n) = None

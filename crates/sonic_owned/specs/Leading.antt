@@ -31,10 +31,6 @@ pub data LeadsTo : Path → Form → Form → Type 0 where
   leads_on : {node : Node} {rest : Path} {f h g : Form} → item_in node f ≡ Some h → LeadsTo rest h g → LeadsTo (node ∷ rest) f g
   leads_in_text : {path : Path} {b : List ℕ} {i j : ℕ} → Leads b path (found i j) → LeadsTo path (raw b) (raw (slice_range b i j))
 
--- no path goes on from a form by this node
-abbrev pub Nowhere : Node → Form → Type 0
-Nowhere node f = (rest : Path) (g : Form) → ¬ LeadsTo (node ∷ rest) f g
-
 -- these bytes stand in the text
 abbrev pub StandsIn : List ℕ → List ℕ → Type 0
 StandsIn u t = (front : List ℕ) × (back : List ℕ) × (t ≡ front ++ (u ++ back))

@@ -2,6 +2,7 @@ pub mod Changes
 pub mod Edits
 pub mod Forms
 pub mod Integers
+pub mod Internal
 pub mod Leading
 pub mod Lends
 pub mod Opened

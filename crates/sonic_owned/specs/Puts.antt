@@ -33,8 +33,8 @@ pub data IsPut : Path → (f m g h : Form) → Type 0 where
       → IsPut (node ∷ rest) f m g h
 
 -- the path leads to m in the form f, with each level on the way opened
-abbrev pub IsPart : Path → Form → Form → Type 0
-IsPart path f m = (h : Form) × IsPut path f m m h
+abbrev pub IsPartOf : Path → Form → Form → Type 0
+IsPartOf path f m = (h : Form) × IsPut path f m m h
 
 -- members with another value at a position, whose key stays
 abbrev pub with_value : ℕ → Form → List (List ℕ × Form) → List (List ℕ × Form)

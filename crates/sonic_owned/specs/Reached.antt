@@ -1,19 +1,20 @@
 -- What a call that changes a part of a value leaves of it.
-use Rattle.std.specs.Prelude.{◌≡◌, ◌<◌, ◌≤◌, ◌∷◌, Bool, true, false, Result, Ok, Err, Some, length}
+use Rattle.std.specs.Prelude.{◌≡◌, ◌<◌, ◌≤◌, [], ◌∷◌, Some, length}
 use Rattle.sonic_error.specs.Errors.{IsPlainError}
 use Rattle.sonic_error.specs.declared.code.ErrorCode.TheVariants.{NoMemory, RecursionLimitExceeded}
 use Rattle.sonic_error.specs.declared.error.Error.{Error}
 use Rattle.sonic_find.specs.Paths.{kind_of}
-use Rattle.sonic_owned.specs.Edits.{IsChange}
-use Rattle.sonic_owned.specs.Forms.{Form, FormMeans}
+use Rattle.sonic_lazy.specs.Scalars.{container}
+use Rattle.sonic_owned.specs.Forms.{Form, FormMeans, scalar_of_form}
 use Rattle.sonic_owned.specs.Leading.{LeadsTo, item_in}
 use Rattle.sonic_owned.specs.Opened.{IsOpened, IsClosedOf}
-use Rattle.sonic_owned.specs.Puts.{IsPut}
-use Rattle.sonic_owned.specs.TreeEdits.{Change}
+use Rattle.sonic_owned.specs.Puts.{put_in, IsPartOf, IsPut}
+use Rattle.sonic_owned.specs.TreeEdits.{Change, Edit, set, push, pair, take}
 use Rattle.sonic_owned.specs.Views.{form}
 use Rattle.sonic_owned.specs.declared.value.OwnedLazyValue.{OwnedLazyValue}
-use Rattle.sonic_text.specs.Paths.{Node, Path}
+use Rattle.sonic_text.specs.Paths.{Node, key, index, Path}
 use Rattle.sonic_text.specs.Trees.{Tree}
+use Rattle.sonic_text.specs.declared.kind.Kind.TheVariants.{Array, Object}
 
 -- g means what f means
 abbrev pub MeansStill : (f g : Form) → Type 0
@@ -22,6 +23,24 @@ MeansStill f g = (x : Tree) → FormMeans f x → FormMeans g x
 -- the path leads to nothing in the form
 abbrev pub LeadsNowhere : Path → Form → Type 0
 LeadsNowhere path f = (g : Form) → ¬ LeadsTo path f g
+
+-- after is before, but that levels on the way of the path may be opened in it, each of the kind that its node asks for
+pub data IsOpenedAlong : Path → (before after : Form) → Type 0 where
+  as_before : {path : Path} {f h : Form} → h ≡ f → IsOpenedAlong path f h
+  opened_at : {node : Node} {rest : Path} {f h : Form} → scalar_of_form f ≡ container (kind_of node) → IsOpened f h → IsOpenedAlong (node ∷ rest) f h
+  opened_below : {node : Node} {rest : Path} {f level i j h : Form} → IsOpened f level → item_in node level ≡ Some i → IsOpenedAlong rest i j → h ≡ put_in node j level
+      → IsOpenedAlong (node ∷ rest) f h
+
+-- nothing is changed but that: after means what before means, and no level is opened but on the way of the path
+abbrev pub IsKeptAlong : Path → (before after : Form) → Type 0
+IsKeptAlong path before after = MeansStill before after × IsOpenedAlong path before after
+
+-- the way to what a change appends: an array is opened for an element, and an object for a member
+abbrev pub way_to_appended : Change Form → Path
+way_to_appended (push w) = index 0 ∷ []
+way_to_appended (pair k w) = key k ∷ []
+way_to_appended (set w) = []
+way_to_appended take = []
 
 -- on its way the path comes to a container that isn't opened, of the kind that the next node asks for
 pub data IsOpenedOn : Path → Form → Type 0 where
@@ -40,8 +59,14 @@ pub data IsUnreached (path : Path) (e : Error) : Type 0 where
   too_long : 255 < length path → IsPlainError e RecursionLimitExceeded → IsUnreached path e
   out_of_memory : length path ≤ 255 → IsPlainError e NoMemory → IsUnreached path e
 
--- what came of a change of f, after which there is g: it was made, or it was refused and the form is as it was, or there was no memory for it
-pub data IsChanged (c : Change Form) (f g : Form) : Result Bool Error → Type 0 where
-  change_made : IsChange f g c → IsChanged c f g (Ok true)
-  change_refused : ((h : Form) → ¬ IsChange f h c) → g ≡ f → IsChanged c f g (Ok false)
-  change_failed : {e : Error} → IsPlainError e NoMemory → MeansStill f g → IsChanged c f g (Err e)
+-- the change appends to the form, which is of the kind that it asks for
+abbrev pub Appends : Change Form → Form → Type 0
+Appends (push w) f = scalar_of_form f ≡ container Array
+Appends (pair k w) f = scalar_of_form f ≡ container Object
+Appends (set w) f = ⊥
+Appends take f = ⊥
+
+-- the edit takes memory: a level on the way of its path is to be opened, or it appends to what that leads to
+pub data NeedsMemory (e : Edit Form) (f : Form) : Type 0 where
+  for_a_level : IsOpenedOn e.path f → NeedsMemory e f
+  for_an_item : {part : Form} → IsPartOf e.path f part → Appends e.change part → NeedsMemory e f

@@ -1,22 +1,35 @@
 -- What a view shows, and what comes of a step.
-use Rattle.std.specs.Prelude.{◌≡◌, Some}
+use Rattle.std.specs.Prelude.{◌⊎◌, ◌↔◌, ℕ, List, Option, None, IsSome}
+use Rattle.std.specs.Cow.{IsBorrowedStr}
+use Rattle.std.specs.declared.borrow.CowStr.{CowStr}
 use Rattle.sonic_lazy.specs.LazyValues.{raw_bytes}
+use Rattle.sonic_lazy.specs.StringTexts.{IsEscapedText}
 use Rattle.sonic_owned.specs.Forms.{Form, raw}
-use Rattle.sonic_owned.specs.Leading.{Nowhere, item_in}
-use Rattle.sonic_owned.specs.Views.{form}
-use Rattle.sonic_owned.specs.declared.value.pointer.Step.{Step}
-use Rattle.sonic_owned.specs.declared.value.pointer.Step.TheVariants as step
+use Rattle.sonic_owned.specs.Views.{form, made_text, array_in, object_in}
+use Rattle.sonic_owned.specs.declared.value.LazyArray.{LazyArray}
+use Rattle.sonic_owned.specs.declared.value.LazyObject.{LazyObject}
 use Rattle.sonic_owned.specs.declared.view.OwnedView.{OwnedView}
 use Rattle.sonic_owned.specs.declared.view.OwnedView.TheVariants.{Node, Raw}
-use Rattle.sonic_text.specs.Paths as path
 
 -- the form of what is seen
 abbrev pub view_form : OwnedView → Form
 view_form (Node value) = form value.now
 view_form (Raw value) = raw (raw_bytes value)
 
--- by the node the form leads on to an item, it isn't opened, or it leads nowhere
-abbrev pub IsStep : path.Node → Form → Step → Type 0
-IsStep node f (step.Item value) = item_in node f ≡ Some (form value.now)
-IsStep node f (step.Unopened text) = f ≡ raw text.now.text
-IsStep node f step.Nowhere = Nowhere node f
+-- the text that it was made of, if it is a string that was made
+abbrev pub view_made : OwnedView → Option (List ℕ)
+view_made (Node value) = made_text value.now
+view_made (Raw value) = None
+
+-- the level that it is opened to, if it is one
+abbrev pub view_array : OwnedView → Option LazyArray
+view_array (Node value) = array_in value.now
+view_array (Raw value) = None
+
+abbrev pub view_object : OwnedView → Option LazyObject
+view_object (Node value) = object_in value.now
+view_object (Raw value) = None
+
+-- what a string denotes is borrowed exactly where it was made of that, or has no backslash
+abbrev pub IsLentText : {Z : Type 0} → Option (List ℕ) → List ℕ → CowStr Z → Type 0
+IsLentText made t shown = IsBorrowedStr shown ↔ (IsSome made ⊎ ¬ IsEscapedText t)

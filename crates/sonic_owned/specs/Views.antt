@@ -75,3 +75,11 @@ pub data IsLevelOf (f : Form) : Option LazyArray → Option LazyObject → Type 
   an_array : {a : LazyArray} → f ≡ level Array (unnamed (elements a)) → IsLevelOf f (Some a) None
   an_object : {o : LazyObject} → f ≡ level Object (named (members o)) → IsLevelOf f None (Some o)
   no_level : ((kind : Kind) (ms : Members) → f ≢ level kind ms) → IsLevelOf f None None
+
+-- the text that a string was made of, if the value is one that was made
+abbrev pub node_text : Node-F Node LazyArray LazyObject OwnedLazyValue → Option (List ℕ)
+node_text (Node-F.Text s) = Some s.text
+node_text other = None
+
+abbrev pub made_text : OwnedLazyValue → Option (List ℕ)
+made_text v = node_text (out-Node (out-OwnedLazyValue v).node)

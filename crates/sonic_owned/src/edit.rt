@@ -1,8 +1,9 @@
 // Edits of a value.
-ghost use Rattle.std.specs.Prelude.{◌≡◌, false, IfOk, IfErr, IsTrue, OnErr};
+ghost use Rattle.std.specs.Prelude.{◌≡◌, ◌≤◌, ◌++◌, length, false, IfOk, IfErr, IsTrue, OnErr};
 ghost use Rattle.sonic_owned.specs.Changes.{change_of};
 ghost use Rattle.sonic_owned.specs.Edits.{IsEdit, IsRefused};
-ghost use Rattle.sonic_owned.specs.Reached.{IsChanged, IsUnreached, MeansStill};
+ghost use Rattle.sonic_owned.specs.Internal.Changed.{IsChanged};
+ghost use Rattle.sonic_owned.specs.Reached.{IsKeptAlong, IsUnreached, NeedsMemory, way_to_appended};
 ghost use Rattle.sonic_owned.specs.TreeEdits.{edit_at, push, pair};
 ghost use Rattle.sonic_owned.specs.Views.{form};
 ghost use Rattle.sonic_pointer.specs.Nodes.{path_of};
@@ -34,7 +35,8 @@ impl OwnedLazyValue {
     ///
     /// The levels on the way are opened, and the one that is appended to. All else stays as it was,
     /// and what wasn't opened keeps its text. A refused edit, and an error, leave what the value
-    /// means. The errors are those of [`OwnedLazyValue::with_mut`].
+    /// means, and open no other level. The errors are those of [`OwnedLazyValue::with_mut`], and memory
+    /// runs out only where a level on the way is to be opened, or something is to be appended.
     ///
     /// Of `{"a" : [1, 2] , "b":{ }}` pushing `3` at the path of `a` makes `{"a":[1,2,3],"b":{ }}`.
     pub fn edit(&mut self, alloc: Global, path: &[PointerNode<'_>], change: Change) -> Result<bool>
@@ -42,9 +44,13 @@ impl OwnedLazyValue {
             → IsEdit (edit_at (path_of path.now) (change_of change)) (form self.old) (form self.new)) }
         ensures refused { IfOk result (λ made. made ≡ false
             → IsRefused (edit_at (path_of path.now) (change_of change)) (form self.old)) }
-        ensures same { IfOk result (λ made. made ≡ false → MeansStill (form self.old) (form self.new)) }
+        ensures same { IfOk result (λ made. made ≡ false
+            → IsKeptAlong (path_of path.now) (form self.old) (form self.new)) }
         ensures err { IfErr result (IsUnreached (path_of path.now)) }
-        ensures kept { OnErr result (MeansStill (form self.old) (form self.new)) }
+        ensures kept { OnErr result (IsKeptAlong (path_of path.now ++ way_to_appended (change_of change))
+            (form self.old) (form self.new)) }
+        ensures memory { OnErr result (length path.now ≤ 255
+            → NeedsMemory (edit_at (path_of path.now) (change_of change)) (form self.old)) }
     {
         let changed = self.with_mut(
             alloc,
@@ -85,13 +91,13 @@ impl OwnedLazyValue {
             return Ok(false);
         }
         self.load(alloc)?;
-        match self.array_level() {
-            Some(array) => match array.push(element) {
-                Ok(()) => Ok(true),
-                Err(_) => Err(Error::plain(ErrorCode::NoMemory)),
-            },
-            // An array that is loaded is opened, so this never comes.
-            None => Ok(false),
+        let Some(array) = self.array_level() else {
+            // An array that is loaded is opened.
+            unreachable!();
+        };
+        match array.push(element) {
+            Ok(()) => Ok(true),
+            Err(_) => Err(Error::plain(ErrorCode::NoMemory)),
         }
     }
 
@@ -103,13 +109,13 @@ impl OwnedLazyValue {
             return Ok(false);
         }
         self.load(alloc)?;
-        match self.object_level() {
-            Some(object) => match object.append_pair(key, value) {
-                Ok(()) => Ok(true),
-                Err(_) => Err(Error::plain(ErrorCode::NoMemory)),
-            },
-            // An object that is loaded is opened, so this never comes.
-            None => Ok(false),
+        let Some(object) = self.object_level() else {
+            // An object that is loaded is opened.
+            unreachable!();
+        };
+        match object.append_pair(key, value) {
+            Ok(()) => Ok(true),
+            Err(_) => Err(Error::plain(ErrorCode::NoMemory)),
         }
     }
 }

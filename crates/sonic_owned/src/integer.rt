@@ -3,7 +3,8 @@ ghost use Rattle.std.specs.Prelude.{◌≡◌, ◌<◌, ◌^◌, FitsSigned, uns
 ghost use Rattle.std.proofs.Props.{props};
 ghost use Rattle.std.specs.Int.{w64};
 ghost use Rattle.std.specs.Option.{SomeIff};
-ghost use Rattle.sonic_owned.specs.Integers.{value, natural};
+ghost use Rattle.sonic_owned.specs.Integers.{value};
+ghost use Rattle.sonic_owned.specs.Internal.Naturals.{natural};
 
 use std::fmt;
 use std::fmt::Write;

@@ -22,7 +22,7 @@ type Case = (
     &'static str,
 );
 
-const CASES: [Case; 24] = [
+const CASES: [Case; 26] = [
     (
         r#"{"a" : [1, 2] , "b":{ "c" : 0 }}"#,
         &[Key("a"), Index(1)],
@@ -105,6 +105,21 @@ const CASES: [Case; 24] = [
         ("push", "", "1"),
         false,
         r#"[{ "a" : 0 }]"#,
+    ),
+    // The levels on the way are opened, as far as it leads, and none beside it.
+    (
+        r#"{"a" : [ 1 ] , "b":{ "c" : 0 }}"#,
+        &[Key("a"), Index(1)],
+        ("set", "", "1"),
+        false,
+        r#"{"a":[1],"b":{ "c" : 0 }}"#,
+    ),
+    (
+        r#"{"a" : [ 1 ] , "b":{ "c" : 0 }}"#,
+        &[Key("d"), Key("c")],
+        ("take", "", ""),
+        false,
+        r#"{"a":[ 1 ],"b":{ "c" : 0 }}"#,
     ),
 ];
 

@@ -1,5 +1,7 @@
 // Where paths lead, before a value is opened and after.
 use crate::same::same;
+use sonic_error::JsonType;
+use sonic_lazy::{JsonContainerTrait, JsonValueTrait};
 use sonic_owned::{OwnedLazyValue, OwnedView};
 use sonic_pointer::PointerNode;
 use sonic_pointer::PointerNode::{Index, Key};
@@ -85,6 +87,48 @@ fn looks_on_from_what_it_found(rt: HostRuntime) -> Result<(), Fail> {
         }
         assert!(rt; value.load(alloc).is_ok());
     }
+    Ok(())
+}
+
+// What paths lead to in one document: its type, which truth value it is, and which integer.
+fn views() -> [(PointerNode<'static>, JsonType, Option<bool>, Option<i64>); 6] {
+    [
+        (Key("a"), JsonType::Array, None, None),
+        (Key("b"), JsonType::Boolean, Some(false), None),
+        (Key("c"), JsonType::Number, None, Some(7)),
+        (Key("d"), JsonType::Number, None, None),
+        (Key("e"), JsonType::String, None, None),
+        (Key("f"), JsonType::Null, None, None),
+    ]
+}
+
+#[test]
+fn says_what_it_found(rt: HostRuntime) -> Result<(), Fail> {
+    let alloc = rt.alloc();
+    let json = r#"{"a":[0],"b":false,"c":7,"d":7.0,"e":"7","f":null}"#;
+    let Ok(mut value) = OwnedLazyValue::from_str(alloc, json) else {
+        panic!(rt; "it is a document");
+    };
+    for _ in 0..2 {
+        for (node, kind, truth, integer) in views() {
+            let view = value.get(node);
+            same(&rt, view.get_type(), kind);
+            same(&rt, view.as_bool(), truth);
+            same(&rt, view.as_i64(), integer);
+            same(&rt, view.is_u64(), integer.is_some());
+            assert!(rt; view.as_array().is_none() && view.as_object().is_none());
+        }
+        assert!(rt; value.load(alloc).is_ok());
+    }
+    match value.get_mut(alloc, Key("a")) {
+        Ok(Some(array)) => assert!(rt; array.load(alloc).is_ok()),
+        _ => panic!(rt; "the key is there"),
+    }
+    match value.get(Key("a")).as_array() {
+        Some(array) => same(&rt, array.len(), 1),
+        None => panic!(rt; "the array is opened"),
+    }
+    assert!(rt; value.pointer(&[]).as_object().is_some());
     Ok(())
 }
 

@@ -66,6 +66,7 @@ fn writes_what_was_read_and_what_was_opened(rt: HostRuntime) -> Result<(), Fail>
     for (json, before, after) in opened_texts() {
         let mut value = read(&rt, alloc, json);
         check_text(&rt, alloc, &value, before);
+        same_at(&rt, &format!(in alloc; "{value:?}")?[..], before, json);
         load(&rt, alloc, &mut value);
         check_text(&rt, alloc, &value, after);
         // A level is opened once.

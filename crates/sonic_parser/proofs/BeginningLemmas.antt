@@ -13,10 +13,10 @@ use Rattle.sonic_text.proofs.Values.{value-longer, items_open}
 use Rattle.sonic_parser.specs.declared.begin.Begun.TheVariants.{Inside}
 use Rattle.sonic_parser.specs.declared.container.Next.TheVariants.{Item, End}
 use Rattle.sonic_parser.specs.declared.status.ParseStatus.TheVariants.{HasEscaped, None as NoNeed}
-use Rattle.sonic_parser.specs.Containers.{IsFirst}
+use Rattle.sonic_parser.specs.Internal.Containers.{IsAfterBracket}
 use Rattle.sonic_parser.specs.declared.quick.Ahead.{Ahead}
 use Rattle.sonic_parser.specs.declared.quick.Ahead.TheVariants.{Value, Other}
-use Rattle.sonic_parser.specs.Skipping.{IsComplete, IsBegun, IsItem, IsAhead, IsValueEnd}
+use Rattle.sonic_parser.specs.Internal.Skipping.{IsComplete, IsBegun, IsItem, IsAhead, IsValueEnd}
 
 -- what begins with another byte is no string with a backslash
 pub no_escape : (t : List ℕ) (i e : ℕ) → byte t i ≢ 34 → (NoNeed ≡ HasEscaped) ↔ IsEscapedString t i e
@@ -28,12 +28,12 @@ pub plain_value : {m : Bool} {t : List ℕ} {i e : ℕ} → byte t i ≢ 34 → 
 plain_value {t = t} {i} {e} other later within x = record { later = later; within = within; value = x; status = no_escape t i e other }
 
 -- so is an empty container
-pub empty_begun : {m : Bool} {t : List ℕ} {i e : ℕ} (kind : Kind) → byte t i ≡ opening kind → IsFirst t kind i (End e)
+pub empty_begun : {m : Bool} {t : List ℕ} {i e : ℕ} (kind : Kind) → byte t i ≡ opening kind → IsAfterBracket t kind i (End e)
     → IsComplete m t i (record { end = e; status = NoNeed })
 empty_begun kind b f = plain_value (λ q. opening_no_quote kind (omega arith)) f.0 f.1 (empty kind b f.2.0 f.2.1)
 
 -- and one with items goes on with the first
-pub filled_begun : {m : Bool} {t : List ℕ} {i h : ℕ} {kind : Kind} → byte t i ≡ opening kind → IsFirst t kind i (Item h)
+pub filled_begun : {m : Bool} {t : List ℕ} {i h : ℕ} {kind : Kind} → byte t i ≡ opening kind → IsAfterBracket t kind i (Item h)
     → IsBegun m t i (Inside kind h)
 filled_begun b f = (f.0, f.1, first_item b f.2 f.3 refl)
 

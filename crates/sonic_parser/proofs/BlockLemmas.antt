@@ -6,16 +6,17 @@ use Rattle.std.proofs.lemmas.Nat.{and_mask}
 use Rattle.std.proofs.lemmas.Nat.Bits.{bit_at_lowest, bit_at_ones, bit_at-trailing_ones}
 use Rattle.std.specs.Int.{trailing_ones}
 use Rattle.sonic_blocks.proofs.BoolLemmas.{xor, not_false}
-use Rattle.sonic_parser.specs.Unchecked.{IsInside}
+use Rattle.sonic_parser.specs.Internal.Unchecked.{IsInsideString}
 use lib.Bits.{bit_and, and_le_l}
 use lib.Count.{ones}
 use Rattle.sonic_blocks.specs.Bits.{is_set, is_inside, count_below}
 use Rattle.sonic_blocks.specs.Closings.{StaysOpen, IsClosingBit}
-use Rattle.sonic_blocks.specs.Outside.{is_escaped_at, is_inside_at, outside, AreCarried}
+use Rattle.sonic_blocks.specs.Outside.{is_escaped_at, is_inside_at, outside}
+use Rattle.sonic_blocks.specs.Internal.Carried.{AreCarried}
 use Rattle.sonic_blocks.specs.Views.{AreMasks, IsMask}
 use Rattle.sonic_blocks.specs.declared.tape.Masks.{Masks}
 use Rattle.sonic_parser.specs.declared.blocks.Known.{Known}
-use Rattle.sonic_parser.specs.Blocks.{AreKnown}
+use Rattle.sonic_parser.specs.Internal.Blocks.{AreKnown}
 use Rattle.sonic_blocks.proofs.BitLemmas.{flip, set_and, set_flip}
 use Rattle.sonic_blocks.proofs.BlockLemmas.{IsBlock, carried_start, counted, inside_bit}
 use Rattle.sonic_blocks.proofs.CountLemmas.{count_from}
@@ -210,7 +211,7 @@ module _ {t : List ℕ} {s p e i bs qs x start : ℕ} (h : IsBlock t s p e i bs 
   string_later all = stays 64 (omega arith) (λ k l. ap (λ y. is_set y k) all ∙ ap (λ b. b == 1) (bit_at_ones 64 k l))
 
 -- what carries over to a block that begins inside a string
-pub carried_inside : {t : List ℕ} {s p : ℕ} → IsInside t s p → AreCarried t s p 0 (2 ^ 64 - 1)
+pub carried_inside : {t : List ℕ} {s p : ℕ} → IsInsideString t s p → AreCarried t s p 0 (2 ^ 64 - 1)
 carried_inside {t} {s} {p} h = record {
   from = h.from;
   escapes = sym (ap (λ b. cond b 1 0) h.no_escape);

@@ -15,8 +15,9 @@ use Rattle.sonic_parser.specs.declared.begin.Begun.TheVariants.{Inside}
 use Rattle.sonic_parser.specs.declared.begin.Skipped.{Skipped}
 use Rattle.sonic_parser.specs.declared.container.Next.TheVariants.{Item, End}
 use Rattle.sonic_parser.specs.declared.skip.Reached.TheVariants.{Expected, Closed}
-use Rattle.sonic_parser.specs.Containers.{IsNext, IsSeparatorFault}
-use Rattle.sonic_parser.specs.Skipping.{IsComplete, IsBegun, IsItem, IsItemFault, IsOpen, here, inside, IsItemExpected, IsItemEnded, IsTop, IsReached, IsValueEnd}
+use Rattle.sonic_parser.specs.Internal.Containers.{IsAfterValue}
+use Rattle.sonic_parser.specs.Containers.{IsSeparatorFault}
+use Rattle.sonic_parser.specs.Internal.Skipping.{IsComplete, IsBegun, IsItem, IsItemFault, IsOpen, here, inside, IsItemExpected, IsItemEnded, IsTop, IsReached, IsValueEnd}
 
 -- a container whose first item is expected is open alone
 pub first_item_expected : {m : Bool} {t : List ℕ} {kind : Kind} {i h : ℕ} → h ≤ length t → ItemsFit m t kind i 0 h → IsReached m t i (kind ∷ []) (Expected h)
@@ -128,7 +129,7 @@ arrays_inside {m} {t} {i} (suc n) p kinds brackets last r =
     rw (append_assoc kinds (Array ∷ []) (replicate n Array), sum) at more
 
 -- after a comma the next item is expected
-pub next_expected : {m : Bool} {t : List ℕ} {i e h : ℕ} {kinds : List Kind} (kind : Kind) → IsItemEnded m t i kinds e → IsNext t kind e (Item h)
+pub next_expected : {m : Bool} {t : List ℕ} {i e h : ℕ} {kinds : List Kind} (kind : Kind) → IsItemEnded m t i kinds e → IsAfterValue t kind e (Item h)
     → IsReached m t i kinds (Expected h)
 next_expected kind x b =
     let d = x.item in
@@ -143,7 +144,7 @@ pub record IsClosed (m : Bool) (t : List ℕ) (i : ℕ) (kinds : List Kind) (j :
 
 -- so it is at the closing bracket
 pub last_ended : {m : Bool} {t : List ℕ} {i e j : ℕ} {kinds outer : List Kind} {kind : Kind} → IsItemEnded m t i kinds e → IsTop kinds kind
-    → IsNext t kind e (End j) → outer ≡ take (length kinds - 1) kinds → IsClosed m t i outer j
+    → IsAfterValue t kind e (End j) → outer ≡ take (length kinds - 1) kinds → IsClosed m t i outer j
 last_ended {kinds = kinds} {kind = kind} x last b left =
     let d = x.item in
     let head = rw (top kinds d.outer d.kind kind d.kinds_are last) at x.head in

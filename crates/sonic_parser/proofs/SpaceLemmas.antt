@@ -9,8 +9,8 @@ use Rattle.sonic_blocks.specs.Firsts.{IsFirst, is_one_of}
 use Rattle.sonic_blocks.proofs.BoolLemmas.{not_false, not_true}
 use Rattle.sonic_blocks.proofs.RunLemmas.{run_passes}
 use Rattle.sonic_text.specs.Places.{byte, is_space, after_space}
-use Rattle.sonic_parser.specs.Spaces.{AreWords}
-use Rattle.sonic_parser.specs.Unchecked.{IsMark}
+use Rattle.sonic_parser.specs.Internal.Spaces.{AreWords}
+use Rattle.sonic_parser.specs.Internal.Unchecked.{IsMark}
 use Rattle.sonic_parser.specs.declared.space.SpaceBlock.{SpaceBlock}
 
 module _ (t : List ℕ) where

@@ -6,7 +6,7 @@ use Rattle.std.specs.Str.{IsUtf8}
 use Rattle.sonic_text.proofs.PlainStrings.{plain_string}
 use Rattle.sonic_text.proofs.Strings.{chars_later}
 use Rattle.sonic_text.specs.Strings.{contents, IsString, IsEscapedString}
-use Rattle.sonic_parser.specs.StringsAhead.{IsAhead}
+use Rattle.sonic_parser.specs.Internal.StringsAhead.{IsAhead}
 use Rattle.sonic_parser.specs.Texts.{text_of, IsTextThere}
 
 -- of two facts the second is whether a test fails

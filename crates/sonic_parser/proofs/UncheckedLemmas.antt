@@ -24,8 +24,8 @@ use Rattle.sonic_text.proofs.Values.{value-longer, value_end_one, value_never_bo
 use Rattle.sonic_text.proofs.QuotedLemmas.{StaysInside, last_inside, byte_inside}
 use Rattle.sonic_text.proofs.Within.{value_within}
 use Rattle.sonic_parser.specs.declared.status.ParseStatus.TheVariants.{None as NoNeed}
-use Rattle.sonic_parser.specs.Skipping.{IsComplete}
-use Rattle.sonic_parser.specs.Unchecked.{IsWholeString, IsInside}
+use Rattle.sonic_parser.specs.Internal.Skipping.{IsComplete}
+use Rattle.sonic_parser.specs.Internal.Unchecked.{IsWholeString, IsInsideString}
 use Rattle.sonic_parser.proofs.BeginningLemmas.{plain_value}
 
 -- a byte that is none of three
@@ -55,7 +55,7 @@ module _ {t : List ℕ} {s p : ℕ} where
   inside_before {q} {j} h later outside = elim (cases_lt q j) [ inl l ↦ l | inr l ↦ absurd (false≢true (sym outside ∙ h.inside j later l)) ]
 
 -- the last place of a stretch is inside
-pub is_inside : {t : List ℕ} {s p q : ℕ} → StaysInside t s p q → IsInside t s q
+pub is_inside : {t : List ℕ} {s p q : ℕ} → StaysInside t s p q → IsInsideString t s q
 is_inside {t} {s} h = record { from = h.from; no_escape = h.no_escape; in_string = last_inside t s h }
 
 -- and what leaves the string there leaves it

@@ -1,12 +1,10 @@
 -- How a container goes on: after its opening bracket, and after an item.
-use Rattle.std.specs.Prelude.{◌≡◌, ◌≢◌, ◌⊎◌, ℕ, ◌+◌, ◌<◌, ◌≤◌, List, length}
+use Rattle.std.specs.Prelude.{◌≡◌, ◌⊎◌, ℕ, ◌+◌, List}
 use Rattle.sonic_text.specs.declared.kind.Kind.{Kind}
 use Rattle.sonic_text.specs.declared.stop.Stop.{Stop}
 use Rattle.sonic_text.specs.Places.{byte, after_space, bad}
 use Rattle.sonic_text.specs.Values.{closing}
 use Rattle.sonic_text.specs.Faults.{NothingFits, code_after_item}
-use Rattle.sonic_parser.specs.declared.container.Next.{Next}
-use Rattle.sonic_parser.specs.declared.container.Next.TheVariants.{Item, End}
 
 -- after what ends at e the closing bracket comes, and ends at j
 abbrev pub IsEnd : List ℕ → Kind → ℕ → ℕ → Type 0
@@ -23,13 +21,3 @@ GoesOn t kind e = (byte t (after_space t e) ≡ 44) ⊎ (byte t (after_space t e
 -- neither comes, for this reason
 abbrev pub IsSeparatorFault : List ℕ → Kind → ℕ → Stop → Type 0
 IsSeparatorFault t kind e s = NothingFits t e (closing kind) × (s ≡ bad t (after_space t e) (code_after_item kind))
-
--- after the bracket at i the first item is expected, or the closing bracket comes
-abbrev pub IsFirst : List ℕ → Kind → ℕ → Next → Type 0
-IsFirst t kind i (Item h) = (i < h) × (h ≤ length t) × (h ≡ after_space t (i + 1)) × (byte t h ≢ closing kind)
-IsFirst t kind i (End j) = (i < j) × (j ≤ length t) × IsEnd t kind (i + 1) j
-
--- after the item whose value ends at e the next one is expected, or the closing bracket comes
-abbrev pub IsNext : List ℕ → Kind → ℕ → Next → Type 0
-IsNext t kind e (Item h) = (e < h) × (h ≤ length t) × IsSeparated t e h
-IsNext t kind e (End j) = (e < j) × (j ≤ length t) × IsEnd t kind e j

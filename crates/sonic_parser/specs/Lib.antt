@@ -1,12 +1,7 @@
-pub mod Blocks
 pub mod Containers
 pub mod Faults
 pub mod Honest
+pub mod Internal
 pub mod Parsers
 pub mod Rows
-pub mod Skipping
-pub mod Spaces
-pub mod StringsAhead
 pub mod Texts
-pub mod Unchecked
-pub mod Views

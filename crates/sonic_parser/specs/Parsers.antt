@@ -1,5 +1,5 @@
 -- A parser, and what its calls do with the text that is left.
-use Rattle.std.specs.Prelude.{◌≡◌, ◌≢◌, ◌↔◌, ◌⊎◌, ℕ, ◌+◌, ◌-◌, ◌<◌, Bool, List, slice_range, IsTrue}
+use Rattle.std.specs.Prelude.{◌≡◌, ◌≢◌, ◌↔◌, ◌⊎◌, ℕ, ◌+◌, ◌-◌, ◌<◌, ◌≤◌, Bool, List, slice_range, IsTrue}
 use Rattle.sonic_error.specs.declared.error.Error.{Error}
 use Rattle.sonic_error.specs.declared.code.ErrorCode.TheVariants.{Message, NoMemory}
 use Rattle.sonic_error.specs.declared.json_type.Note.TheVariants.{Mismatch}
@@ -86,8 +86,9 @@ pub record IsPassed (before now : Parsing) (needs : ParseStatus) : Type 0 where
   pub value : IsValue before.lossy before.text before.place now.place
   pub status : (needs ≡ HasEscaped) ↔ IsEscapedString before.text before.place now.place
 
--- no value of the type that is wanted begins before the cursor: it has a fault, or it is of another type, which is told at its last byte
-pub data IsMismatch (parser : Parsing) (wanted : Wanted) (s : Stop) : Type 0 where
-  no_value : IsFault parser.lossy parser.text (parser.place - 1) s → IsMismatch parser wanted s
-  other_type : {j : ℕ} → IsValue parser.lossy parser.text (parser.place - 1) j
-      → s ≡ record { place = j - 1; code = Message (Mismatch (type_at parser.text (parser.place - 1)) wanted) } → IsMismatch parser wanted s
+-- the value that begins before the cursor is of another type than is wanted, which the error says at its last byte, and the parser has come to its end
+pub record IsMismatch (wanted : Wanted) (before now : Parsing) (e : Error) : Type 0 where
+  pub value : IsValue before.lossy before.text (before.place - 1) now.place
+  pub error : IsErrorAt e (Message (Mismatch (type_at before.text (before.place - 1)) wanted)) before.text (now.place - 1)
+  pub later : before.place ≤ now.place
+  pub cursor : now ≡ moved before now.place

@@ -51,11 +51,13 @@ pub data IsNoText (m : Bool) (t : List ℕ) (i : ℕ) (s : Stop) : Type 0 where
   broken_contents : {j : ℕ} {b : List ℕ} → m ≡ strict → IsString strict t i j b → ¬ IsUtf8 (contents t i j)
       → s ≡ record { place = i + 1 + valid_up_to (contents t i j); code = InvalidUTF8 } → IsNoText m t i s
 
--- there is no memory for the text of the string whose first quote comes before the cursor, which isn't there in the input, and the parser is where it was
+-- there is no memory for the text of the string whose first quote comes before the cursor: it has one, which isn't there in the input, and the parser is
+-- where it was
 pub record IsShortOfText (before now : Parsing) (e : Error) : Type 0 where
   pub end : ℕ
   pub bytes : List ℕ
   pub string : IsString before.lossy before.text (before.place - 1) end bytes
+  pub utf8 : before.lossy ≡ strict → IsUtf8 (contents before.text (before.place - 1) end)
   pub copied : ¬ IsTextThere before.text (before.place - 1) end
   pub error : IsPlainError e NoMemory
   pub cursor : now ≡ before

@@ -2,7 +2,7 @@ ghost use Rattle.std.specs.Prelude.{◌≡◌, ◌≤◌, ◌⊎◌, Bool, lengt
 ghost use Rattle.sonic_text.specs.Places.{byte, IsDigit};
 ghost use Rattle.sonic_text.specs.Values.{opening};
 ghost use Rattle.sonic_text.specs.Faults.{IsFault};
-ghost use Rattle.sonic_parser.specs.Skipping.{IsBegun};
+ghost use Rattle.sonic_parser.specs.Internal.Skipping.{IsBegun};
 
 use crate::container::{Next, first_item};
 use crate::status::ParseStatus;

@@ -5,7 +5,8 @@ ghost use Rattle.sonic_text.specs.Places.{byte};
 ghost use Rattle.sonic_text.specs.Strings.{IsString, IsEscapedString};
 ghost use Rattle.sonic_text.specs.Values.{opening, IsKey};
 ghost use Rattle.sonic_text.specs.Faults.{IsKeyFault};
-ghost use Rattle.sonic_parser.specs.Containers.{IsFirst, IsNext, IsSeparatorFault};
+ghost use Rattle.sonic_parser.specs.Internal.Containers.{IsAfterBracket, IsAfterValue};
+ghost use Rattle.sonic_parser.specs.Containers.{IsSeparatorFault};
 
 use sonic_error::ErrorCode;
 use sonic_text::{Kind, Stop, StringEnd, byte_at, skip_space, skip_string, stop_at, string_end};
@@ -24,7 +25,7 @@ pub(crate) enum Next {
 pub(crate) fn first_item(text: &[u8], place: usize, kind: Kind) -> Next
     requires within { place ≤ length text.now }
     requires bracket { byte text.now place ≡ opening kind }
-    ensures { IsFirst text.now kind place result }
+    ensures { IsAfterBracket text.now kind place result }
 {
     let first = skip_space(text, place + 1);
     if byte_at(text, first) == kind.closing() {
@@ -38,7 +39,7 @@ pub(crate) fn first_item(text: &[u8], place: usize, kind: Kind) -> Next
 #[inline(always)]
 pub(crate) fn next_item(text: &[u8], end: usize, kind: Kind) -> Result<Next, Stop>
     requires { end ≤ length text.now }
-    ensures ok { IfOk result (λ next. IsNext text.now kind end next) }
+    ensures ok { IfOk result (λ next. IsAfterValue text.now kind end next) }
     ensures err { IfErr result (λ s. IsSeparatorFault text.now kind end s) }
 {
     let place = skip_space(text, end);

@@ -55,7 +55,7 @@ impl<'de> Model for Parser<'de> {
 
     ghost Value = { Parsing };
 
-    ghost use Rattle.sonic_parser.specs.Views.{parsing_of, KeepsSpace};
+    ghost use Rattle.sonic_parser.specs.Internal.Views.{parsing_of, KeepsSpace};
 
     ghost view = { parsing_of };
 

@@ -5,7 +5,7 @@ ghost use Rattle.std.specs.Prelude.{◌≡◌, ◌≢◌, ◌+◌, ◌<◌, ◌�
 ghost use Rattle.sonic_text.specs.declared.kind.Kind.{Kind};
 ghost use Rattle.sonic_text.specs.Places.{byte};
 ghost use Rattle.sonic_text.specs.Values.{opening};
-ghost use Rattle.sonic_parser.specs.Skipping.{IsItem, IsAhead, IsTop, IsValueEnd, IsReached, IsOngoing, place_of};
+ghost use Rattle.sonic_parser.specs.Internal.Skipping.{IsItem, IsAhead, IsTop, IsValueEnd, IsReached, IsOngoing, place_of};
 
 use crate::container::{Next, first_item, skip_key};
 use crate::skip::{Extent, Reached, leave};

@@ -1,7 +1,7 @@
 // White space by blocks, of which the last one is kept.
 ghost use Rattle.std.specs.Prelude.{◌≡◌, ℕ, ◌+◌, ◌<◌, ◌≤◌, length, MatchOption, IfSome, IfNone};
 ghost use Rattle.sonic_text.specs.Places.{byte, after_space, is_space};
-ghost use Rattle.sonic_parser.specs.Spaces.{AreWords, IsKept};
+ghost use Rattle.sonic_parser.specs.Internal.Spaces.{AreWords, IsKeptBlock};
 
 use sonic_blocks::{get_nonspace_bits, next_bit};
 use sonic_text::skip_space;
@@ -43,10 +43,10 @@ fn word_in(text: &[u8], block: SpaceBlock, place: usize) -> Option<usize>
 // used where the place is in it, and else the last whole one that is looked at is kept.
 pub(crate) fn words_from(text: &[u8], place: usize, kept: &mut Option<SpaceBlock>) -> usize
     requires place { place ≤ length text.now }
-    requires kept { IsKept text.now kept.old }
+    requires kept { IsKeptBlock text.now kept.old }
     ensures end { result ≡ after_space text.now place }
     ensures within { result ≤ length text.now }
-    ensures kept { IsKept text.now kept.new }
+    ensures kept { IsKeptBlock text.now kept.new }
 {
     let mut at = place;
     if let Some(block) = *kept

@@ -11,9 +11,10 @@ ghost use Rattle.sonic_text.specs.Numbers.{IsNumber};
 ghost use Rattle.sonic_text.specs.Places.{byte, after_space};
 ghost use Rattle.sonic_text.specs.Strings.{IsString, IsEscapedString};
 ghost use Rattle.sonic_text.specs.Values.{opening, IsKey, IsValue};
-ghost use Rattle.sonic_parser.specs.Containers.{GoesOn, IsNext};
-ghost use Rattle.sonic_parser.specs.Skipping.{IsComplete};
-ghost use Rattle.sonic_parser.specs.Unchecked.{IsMark, IsWholeString};
+ghost use Rattle.sonic_parser.specs.Containers.{GoesOn};
+ghost use Rattle.sonic_parser.specs.Internal.Containers.{IsAfterValue};
+ghost use Rattle.sonic_parser.specs.Internal.Skipping.{IsComplete};
+ghost use Rattle.sonic_parser.specs.Internal.Unchecked.{IsMark, IsWholeString};
 
 use crate::begin::Skipped;
 use crate::blocks::{open_string, whole_container};
@@ -65,7 +66,7 @@ fn mark_after_space(text: &[u8], place: usize, a: u8, b: u8) -> usize
 #[inline(always)]
 pub(crate) fn whole_next(text: &[u8], end: usize, kind: Kind) -> Next
     requires { GoesOn text.now kind end }
-    ensures { IsNext text.now kind end result }
+    ensures { IsAfterValue text.now kind end result }
 {
     let mark = mark_after_space(text, end, b',', kind.closing());
     if text[mark] == b',' {

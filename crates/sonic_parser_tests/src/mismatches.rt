@@ -1,4 +1,4 @@
-// The errors where a value of another type is wanted, with the cursor at their places.
+// The errors where a value of another type is wanted: with the cursor after the value, or at its fault.
 use crate::same::{same, same_at};
 use sonic_error::{Error, ErrorCode, JsonType, Note, Wanted};
 use sonic_input::Read;
@@ -36,7 +36,11 @@ fn check(rt: &impl Abort, alloc: Global, text: &[u8], lossy: bool, place: usize,
         Error::syntax(code, text, place),
         (text, lossy),
     );
-    same_at(rt, parser.offset(), place, (text, lossy));
+    let cursor = match code {
+        ErrorCode::Message(_) => place + 1,
+        _ => place,
+    };
+    same_at(rt, parser.offset(), cursor, (text, lossy));
 }
 
 // Values of each type, with the places of their last bytes.

@@ -1,8 +1,9 @@
 mod Deciding
+mod HeadLemmas
 pub mod Heads
-mod LineHeads
 pub mod LineNodes
 pub mod LineOutcomes
 pub mod LineTests
 pub mod MixedPaths
 pub mod OneHead
+pub mod SaidLemmas

@@ -21,7 +21,7 @@ use Rattle.sonic_text.proofs.Places.{byte_within}
 use Rattle.sonic_text.proofs.Strings.{string_some}
 use Rattle.sonic_text.proofs.Values.{value_end_one, value_never_both}
 use Rattle.sonic_paths.specs.Lines.{SaysNode, says_key, says_index, SayNodes, no_node, one_more_node, IsIndex, IsNodeArray, IsNodeLine}
-use Rattle.sonic_paths.specs.Reading.{IsNodeAt, AreNodesAt, LeadsTo}
+use Rattle.sonic_paths.specs.Internal.Reading.{IsNodeAt, AreNodesAt, IsPathSoFar}
 
 -- a tree says one node
 tree_says_one : {x : Tree} {a b : Node} → SaysNode x a → SaysNode x b → a ≡ b
@@ -80,7 +80,7 @@ inside_array some (_, means_empty b c q, s) = absurd (some c)
 inside_array some (xs, means_filled b q d is, s) = (xs, rw q at is, s)
 
 -- after the bracket of such an array there is no path yet
-pub leads_first : {t : List ℕ} {i h : ℕ} {path : Path} → byte t i ≡ 91 → h ≡ after_space t (i + 1) → byte t h ≢ 93 → path ≡ [] → LeadsTo t i h path
+pub leads_first : {t : List ℕ} {i h : ℕ} {path : Path} → byte t i ≡ 91 → h ≡ after_space t (i + 1) → byte t h ≢ 93 → path ≡ [] → IsPathSoFar t i h path
 leads_first {t} {i} {h} b q d e = rw e (record {
   more = λ j rest r. (r.0, means_filled b q d r.1, r.2);
   only = λ j whole r. (whole, refl, rw q (inside_array (rw q at d) r));
@@ -91,9 +91,9 @@ pub empty_array : {t : List ℕ} {i j : ℕ} {path : Path} → byte t i ≡ 91 �
     → IsNodeArray t i j path
 empty_array b c q e = rw e (_, means_empty b c q, no_node)
 
-module _ {t : List ℕ} {i h e : ℕ} {node : Node} {path : Path} (s : LeadsTo t i h path) (x : IsNodeAt t h e node) where
+module _ {t : List ℕ} {i h e : ℕ} {node : Node} {path : Path} (s : IsPathSoFar t i h path) (x : IsNodeAt t h e node) where
   -- at a comma the path has one node more
-  pub leads_comma : {g : ℕ} {all : Path} → all ≡ path ++ node ∷ [] → byte t (after_space t e) ≡ 44 → g ≡ after_space t (after_space t e + 1) → LeadsTo t i g all
+  pub leads_comma : {g : ℕ} {all : Path} → all ≡ path ++ node ∷ [] → byte t (after_space t e) ≡ 44 → g ≡ after_space t (after_space t e + 1) → IsPathSoFar t i g all
   leads_comma is comma q = rw (is, q) (record {
     more = λ j rest r. rw append_assoc (s.more j (node ∷ rest) (_, more_items (no_head refl) x.1 comma refl r.1, one_more_node x.2 r.2));
     only = λ j whole r.
@@ -116,11 +116,11 @@ module _ {t : List ℕ} {i h e : ℕ} {node : Node} {path : Path} (s : LeadsTo t
       elim f.follows [ inl d ↦ misfit.1 (rw one.0 at d) | inr d ↦ misfit.0 (rw one.0 at d.0) ]
 
 -- nor where there is no node
-pub none_here : {t : List ℕ} {i h j : ℕ} {path whole : Path} → LeadsTo t i h path → ((e : ℕ) (node : Node) → ¬ IsNodeAt t h e node) → ¬ IsNodeArray t i j whole
+pub none_here : {t : List ℕ} {i h j : ℕ} {path whole : Path} → IsPathSoFar t i h path → ((e : ℕ) (node : Node) → ¬ IsNodeAt t h e node) → ¬ IsNodeArray t i j whole
 none_here {j = j} {whole = whole} s never r = let f = first_of (s.only j whole r).2 in never f.end f.node f.at
 
 -- and it says none that has no more nodes than were read
-pub none_shorter : {t : List ℕ} {i h j : ℕ} {path whole : Path} → LeadsTo t i h path → length whole ≤ length path → ¬ IsNodeArray t i j whole
+pub none_shorter : {t : List ℕ} {i h j : ℕ} {path whole : Path} → IsPathSoFar t i h path → length whole ≤ length path → ¬ IsNodeArray t i j whole
 none_shorter {j = j} {path} {whole} s few r =
     let o = s.only j whole r in
     let f = first_of o.2 in

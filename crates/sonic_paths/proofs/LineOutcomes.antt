@@ -1,53 +1,46 @@
 -- The lines of a head say one thing.
-use Rattle.std.proofs.Common.{◌≡◌, ◌⊎◌, inl, inr, ℕ, ◌+◌, List, [], ◌∷◌, ◌++◌, arith, refl}
-use Rattle.sonic_pointer.specs.Paths.{IsMixed}
+use Rattle.std.proofs.Common.{◌≡◌, ◌⊎◌, inl, inr, ℕ, List, [], ◌∷◌, ◌++◌, arith, refl}
 use Rattle.sonic_text.specs.Paths.{Path}
 use Rattle.sonic_paths.specs.declared.lines.Head.{Head}
 use Rattle.sonic_paths.specs.declared.lines.Head.TheVariants.{Paths, Bad}
-use Rattle.sonic_paths.specs.Lines.{IsNodeLine, AreLinesAfter, no_more_lines, next_line, IsBadLine, says_no_path, says_mixed, IsFirstBadAfter, bad_here, bad_later, SaysPaths}
-use Rattle.sonic_paths.proofs.LineNodes.{node_line_one}
-use Rattle.sonic_paths.specs.Laws.{SaysOneThing}
+use Rattle.sonic_paths.specs.Heads.{AreSaid, IsFirstBad}
+use Rattle.sonic_paths.specs.Lines.{SaysPath, AreLines, IsFirstBadLine, SaysPaths}
+use Rattle.sonic_paths.specs.Laws.{SaysOneListOfPaths}
 use Rattle.sonic_paths.proofs.Heads.{some_head, document_within}
+use Rattle.sonic_paths.proofs.LineNodes.{node_line_one}
 use Rattle.sonic_paths.proofs.LineTests.{node_line_or_none}
 use Rattle.sonic_paths.proofs.MixedPaths.{mixed_or_not}
 use Rattle.sonic_paths.proofs.OneHead.{head_one}
+use Rattle.sonic_paths.proofs.SaidLemmas.{SaysOne, SaysOrNot, said_one, first_bad_one, never_bad, said_or_bad}
 
--- a line that says a path, which mixes with no earlier one, isn't bad
-good_not_bad : {earlier : List Path} {line : List ℕ} {path : Path} → IsNodeLine line path → ¬ (IsMixed earlier path) → ¬ (IsBadLine earlier line)
-good_not_bad {path = path} p unmixed (says_no_path never) = never path p
-good_not_bad p unmixed (says_mixed q mixed) = unmixed (rw (node_line_one p q) mixed)
+-- a line says at most one path more
+says_path_one : SaysOne SaysPath
+says_path_one earlier line a b x y = rw (x.is, y.is, node_line_one x.says y.says) refl
+
+-- it says one, or none that mixes with no earlier one
+says_path_or_not : SaysOrNot SaysPath
+says_path_or_not earlier line = elim (node_line_or_none line) [
+  | inr never ↦ inr (λ paths x. never (x.path, x.says))
+  | inl p ↦ elim (mixed_or_not earlier p.0) [
+    | inl m ↦ inr (λ paths x. x.unmixed (rw (node_line_one p.1 x.says) at m))
+    | inr u ↦ inl (earlier ++ p.0 ∷ [], record { path = p.0; says = p.1; unmixed = u; is = refl })
+  ]
+]
 
 -- lines say at most one list of paths
-pub lines_one : {earlier : List Path} {lines : List (List ℕ)} {paths others : List Path} → AreLinesAfter earlier lines paths → AreLinesAfter earlier lines others
-    → paths ≡ others
-lines_one no_more_lines no_more_lines = refl
-lines_one {earlier} (next_line {lines = lines} {path = path} {paths} p u a) (next_line {path = other} q v b) =
-    let same : path ≡ other = node_line_one p q in
-    let rest : AreLinesAfter (earlier ++ other ∷ []) lines paths = rw same at a in
-    rw (same, lines_one rest b) refl
+pub lines_one : {lines : List (List ℕ)} {paths others : List Path} → AreLines lines paths → AreLines lines others → paths ≡ others
+lines_one = said_one says_path_one
 
 -- at most one line is the first that is bad
-pub first_bad_line_one : {earlier : List Path} {lines : List (List ℕ)} {n m : ℕ} → IsFirstBadAfter earlier lines n → IsFirstBadAfter earlier lines m → n ≡ m
-first_bad_line_one (bad_here b e) (bad_here c f) = cc
-first_bad_line_one (bad_here b e) (bad_later p u c f) = absurd (good_not_bad p u b)
-first_bad_line_one (bad_later p u b e) (bad_here c f) = absurd (good_not_bad p u c)
-first_bad_line_one {earlier} (bad_later {m = k} {lines = lines} {path} p u b e) (bad_later {path = other} q v c f) =
-    let same : path ≡ other = node_line_one p q in
-    let rest : IsFirstBadAfter (earlier ++ other ∷ []) lines k = rw same at b in
-    let one = first_bad_line_one rest c in
-    cc
+pub first_bad_line_one : {lines : List (List ℕ)} {n m : ℕ} → IsFirstBadLine lines n → IsFirstBadLine lines m → n ≡ m
+first_bad_line_one = first_bad_one says_path_one
 
 -- where all lines are good none is the first that is bad
-pub no_bad_line : {earlier : List Path} {lines : List (List ℕ)} {paths : List Path} {n : ℕ} → AreLinesAfter earlier lines paths → ¬ (IsFirstBadAfter earlier lines n)
-no_bad_line no_more_lines bad = elim bad [ ]
-no_bad_line (next_line p u a) (bad_here b e) = good_not_bad p u b
-no_bad_line {earlier} {n = n} (next_line {lines = lines} {path = path} {paths} p u a) (bad_later {path = other} q v b e) =
-    let same : path ≡ other = node_line_one p q in
-    let rest : AreLinesAfter (earlier ++ other ∷ []) lines paths = rw same at a in
-    no_bad_line rest b
+pub no_bad_line : {lines : List (List ℕ)} {paths : List Path} {n : ℕ} → AreLines lines paths → ¬ (IsFirstBadLine lines n)
+no_bad_line = never_bad says_path_one
 
 -- the head of an input says at most one thing
-pub says_paths_one : (t : List ℕ) (a b : Head) → SaysPaths t a → SaysPaths t b → a ≡ b
+says_paths_one : (t : List ℕ) (a b : Head) → SaysPaths t a → SaysPaths t b → a ≡ b
 says_paths_one t (Paths tree d) (Paths other e) x y =
     let h = head_one x.2 y.2 in
     let moved = rw h.0 at x.3 in
@@ -66,21 +59,11 @@ says_paths_one t (Bad n) (Bad m) x y =
     rw (first_bad_line_one moved y.3) refl
 
 -- lines say their paths, or one of them is the first that is bad
-pub lines_or_bad : (earlier : List Path) (lines : List (List ℕ)) → ((paths : List Path) × AreLinesAfter earlier lines paths) ⊎ ((n : ℕ) × IsFirstBadAfter earlier lines n)
-lines_or_bad earlier [] = inl ([], no_more_lines)
-lines_or_bad earlier (line ∷ lines) = elim (node_line_or_none line) [
-  | inr never ↦ inr (1, bad_here (says_no_path (λ path p. never (path, p))) refl)
-  | inl p ↦ elim (mixed_or_not earlier p.0) [
-    | inl m ↦ inr (1, bad_here (says_mixed p.1 m) refl)
-    | inr u ↦ elim (lines_or_bad (earlier ++ p.0 ∷ []) lines) [
-      | inl r ↦ inl (p.0 ∷ r.0, next_line p.1 u r.1)
-      | inr b ↦ inr (b.0 + 1, bad_later p.1 u b.1 refl)
-    ]
-  ]
-]
+pub lines_or_bad : (earlier : List Path) (lines : List (List ℕ)) → ((paths : List Path) × AreSaid SaysPath earlier lines paths) ⊎ ((n : ℕ) × IsFirstBad SaysPath earlier lines n)
+lines_or_bad = said_or_bad says_path_or_not
 
 -- the head of an input says one thing
-pub head_one_thing : (t : List ℕ) → SaysOneThing t
+pub head_one_thing : (t : List ℕ) → SaysOneListOfPaths t
 head_one_thing t =
     let h = some_head t 0 (omega arith) in
     elim (lines_or_bad [] h.lines) [

@@ -1,7 +1,9 @@
--- An input is a head of lines, a line of white space alone, and the document after it.
-use Rattle.std.specs.Prelude.{◌≡◌, ℕ, ◌+◌, ◌<◌, ◌≤◌, ◌==◌, Bool, not, List, [], ◌∷◌, length, drop, slice_range}
+-- An input is a head of lines, a line of white space alone, and the document after it. What the lines say is said of any kind of lines.
+use Rattle.std.specs.Prelude.{◌≡◌, ℕ, ◌+◌, ◌<◌, ◌≤◌, ◌==◌, Bool, not, List, [], ◌∷◌, ◌++◌, length, drop, slice_range}
 use Rattle.std.specs.List.{prefix_len}
 use Rattle.sonic_text.specs.Places.{after_space}
+use Rattle.sonic_paths.specs.declared.head.HeadEnd.{HeadEnd}
+use Rattle.sonic_paths.specs.declared.head.HeadEnd.TheVariants.{Document, Bad}
 
 -- any byte but a line feed
 abbrev pub is_inside_line : ℕ → Bool
@@ -29,3 +31,29 @@ pub data IsHead (t : List ℕ) : ℕ → List (List ℕ) → ℕ → Type 0 wher
   last_line : {i d : ℕ} → ¬ IsBlank t i → line_end t i ≡ length t → d ≡ length t → IsHead t i (line_at t i ∷ []) d
   one_more_line : {i d : ℕ} {lines : List (List ℕ)} → ¬ IsBlank t i → line_end t i < length t → IsHead t (line_end t i + 1) lines d
       → IsHead t i (line_at t i ∷ lines) d
+
+-- each line in order says something: it leads from what was said before it to what is said with it
+pub data AreSaid {S : Type 0} (Says : S → List ℕ → S → Type 0) : S → List (List ℕ) → S → Type 0 where
+  no_more_lines : {before : S} → AreSaid Says before [] before
+  next_line : {before between after : S} {line : List ℕ} {lines : List (List ℕ)} → Says before line between → AreSaid Says between lines after
+      → AreSaid Says before (line ∷ lines) after
+
+-- after what was said before, the line says nothing
+abbrev pub IsBad : {S : Type 0} → (S → List ℕ → S → Type 0) → S → List ℕ → Type 0
+IsBad {S} Says before line = (after : S) → ¬ Says before line after
+
+-- line n, counted from 1, is the first that says nothing: the good ones before it say something each
+pub record IsFirstBad {S : Type 0} (Says : S → List ℕ → S → Type 0) (before : S) (lines : List (List ℕ)) (n : ℕ) : Type 0 where
+  pub good : List (List ℕ)
+  pub after : S
+  pub line : List ℕ
+  pub rest : List (List ℕ)
+  pub is : lines ≡ good ++ line ∷ rest
+  pub said : AreSaid Says before good after
+  pub bad : IsBad Says after line
+  pub number : n ≡ length good + 1
+
+-- how the head of an input ends: all its lines are said, and the document begins at d, or those before line n are said, which is the first that says nothing
+abbrev pub EndsHead : {S : Type 0} → (S → List ℕ → S → Type 0) → List ℕ → S → S → HeadEnd → Type 0
+EndsHead Says t before after (Document d) = (lines : List (List ℕ)) × (d ≤ length t) × IsHead t 0 lines d × AreSaid Says before lines after
+EndsHead Says t before after (Bad n) = (lines : List (List ℕ)) × (d : ℕ) × IsHead t 0 lines d × (first : IsFirstBad Says before lines n) × (first.after ≡ after)

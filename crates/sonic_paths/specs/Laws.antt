@@ -4,7 +4,7 @@ use Rattle.sonic_paths.specs.declared.lines.Head.{Head}
 use Rattle.sonic_paths.specs.Lines.{SaysPaths}
 
 -- the head of the input says the paths of its lines, or which line is the first that is bad, and nothing else
-pub record SaysOneThing (input : List ℕ) : Type 0 where
+pub record SaysOneListOfPaths (input : List ℕ) : Type 0 where
   pub head : Head
   pub says : SaysPaths input head
   pub only : (other : Head) → SaysPaths input other → other ≡ head

@@ -1,5 +1,4 @@
 pub mod Heads
+pub mod Internal
 pub mod Laws
 pub mod Lines
-pub mod Owned
-pub mod Reading

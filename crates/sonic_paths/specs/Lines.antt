@@ -1,5 +1,5 @@
 -- Path lines, and what a head of such lines says.
-use Rattle.std.specs.Prelude.{◌≡◌, ◌≢◌, ℕ, ◌+◌, ◌^◌, ◌<◌, ◌≤◌, List, [], ◌∷◌, ◌++◌, Option, length}
+use Rattle.std.specs.Prelude.{◌≡◌, ◌≢◌, ℕ, ◌^◌, ◌<◌, ◌≤◌, List, [], ◌∷◌, ◌++◌, Option, length}
 use Rattle.std.specs.Str.{IsUtf8}
 use Rattle.std.specs.Str.Parse.{digits_value}
 use Rattle.sonic_text.specs.declared.kind.Kind.TheVariants.{Array}
@@ -10,7 +10,7 @@ use Rattle.sonic_text.specs.Trees.{Tree, numeral, text, container, Items, no_ite
 use Rattle.sonic_pointer.specs.Paths.{IsMixed}
 use Rattle.sonic_paths.specs.declared.lines.Head.{Head}
 use Rattle.sonic_paths.specs.declared.lines.Head.TheVariants.{Paths, Bad}
-use Rattle.sonic_paths.specs.Heads.{IsHead}
+use Rattle.sonic_paths.specs.Heads.{IsHead, AreSaid, IsFirstBad}
 
 -- the text of a number is an integer, without a minus sign, that fits in 64 bits
 abbrev pub IsIndex : List ℕ → Type 0
@@ -38,30 +38,20 @@ pub record IsNodeLine (line : List ℕ) (path : Path) : Type 0 where
   pub alone : after_space line end ≡ length line
   pub few : length path ≤ 255
 
--- after lines of the earlier paths, each line says its path, and none mixes with one before it
-pub data AreLinesAfter : List Path → List (List ℕ) → List Path → Type 0 where
-  no_more_lines : {earlier : List Path} → AreLinesAfter earlier [] []
-  next_line : {earlier : List Path} {line : List ℕ} {lines : List (List ℕ)} {path : Path} {paths : List Path} → IsNodeLine line path → ¬ IsMixed earlier path
-      → AreLinesAfter (earlier ++ path ∷ []) lines paths → AreLinesAfter earlier (line ∷ lines) (path ∷ paths)
+-- after the earlier paths the line says one more, which mixes with none of them
+pub record SaysPath (earlier : List Path) (line : List ℕ) (paths : List Path) : Type 0 where
+  pub path : Path
+  pub says : IsNodeLine line path
+  pub unmixed : ¬ IsMixed earlier path
+  pub is : paths ≡ earlier ++ path ∷ []
 
 -- each line in order says its path, and no path mixes with an earlier one
 abbrev pub AreLines : List (List ℕ) → List Path → Type 0
-AreLines lines paths = AreLinesAfter [] lines paths
-
--- after lines of the earlier paths, the line is bad: it says no path, or one that mixes with one of them
-pub data IsBadLine (earlier : List Path) (line : List ℕ) : Type 0 where
-  says_no_path : ((path : Path) → ¬ IsNodeLine line path) → IsBadLine earlier line
-  says_mixed : {path : Path} → IsNodeLine line path → IsMixed earlier path → IsBadLine earlier line
-
--- after lines of the earlier paths, line n of these, counted from 1, is the first that is bad
-pub data IsFirstBadAfter : List Path → List (List ℕ) → ℕ → Type 0 where
-  bad_here : {earlier : List Path} {n : ℕ} {line : List ℕ} {lines : List (List ℕ)} → IsBadLine earlier line → n ≡ 1 → IsFirstBadAfter earlier (line ∷ lines) n
-  bad_later : {earlier : List Path} {n m : ℕ} {line : List ℕ} {lines : List (List ℕ)} {path : Path} → IsNodeLine line path → ¬ IsMixed earlier path
-      → IsFirstBadAfter (earlier ++ path ∷ []) lines m → n ≡ m + 1 → IsFirstBadAfter earlier (line ∷ lines) n
+AreLines lines paths = AreSaid SaysPath [] lines paths
 
 -- line n, counted from 1, is the first that says no path, or whose path mixes with an earlier one
 abbrev pub IsFirstBadLine : List (List ℕ) → ℕ → Type 0
-IsFirstBadLine lines n = IsFirstBadAfter [] lines n
+IsFirstBadLine lines n = IsFirstBad SaysPath [] lines n
 
 -- what the head of an input says: a path on each line, and where the document begins, or which line is the first that is bad
 abbrev pub SaysPaths : List ℕ → Head → Type 0

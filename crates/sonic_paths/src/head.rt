@@ -1,8 +1,76 @@
-// Where the lines of a head end, which are blank, and where the document begins.
-ghost use Rattle.std.specs.Prelude.{◌≡◌, ◌≤◌, [], false, length, IsTrue};
-ghost use Rattle.sonic_paths.specs.Heads.{line_end, IsBlank, IsHead};
+// Heads of lines, whatever the lines say: where they end, and where the document begins.
+ghost use Rattle.std.specs.Prelude.{◌≡◌, ◌≤◌, [], ℕ, List, false, length, IsTrue, IfOk};
+ghost use Rattle.sonic_paths.specs.Heads.{line_end, IsBlank, IsHead, IsBad, EndsHead};
 
 use sonic_text::skip_space;
+use std::alloc::{AllocError, Global};
+
+/// What the lines of a head are read into, one after the other.
+///
+/// An implementor says what a line says. A tree of paths is one: each line says a path, which the
+/// tree then holds at its end.
+pub trait LineReader {
+    // The kind of what is said.
+    ghost Said: { Type 0 };
+
+    // What the lines that were read say.
+    ghost said: { Self → Said };
+
+    // What was said before a line, the line, and what is said with it.
+    ghost says: { Said → List ℕ → Said → Type 0 };
+
+    /// Takes what a line says, unless it says nothing.
+    ///
+    /// `Ok(true)` if it was taken, and `Ok(false)` if the line is bad, which changes nothing. The
+    /// only error is that memory ran out. A line ends before its line feed.
+    fn read_line(&mut self, alloc: Global, line: &[u8]) -> Result<bool, AllocError>
+        ensures good { IfOk result (λ good.
+            IsTrue good → says (said self.old) line.now (said self.new)) }
+        ensures bad { IfOk result (λ good. good ≡ false → IsBad says (said self.old) line.now) }
+        ensures kept { IfOk result (λ good. good ≡ false → said self.new ≡ said self.old) };
+}
+
+/// How the head of an input ends.
+#[derive(Clone, Copy, Debug, PartialEq, Eq)]
+pub enum HeadEnd {
+    /// Each line says something, and the document begins at this offset, in bytes from 0.
+    Document(usize),
+    /// The line with this number, from 1, is the first that says nothing.
+    Bad(usize),
+}
+
+/// Reads the lines of an input up to the first line of white space alone, or to its end.
+///
+/// Each is read by `reader.read_line`, in order, up to the first that is bad: the reader is then as
+/// after the lines before it. The document begins after the line of white space; where none comes,
+/// it is empty. So of `[0]\n\n[7]` a tree of paths takes the path `[0]`, and the document begins at
+/// 5.
+///
+/// The only error is that memory ran out.
+pub fn read_head<R: LineReader>(
+    alloc: Global,
+    input: &[u8],
+    reader: &mut R,
+) -> Result<HeadEnd, AllocError>
+    ensures { IfOk result (EndsHead R.says input.now (R.said reader.old) (R.said reader.new)) }
+{
+    let mut start = 0;
+    let mut number = 1;
+    'lines: loop {
+        let end = find_line_end(input, start);
+        if is_blank(input, start, end) {
+            return Ok(HeadEnd::Document(document_start(input, start, end)));
+        }
+        if !reader.read_line(alloc, &input[start..end])? {
+            return Ok(HeadEnd::Bad(number));
+        }
+        if end == input.len() {
+            return Ok(HeadEnd::Document(end));
+        }
+        start = end + 1;
+        number += 1;
+    }
+}
 
 /// The end of the line that begins at `start`: the offset of its line feed, or the end of the input.
 ///
@@ -20,10 +88,8 @@ pub fn find_line_end(input: &[u8], start: usize) -> usize
     place
 }
 
-/// Whether the line from `start` to `end` has nothing but white space in it (RFC 8259, section 2).
-///
-/// Of ` \r\n[]` the line from 0 to 2 is blank, and the one from 3 to 5 isn't.
-pub fn is_blank(input: &[u8], start: usize, end: usize) -> bool
+// Whether the line from `start` to `end` has nothing but white space in it (RFC 8259, section 2).
+fn is_blank(input: &[u8], start: usize, end: usize) -> bool
     requires within { start ≤ length input.now }
     requires line { end ≡ line_end input.now start }
     ensures blank { IsTrue result → IsBlank input.now start }
@@ -32,12 +98,10 @@ pub fn is_blank(input: &[u8], start: usize, end: usize) -> bool
     end <= skip_space(input, start)
 }
 
-/// Where the document begins after the blank line from `start` to `end`: after its line feed, or at
-/// the end of the input.
-///
-/// Of ` \n[7]` and the blank line from 0 to 1 it is 2, and of one space it is 1.
-#[tactic(auto, using(crate::proofs::LineHeads::document_heads))]
-pub fn document_start(input: &[u8], start: usize, end: usize) -> usize
+// Where the document begins after the blank line from `start` to `end`: after its line feed, or at
+// the end of the input.
+#[tactic(auto, using(crate::proofs::HeadLemmas::document_heads))]
+fn document_start(input: &[u8], start: usize, end: usize) -> usize
     requires within { end ≤ length input.now }
     requires line { end ≡ line_end input.now start }
     requires blank { IsBlank input.now start }

@@ -5,12 +5,11 @@ ghost use Rattle.sonic_text.specs.Paths.{Path};
 ghost use Rattle.sonic_text.specs.Strings.{IsString, strict};
 ghost use Rattle.sonic_parser.specs.Parsers.{moved};
 ghost use Rattle.sonic_paths.specs.Lines.{IsNodeLine};
-ghost use Rattle.sonic_paths.specs.Reading.{IsNodeRead, IsArrayRead};
+ghost use Rattle.sonic_paths.specs.Internal.Reading.{IsNodeRead, IsArrayRead};
 
-use crate::path::{LinePath, OwnedNode};
 use sonic_input::Read;
 use sonic_parser::{Fault, Parser};
-use sonic_pointer::MAX_NODES;
+use sonic_pointer::{MAX_NODES, OwnedNode, OwnedPath};
 use sonic_text::{Kind, byte_at, unescape_into, whole_u64};
 use std::alloc::{AllocError, Global};
 
@@ -24,7 +23,7 @@ use std::alloc::{AllocError, Global};
 /// So `["a", 12]` says the path of the key `a` and the index 12, and `[]` the path of no node.
 /// `[-0]`, `[1.0]`, `[[1]]` and `[1] x` say none. The only error is that memory ran out, and only
 /// the path takes any.
-pub fn path_of_line(alloc: Global, line: &[u8]) -> Result<Option<LinePath>, AllocError>
+pub fn path_of_line(alloc: Global, line: &[u8]) -> Result<Option<OwnedPath>, AllocError>
     ensures some { IfOk result (λ found. IfSome found (λ path. IsNodeLine line.now path)) }
     ensures none { IfOk result (λ found. found ≡ None → (path : Path) → ¬ IsNodeLine line.now path) }
 {
@@ -47,14 +46,14 @@ pub fn path_of_line(alloc: Global, line: &[u8]) -> Result<Option<LinePath>, Allo
 
 // Passes the array at the cursor, if it says a path of at most `MAX_NODES` nodes.
 #[tactic(auto, using(crate::proofs::LineNodes::nodes))]
-fn node_array(alloc: Global, parser: &mut Parser<'_>) -> Result<Option<LinePath>, AllocError>
+fn node_array(alloc: Global, parser: &mut Parser<'_>) -> Result<Option<OwnedPath>, AllocError>
     requires utf8 { IsUtf8 parser.old.text }
     requires strictly { parser.old.lossy ≡ strict }
     requires bracket { byte parser.old.text parser.old.place ≡ 91 }
     ensures path { IfOk result (λ found. IsArrayRead parser.old parser.new found) }
     ensures cursor { parser.new ≡ moved parser.old parser.new.place }
 {
-    let mut path = LinePath::new(alloc);
+    let mut path = OwnedPath::new(alloc);
     if !parser.enter(Kind::Array) {
         return Ok(Some(path));
     }

@@ -1,10 +1,9 @@
 // Heads of any number of lines, each of keys and indexes.
-ghost use Rattle.std.specs.Prelude.{◌≡◌, ◌+◌, ◌<◌, ◌≤◌, ◌∷◌, ◌++◌, [], false, length, IsTrue, IfOk};
-ghost use Rattle.sonic_pointer.specs.Paths.{IsMixed};
+ghost use Rattle.std.specs.Prelude.{List, IfOk};
 ghost use Rattle.sonic_text.specs.Paths.{Path};
-ghost use Rattle.sonic_paths.specs.Lines.{IsNodeLine, IsBadLine, SaysPaths};
+ghost use Rattle.sonic_paths.specs.Lines.{SaysPath, SaysPaths};
 
-use crate::head::{document_start, find_line_end, is_blank};
+use crate::head::{HeadEnd, LineReader, read_head};
 use crate::line::path_of_line;
 use sonic_pointer::{PathError, PointerTree};
 use std::alloc::{AllocError, Global};
@@ -28,44 +27,34 @@ pub enum Head {
 /// `[0]\n\n[7]` the tree has the path `[0]`, and the document begins at 5.
 ///
 /// The only error is that memory ran out.
-#[tactic(auto, using(crate::proofs::LineHeads::line_heads))]
 pub fn read_paths(alloc: Global, input: &[u8]) -> Result<Head, AllocError>
     ensures { IfOk result (λ head. SaysPaths input.now head) }
 {
     let mut tree = PointerTree::new(alloc);
-    let mut start = 0;
-    'lines: loop {
-        let end = find_line_end(input, start);
-        if is_blank(input, start, end) {
-            return Ok(Head::Paths(tree, document_start(input, start, end)));
-        }
-        if !add_line(alloc, &mut tree, &input[start..end])? {
-            return Ok(Head::Bad(tree.size() + 1));
-        }
-        if end == input.len() {
-            return Ok(Head::Paths(tree, end));
-        }
-        start = end + 1;
+    match read_head(alloc, input, &mut tree)? {
+        HeadEnd::Document(place) => Ok(Head::Paths(tree, place)),
+        HeadEnd::Bad(number) => Ok(Head::Bad(number)),
     }
 }
 
-// Appends the path that a line says, unless the line is bad.
-#[tactic(auto, using(crate::proofs::LineHeads::added_lines))]
-fn add_line(alloc: Global, tree: &mut PointerTree, line: &[u8]) -> Result<bool, AllocError>
-    ensures good { IfOk result (λ added. IsTrue added → (path : Path) × IsNodeLine line.now path
-        × (¬ IsMixed tree.old path) × (tree.new ≡ tree.old ++ path ∷ [])) }
-    ensures bad { IfOk result (λ added. added ≡ false → IsBadLine tree.old line.now
-        × (tree.new ≡ tree.old)) }
-{
-    let Some(path) = path_of_line(alloc, line)? else {
-        return Ok(false);
-    };
-    let nodes = path.nodes(alloc)?;
-    match tree.add_path(alloc, nodes.as_slice()) {
-        Ok(()) => Ok(true),
-        Err(PathError::Mixed) => Ok(false),
-        // The line has at most 255 nodes, so this never comes.
-        Err(PathError::TooLong) => Ok(false),
-        Err(PathError::NoMemory) => Err(AllocError),
+/// A line says a path, which the tree takes at its end.
+impl LineReader for PointerTree {
+    ghost Said = { List Path };
+
+    ghost said = { λ tree. tree };
+
+    ghost says = { SaysPath };
+
+    fn read_line(&mut self, alloc: Global, line: &[u8]) -> Result<bool, AllocError> {
+        let Some(path) = path_of_line(alloc, line)? else {
+            return Ok(false);
+        };
+        match self.add_owned_path(alloc, path) {
+            Ok(()) => Ok(true),
+            Err(PathError::Mixed) => Ok(false),
+            // The line has at most 255 nodes.
+            Err(PathError::TooLong) => unreachable!(),
+            Err(PathError::NoMemory) => Err(AllocError),
+        }
     }
 }

@@ -4,9 +4,10 @@ use Rattle.std.proofs.lemmas.Bool.{cases_lt, cases_eq}
 use Rattle.std.proofs.lemmas.List.{get_or_push, take-append-drop, take_more, length-take-le, take_all, drop_more}
 use Rattle.std.proofs.lemmas.List.Elements.{All-weaker, All-nil, All-cons}
 use Rattle.sonic_text.specs.Paths.{Node, index, Path}
-use Rattle.sonic_pointer.specs.Paths.{HasNext}
-use Rattle.sonic_pointer.specs.Tries.{Spot, spot_at, prefix_at, label_at, last_node, labels, IsStep, IsBefore, IsSpot, IsTrie}
-use Rattle.sonic_pointer.proofs.PathLemmas.{HasPrefix, longer, same, shorter, fork, next_of_prefix, next_cases, orders_old, orders_none, orders_push}
+use Rattle.sonic_pointer.specs.Internal.Prefixes.{HasPrefix}
+use Rattle.sonic_pointer.specs.Paths.{HasNextNode}
+use Rattle.sonic_pointer.specs.Internal.Tries.{Spot, spot_at, prefix_at, label_at, last_node, labels, IsChildVertex, IsBefore, IsSpot, IsTrie}
+use Rattle.sonic_pointer.proofs.PathLemmas.{longer, same, shorter, fork, next_of_prefix, next_cases, orders_old, orders_none, orders_push}
 use Rattle.sonic_pointer.proofs.TrieLemmas.{Grows, IsSound, grows_of, step_more, labels_more, spot_old, append_other, first_same}
 use Rattle.sonic_pointer.proofs.InsertLemmas.{map-insert, All-insert, Contains-insert_same, Contains-insert_other, AllPairs-insert}
 
@@ -16,7 +17,7 @@ pub record IsBranched (P : List Path) (S S' : List Spot) (at position : ℕ) (p 
   pub rest : Path
   pub inside : at < length S
   pub path : p ≡ prefix_at S at ++ n ∷ rest
-  pub fresh : ¬ HasNext P (prefix_at S at) n
+  pub fresh : ¬ HasNextNode P (prefix_at S at) n
   pub fits : position ≤ length (labels S (spot_at S at))
   pub before : (k : ℕ) (d : Node) → k < position → IsBefore (get_or (labels S (spot_at S at)) k d) n
   pub after : (k : ℕ) (d : Node) → position ≤ k → k < length (labels S (spot_at S at)) → IsBefore n (get_or (labels S (spot_at S at)) k d)
@@ -31,12 +32,12 @@ branched_grows : {P : List Path} {S S' : List Spot} {at position : ℕ} {p : Pat
 branched_grows {at = at} h = grows_of at (let l = h.long in omega arith) h.others (ap (λ (s : Spot). s.prefix) h.here)
 
 -- no path of the list has a prefix of the new vertices
-no_prefix : {P : List Path} {g : Path} {n : Node} (mid : Path) → ¬ HasNext P g n → ¬ HasPrefix P (g ++ n ∷ mid)
+no_prefix : {P : List Path} {g : Path} {n : Node} (mid : Path) → ¬ HasNextNode P g n → ¬ HasPrefix P (g ++ n ∷ mid)
 no_prefix mid fresh prefix = fresh (next_of_prefix mid prefix)
 
 -- a vertex that was there, and isn't the one where the path leaves
 branched_known : {P : List Path} {S S' : List Spot} {at position : ℕ} {p : Path} → IsTrie P S → IsSound P S → IsBranched P S S' at position p
-    → (k : ℕ) → k < length S → k ≢ at → (m : Node) (r : Path) → p ≡ prefix_at S k ++ m ∷ r → HasNext P (prefix_at S k) m
+    → (k : ℕ) → k < length S → k ≢ at → (m : Node) (r : Path) → p ≡ prefix_at S k ++ m ∷ r → HasNextNode P (prefix_at S k) m
 branched_known {P} {S} {S'} {at} {position} {p} t sound h k inside other m r e =
     elim (fork (prefix_at S at) (prefix_at S k) h.rest r h.n m (sym h.path ∙ e)) [
       | longer mid w ↦ sound at h.inside (prefix_at S k) m mid w
@@ -60,7 +61,7 @@ last_of : (f : Path) (n : Node) → last_node (f ++ n ∷ []) ≡ n
 last_of f n = let l = length-append f (n ∷ []) in get_or_push f n (index 0) (length (f ++ n ∷ []) - 1) (omega arith)
 
 -- a new child is one step below its parent
-step_new : {S : List Spot} {f : Path} {c : ℕ} (n : Node) → c < length S → prefix_at S c ≡ f ++ n ∷ [] → (label_at S c ≡ n) × IsStep S f c
+step_new : {S : List Spot} {f : Path} {c : ℕ} (n : Node) → c < length S → prefix_at S c ≡ f ++ n ∷ [] → (label_at S c ≡ n) × IsChildVertex S f c
 step_new {S} {f} {c} n inside e =
     let l : label_at S c ≡ n = ap last_node e ∙ last_of f n in
     (l, record { below = inside; is = e ∙ ap (λ m. f ++ m ∷ []) (sym l) })
@@ -78,8 +79,8 @@ branched_here {P} {S} {S'} {at} {position} {p} t h =
     map-insert (label_at S') (spot_at S at).children position (length S) ∙ (ap (λ l. insert l position (label_at S' (length S))) old ∙ ap (insert (labels S (spot_at S at)) position) new.0) in
     record {
       orders = orders_old p (λ q. append_other (prefix_at S at) h.rest h.n (sym q ∙ h.path)) s.orders;
-      steps = All-insert (IsStep S' (prefix_at S at)) (spot_at S at).children position (length S) new.1
-          (All-weaker (IsStep S (prefix_at S at)) (IsStep S' (prefix_at S at)) (λ c x. step_more g x) (spot_at S at).children s.steps);
+      steps = All-insert (IsChildVertex S' (prefix_at S at)) (spot_at S at).children position (length S) new.1
+          (All-weaker (IsChildVertex S (prefix_at S at)) (IsChildVertex S' (prefix_at S at)) (λ c x. step_more g x) (spot_at S at).children s.steps);
       sorted = subst (AllPairs IsBefore) (sym e) (AllPairs-insert IsBefore (labels S (spot_at S at)) position h.n h.fits s.sorted h.before h.after);
       complete = λ m next. subst (λ l. Contains l m) (sym e) (elim (next_cases p next) [
         | inl w ↦ Contains-insert_other (labels S (spot_at S at)) position h.n m (s.complete m w)
@@ -107,7 +108,7 @@ branched_last {P} {S} {S'} {at} {position} {p} h =
     let none : ¬ HasPrefix P p = λ f. no_prefix h.rest h.fresh (subst (HasPrefix P) h.path f) in
     record {
       orders = orders_push p refl (orders_none P p none);
-      steps = All-nil (IsStep S' p);
+      steps = All-nil (IsChildVertex S' p);
       sorted = λ i j d a b. absurd (let l : j < 0 = b in omega arith);
       complete = λ m next. elim (next_cases p next) [
         | inl w ↦ absurd (none (record { rest = m ∷ w.rest; path = w.path }))
@@ -129,7 +130,7 @@ branched_inner {P} {S} {S'} {at} {position} {p} h j l =
     let new = step_new {S = S'} {f = f} {c = length S + j + 1} m (omega arith) below in
     record {
       orders = orders_old p (λ q. append_other f (drop (j + 1) h.rest) m (sym q ∙ whole)) (orders_none P f none);
-      steps = All-cons (IsStep S' f) (length S + j + 1) [] new.1 (All-nil (IsStep S' f));
+      steps = All-cons (IsChildVertex S' f) (length S + j + 1) [] new.1 (All-nil (IsChildVertex S' f));
       sorted = λ a b d x y. absurd (let k : b < 1 = y in omega arith);
       complete = λ k next. elim (next_cases p next) [
         | inl w ↦ absurd (none (record { rest = k ∷ w.rest; path = w.path }))

@@ -22,13 +22,13 @@ Contains-insert_other xs i x y h =
     ]
 
 -- the element at k is an earlier one, the new one, or a later one
-pub data IsAtVertex {X : Type 0} (xs : List X) (i : ℕ) (x : X) (k : ℕ) (d : X) : Type 0 where
-  earlier : k < i → get_or (insert xs i x) k d ≡ get_or xs k d → IsAtVertex xs i x k d
-  new : k ≡ i → get_or (insert xs i x) k d ≡ x → IsAtVertex xs i x k d
-  later : i < k → get_or (insert xs i x) k d ≡ get_or xs (k - 1) d → IsAtVertex xs i x k d
+pub data IsAtPosition {X : Type 0} (xs : List X) (i : ℕ) (x : X) (k : ℕ) (d : X) : Type 0 where
+  earlier : k < i → get_or (insert xs i x) k d ≡ get_or xs k d → IsAtPosition xs i x k d
+  new : k ≡ i → get_or (insert xs i x) k d ≡ x → IsAtPosition xs i x k d
+  later : i < k → get_or (insert xs i x) k d ≡ get_or xs (k - 1) d → IsAtPosition xs i x k d
 
-pub at_vertex : {X : Type 0} (xs : List X) (i : ℕ) (x : X) (k : ℕ) (d : X) → i ≤ length xs → IsAtVertex xs i x k d
-at_vertex xs i x k d l =
+pub at_position : {X : Type 0} (xs : List X) (i : ℕ) (x : X) (k : ℕ) (d : X) → i ≤ length xs → IsAtPosition xs i x k d
+at_position xs i x k d l =
     elim (cases_order k i) [
       | inl e ↦ new e (ap (λ j. get_or (insert xs i x) j d) e ∙ get_or-insert_at xs i x d l)
       | inr (inl below) ↦ earlier below (get_or-insert_below xs i x d k below l)
@@ -43,18 +43,18 @@ pub AllPairs-insert : {X : Type 0} (R : X → X → Type 0) (xs : List X) (i : �
 AllPairs-insert {X} R xs i x l all before after a b d ab bl =
     let long = length-insert xs i x l in
     let end : b < length xs + 1 = omega arith in
-    elim (at_vertex xs i x a d l) [
-      | earlier ai ea ↦ elim (at_vertex xs i x b d l) [
+    elim (at_position xs i x a d l) [
+      | earlier ai ea ↦ elim (at_position xs i x b d l) [
         | earlier bi eb ↦ rw (ea, eb) (all a b d ab (omega arith))
         | new bi eb ↦ rw (ea, eb) (before a d ai)
         | later bi eb ↦ rw (ea, eb) (all a (b - 1) d (omega arith) (omega arith))
       ]
-      | new ai ea ↦ elim (at_vertex xs i x b d l) [
+      | new ai ea ↦ elim (at_position xs i x b d l) [
         | earlier bi eb ↦ absurd (omega arith)
         | new bi eb ↦ absurd (omega arith)
         | later bi eb ↦ rw (ea, eb) (after (b - 1) d (omega arith) (omega arith))
       ]
-      | later ai ea ↦ elim (at_vertex xs i x b d l) [
+      | later ai ea ↦ elim (at_position xs i x b d l) [
         | earlier bi eb ↦ absurd (omega arith)
         | new bi eb ↦ absurd (omega arith)
         | later bi eb ↦ rw (ea, eb) (all (a - 1) (b - 1) d (omega arith) (omega arith))

@@ -1,6 +1,6 @@
 mod BranchLemmas
 mod InsertLemmas
-mod LeavingLemmas
+mod InsertionLemmas
 mod NodeLemmas
 mod PathLemmas
 mod PiecesLemmas

@@ -5,8 +5,8 @@ use Rattle.std.specs.Ordering.{ordering_reverse}
 use Rattle.std.specs.FinMap.{nat_cmp-IsAntisymmetric, slice_cmp-IsAntisymmetric}
 use Rattle.std.proofs.lemmas.Cmp.{nat_cmp_total, nat_list_cmp_total, tied_itself}
 use Rattle.sonic_text.specs.Paths.{Node, key, index}
-use Rattle.sonic_pointer.specs.Nodes.{node_cmp}
-use Rattle.sonic_pointer.specs.Tries.{IsBefore}
+use Rattle.sonic_pointer.specs.Internal.Nodes.{node_cmp}
+use Rattle.sonic_pointer.specs.Internal.Tries.{IsBefore}
 
 pub before_trans : (a b c : Node) → IsBefore a b → IsBefore b c → IsBefore a c
 before_trans (key a) (key b) (key c) h k = nat_list_cmp_total.trans a b c h k

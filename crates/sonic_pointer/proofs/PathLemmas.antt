@@ -4,12 +4,8 @@ use Rattle.std.proofs.lemmas.List.Elements.{Contains-append_left, Contains-push,
 use Rattle.std.proofs.lemmas.List.{get_or_push, length_push, get_or_append_left}
 use Rattle.std.proofs.lemmas.Option.{slice_get_within, get_or_from_slice_get}
 use Rattle.sonic_text.specs.Paths.{Node, Path}
-use Rattle.sonic_pointer.specs.Paths.{HasNext, IsOrders}
-
--- some path begins with the nodes of the prefix
-pub record HasPrefix (paths : List Path) (prefix : Path) : Type 0 where
-  pub rest : Path
-  pub path : Contains paths (prefix ++ rest)
+use Rattle.sonic_pointer.specs.Internal.Prefixes.{HasPrefix}
+use Rattle.sonic_pointer.specs.Paths.{HasNextNode, IsOrders}
 
 -- one path with two prefixes, each followed by a node: one prefix is longer, or they are equal
 pub data Fork (g : Path) (n : Node) (f : Path) (m : Node) : Type 0 where
@@ -32,11 +28,11 @@ fork (x ∷ g) (y ∷ f) r s n m e =
     deeper heads (fork g f r s n m tails)
 
 -- a prefix with further nodes is a prefix with the first of them
-pub next_of_prefix : {P : List Path} {f : Path} {m : Node} (mid : Path) → HasPrefix P (f ++ m ∷ mid) → HasNext P f m
+pub next_of_prefix : {P : List Path} {f : Path} {m : Node} (mid : Path) → HasPrefix P (f ++ m ∷ mid) → HasNextNode P f m
 next_of_prefix {P} {f} {m} mid h = record { rest = mid ++ h.rest; path = subst (Contains P) (append_assoc f (m ∷ mid) h.rest) h.path }
 
 -- a node that follows a prefix once a path is added did so before, or does so in that path
-pub next_cases : {P : List Path} {f : Path} {m : Node} (p : Path) → HasNext (P ++ p ∷ []) f m → HasNext P f m ⊎ ((r : Path) × (p ≡ f ++ m ∷ r))
+pub next_cases : {P : List Path} {f : Path} {m : Node} (p : Path) → HasNextNode (P ++ p ∷ []) f m → HasNextNode P f m ⊎ ((r : Path) × (p ≡ f ++ m ∷ r))
 next_cases {P} {f} {m} p h =
     elim (Contains-push_cases P p (f ++ m ∷ h.rest) h.path) [
       | inl old ↦ inl (record { rest = h.rest; path = old })

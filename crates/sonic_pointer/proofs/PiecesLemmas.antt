@@ -7,7 +7,7 @@ use Rattle.std.proofs.lemmas.List.Concat.{flat_map-append}
 use Rattle.std.proofs.lemmas.List.Edits.{map_over_more, length-insert, insert-append_left, insert-append_right}
 use Rattle.std.proofs.lemmas.List.Folds.{flat_map-map}
 use Rattle.std.proofs.lemmas.Option.{slice_get_read, slice_get_within, get_or_from_slice_get}
-use Rattle.sonic_pointer.specs.Pieces.{numbers_of, raised, AreStarts, IsHolder}
+use Rattle.sonic_pointer.specs.Internal.Pieces.{numbers_of, raised, AreStarts, IsHolder}
 use Rattle.sonic_pointer.specs.declared.pieces.Piece.{Piece}
 
 pub numbers-append : (xs ys : List Piece) → numbers_of (xs ++ ys) ≡ numbers_of xs ++ numbers_of ys

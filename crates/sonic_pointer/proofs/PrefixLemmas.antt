@@ -4,7 +4,7 @@ use Rattle.std.proofs.lemmas.List.{length-map}
 use Rattle.std.proofs.lemmas.Option.{same_Some, slice_get-get_or, slice_get-map, slice_get_within}
 use Rattle.std.specs.Prelude.{option_map}
 use Rattle.sonic_text.specs.Paths.{Path}
-use Rattle.sonic_pointer.specs.Tries.{Spot, spot_at, prefix_at, prefixes_of, IsTrie}
+use Rattle.sonic_pointer.specs.Internal.Tries.{Spot, prefix_at, prefixes_of, IsTrie}
 use Rattle.sonic_pointer.specs.Views.{HaveOneNumber}
 
 -- the prefix of a vertex

@@ -4,8 +4,8 @@ use Rattle.std.proofs.lemmas.Bool.{cases_eq}
 use Rattle.std.proofs.lemmas.List.{append_cancel_left}
 use Rattle.std.proofs.lemmas.List.Elements.{All-weaker}
 use Rattle.sonic_text.specs.Paths.{Node, Path}
-use Rattle.sonic_pointer.specs.Paths.{HasNext}
-use Rattle.sonic_pointer.specs.Tries.{Spot, spot_at, prefix_at, label_at, last_node, labels, IsStep, IsSpot, IsTrie}
+use Rattle.sonic_pointer.specs.Paths.{HasNextNode}
+use Rattle.sonic_pointer.specs.Internal.Tries.{Spot, spot_at, prefix_at, label_at, last_node, labels, IsChildVertex, IsSpot, IsTrie}
 use Rattle.sonic_pointer.proofs.PathLemmas.{next_cases, orders_old, orders_push}
 
 -- the vertices that were there keep their prefixes
@@ -15,7 +15,7 @@ pub record Grows (S S' : List Spot) : Type 0 where
 
 -- what follows a prefix inside a kept one follows it in some path
 abbrev pub IsSound : List Path → List Spot → Type 0
-IsSound P S = (k : ℕ) → k < length S → (f : Path) (m : Node) (r : Path) → prefix_at S k ≡ f ++ m ∷ r → HasNext P f m
+IsSound P S = (k : ℕ) → k < length S → (f : Path) (m : Node) (r : Path) → prefix_at S k ≡ f ++ m ∷ r → HasNextNode P f m
 
 map_same : {X : Type 0} (f g : ℕ → X) (xs : List ℕ) → ((k : ℕ) → k < length xs → f (get_or xs k 0) ≡ g (get_or xs k 0)) → map f xs ≡ map g xs
 map_same f g [] h = refl
@@ -24,25 +24,25 @@ map_same f g (x ∷ xs) h =
     let later : map f xs ≡ map g xs = map_same f g xs (λ k l. h (suc k) (omega arith)) in
     cc
 
-pub step_more : {S S' : List Spot} {f : Path} {c : ℕ} → Grows S S' → IsStep S f c → IsStep S' f c
+pub step_more : {S S' : List Spot} {f : Path} {c : ℕ} → Grows S S' → IsChildVertex S f c → IsChildVertex S' f c
 step_more {S} {S'} {f} {c} g s =
     let same_prefix : prefix_at S' c ≡ prefix_at S c = g.prefixes c s.below in
     let b = g.more in
     let i = s.below in
     record { below = omega arith; is = rw same_prefix s.is }
 
-pub labels_more : {S S' : List Spot} (s : Spot) → Grows S S' → All (IsStep S s.prefix) s.children → labels S' s ≡ labels S s
+pub labels_more : {S S' : List Spot} (s : Spot) → Grows S S' → All (IsChildVertex S s.prefix) s.children → labels S' s ≡ labels S s
 labels_more {S} {S'} s g steps =
     map_same (label_at S') (label_at S) s.children (λ k l. ap last_node (g.prefixes (get_or s.children k 0) (steps k 0 l).below))
 
 -- a vertex that the new path neither ends at nor gives a new child
 pub spot_old : {P : List Path} {S S' : List Spot} {s : Spot} (p : Path) → Grows S S' → IsSpot P S s → p ≢ s.prefix
-    → ((m : Node) (r : Path) → p ≡ s.prefix ++ m ∷ r → HasNext P s.prefix m) → IsSpot (P ++ p ∷ []) S' s
+    → ((m : Node) (r : Path) → p ≡ s.prefix ++ m ∷ r → HasNextNode P s.prefix m) → IsSpot (P ++ p ∷ []) S' s
 spot_old {P} {S} {S'} {s} p g h other known =
     let e : labels S' s ≡ labels S s = labels_more s g h.steps in
     record {
       orders = orders_old p other h.orders;
-      steps = All-weaker (IsStep S s.prefix) (IsStep S' s.prefix) (λ c t. step_more g t) s.children h.steps;
+      steps = All-weaker (IsChildVertex S s.prefix) (IsChildVertex S' s.prefix) (λ c t. step_more g t) s.children h.steps;
       sorted = rw e h.sorted;
       complete = λ m next. rw e (elim (next_cases p next) [ inl old ↦ h.complete m old | inr new ↦ h.complete m (known m new.0 new.1) ]);
     }
@@ -80,7 +80,7 @@ ended_here {P} {S} {S'} {at} {p} t h =
     let e : labels S' (spot_at S at) ≡ labels S (spot_at S at) = labels_more (spot_at S at) g s.steps in
     record {
       orders = orders_push p h.path s.orders;
-      steps = All-weaker (IsStep S (prefix_at S at)) (IsStep S' (prefix_at S at)) (λ c x. step_more g x) (spot_at S at).children s.steps;
+      steps = All-weaker (IsChildVertex S (prefix_at S at)) (IsChildVertex S' (prefix_at S at)) (λ c x. step_more g x) (spot_at S at).children s.steps;
       sorted = rw e s.sorted;
       complete = λ m next. rw e (elim (next_cases p next) [
         | inl old ↦ s.complete m old

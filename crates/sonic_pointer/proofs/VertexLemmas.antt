@@ -3,9 +3,10 @@ use Rattle.std.proofs.Common.{◌≡◌, ℕ, ◌<◌, List, [], ◌∷◌, ◌+
 use Rattle.std.proofs.lemmas.List.{length-map, get_or-map}
 use Rattle.sonic_text.specs.Paths.{Node, Path}
 use Rattle.sonic_pointer.specs.Nodes.{is_key}
-use Rattle.sonic_pointer.specs.Paths.{HasNext, IsMixed}
-use Rattle.sonic_pointer.specs.Tries.{Entry, Spot, entry_at, spots_of, spot_at, prefix_at, label_at, labels, IsStep, IsSpot, IsTree}
-use Rattle.sonic_pointer.proofs.PathLemmas.{HasPrefix, longer, same, shorter, fork, next_of_prefix}
+use Rattle.sonic_pointer.specs.Internal.Prefixes.{HasPrefix}
+use Rattle.sonic_pointer.specs.Paths.{HasNextNode, IsMixed}
+use Rattle.sonic_pointer.specs.Internal.Tries.{Entry, Spot, entry_at, spots_of, spot_at, prefix_at, label_at, labels, IsChildVertex, IsSpot, IsTree}
+use Rattle.sonic_pointer.proofs.PathLemmas.{longer, same, shorter, fork, next_of_prefix}
 use Rattle.sonic_pointer.proofs.TreeLemmas.{spot_at-of, length-spots_of, sound_of}
 
 -- the nodes that follow the vertex with this number
@@ -24,11 +25,11 @@ module _ (P : List Path) (E : List Entry) (tree : IsTree P E) (at : ℕ) (inside
   orders_here = ap (λ (s : Spot). s.orders) (spot_at-of P E at inside)
 
   -- a child is one step below
-  pub step_at : (k : ℕ) → k < length (entry_at E at).children → IsStep (spots_of P E) (prefix_at (spots_of P E) at) (get_or (entry_at E at).children k 0)
+  pub step_at : (k : ℕ) → k < length (entry_at E at).children → IsChildVertex (spots_of P E) (prefix_at (spots_of P E) at) (get_or (entry_at E at).children k 0)
   step_at k l =
       let e = children_here in
       let m = ap length e in
-      subst (λ c. IsStep (spots_of P E) (prefix_at (spots_of P E) at) (get_or c k 0)) e (spot_here.steps k 0 (omega arith))
+      subst (λ c. IsChildVertex (spots_of P E) (prefix_at (spots_of P E) at) (get_or c k 0)) e (spot_here.steps k 0 (omega arith))
 
   pub length-labels : length (labels_at P E at) ≡ length (entry_at E at).children
   length-labels = length-map (spot_at (spots_of P E) at).children (label_at (spots_of P E)) ∙ ap length children_here
@@ -39,7 +40,7 @@ module _ (P : List Path) (E : List Entry) (tree : IsTree P E) (at : ℕ) (inside
       get_or-map (label_at (spots_of P E)) (spot_at (spots_of P E) at).children k 0 d (omega arith) ∙ ap (λ c. label_at (spots_of P E) (get_or c k 0)) children_here
 
   -- a node by which a child follows is next in some path
-  pub next_here : (k : ℕ) → k < length (entry_at E at).children → HasNext P (prefix_at (spots_of P E) at) (label_at (spots_of P E) (get_or (entry_at E at).children k 0))
+  pub next_here : (k : ℕ) → k < length (entry_at E at).children → HasNextNode P (prefix_at (spots_of P E) at) (label_at (spots_of P E) (get_or (entry_at E at).children k 0))
   next_here k l = let step = step_at k l in sound_of P E (get_or (entry_at E at).children k 0) step.below (prefix_at (spots_of P E) at) _ [] step.is
 
 -- a path that ends at a vertex that is there mixes with none
@@ -50,12 +51,12 @@ pure_ended P E tree at inside p prefix mixed =
 
 -- nor one that leaves the tree where all next nodes are of its kind
 pub pure_left : (P : List Path) (E : List Entry) (tree : IsTree P E) (at : ℕ) (inside : at < length E) (p g : Path) (n : Node) (r : Path) → prefix_at (spots_of P E) at ≡ g → p ≡ g ++ n ∷ r
-    → ¬ HasNext P g n → ((m : Node) → HasNext P g m → is_key m ≡ is_key n) → ¬ IsMixed P p
+    → ¬ HasNextNode P g n → ((m : Node) → HasNextNode P g m → is_key m ≡ is_key n) → ¬ IsMixed P p
 pure_left P E tree at inside p g n r prefix e fresh kind mixed =
     elim (fork g mixed.prefix r mixed.rest n mixed.node (sym e ∙ mixed.is)) [
       | longer mid w ↦
           let next = sound_of P E at (let n = length-spots_of P E in omega arith) mixed.prefix mixed.node mid (prefix ∙ w) in
           mixed.kinds (tree.unmixed mixed.prefix mixed.other mixed.node mixed.next next)
-      | same f m ↦ mixed.kinds (kind mixed.other (subst (λ x. HasNext P x mixed.other) f mixed.next) ∙ ap is_key (sym m))
+      | same f m ↦ mixed.kinds (kind mixed.other (subst (λ x. HasNextNode P x mixed.other) f mixed.next) ∙ ap is_key (sym m))
       | shorter mid w ↦ fresh (next_of_prefix mid (subst (HasPrefix P) w (record { rest = mixed.other ∷ mixed.next.rest; path = mixed.next.path })))
     ]

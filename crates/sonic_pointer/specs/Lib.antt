@@ -1,11 +1,5 @@
-pub mod Fields
+pub mod Internal
 pub mod Nodes
-pub mod Owned
 pub mod Paths
-pub mod Pieces
-pub mod Vertices
-pub mod Shapes
-pub mod Trees
-pub mod Tries
+pub mod Refusals
 pub mod Views
-pub mod Wanted

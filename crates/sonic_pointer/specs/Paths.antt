@@ -9,13 +9,8 @@ use Rattle.sonic_pointer.specs.Nodes.{is_key}
 abbrev pub IsShort : Path → Type 0
 IsShort path = length path ≤ 255
 
--- some path begins with the nodes of the prefix
-pub record HasPrefix (paths : List Path) (prefix : Path) : Type 0 where
-  pub rest : Path
-  pub path : Contains paths (prefix ++ rest)
-
 -- in some path this node follows the prefix
-pub record HasNext (paths : List Path) (prefix : Path) (node : Node) : Type 0 where
+pub record HasNextNode (paths : List Path) (prefix : Path) (node : Node) : Type 0 where
   pub rest : Path
   pub path : Contains paths (prefix ++ node ∷ rest)
 
@@ -26,12 +21,12 @@ pub record IsMixed (paths : List Path) (path : Path) : Type 0 where
   pub rest : Path
   pub other : Node
   pub is : path ≡ prefix ++ node ∷ rest
-  pub next : HasNext paths prefix other
+  pub next : HasNextNode paths prefix other
   pub kinds : is_key other ≢ is_key node
 
 -- the nodes that follow one prefix have one kind
 abbrev pub IsUnmixed : List Path → Type 0
-IsUnmixed paths = (prefix : Path) (a b : Node) → HasNext paths prefix a → HasNext paths prefix b → is_key a ≡ is_key b
+IsUnmixed paths = (prefix : Path) (a b : Node) → HasNextNode paths prefix a → HasNextNode paths prefix b → is_key a ≡ is_key b
 
 -- the numbers of the paths that are equal to the prefix, rising
 pub record IsOrders (paths : List Path) (prefix : Path) (orders : List ℕ) : Type 0 where
@@ -41,4 +36,4 @@ pub record IsOrders (paths : List Path) (prefix : Path) (orders : List ℕ) : Ty
 -- the nodes that follow the prefix, each once
 pub record IsChildren (paths : List Path) (prefix : Path) (children : List Node) : Type 0 where
   pub distinct : AllPairs ◌≢◌ children
-  pub exact : (node : Node) → Contains children node ↔ HasNext paths prefix node
+  pub exact : (node : Node) → Contains children node ↔ HasNextNode paths prefix node

@@ -2,7 +2,7 @@
 use Rattle.std.specs.Prelude.{◌≡◌, ℕ, Bool, true, false, List, Some, slice_get}
 use Rattle.sonic_text.specs.Paths.{Node}
 use Rattle.sonic_pointer.specs.Nodes.{is_key}
-use Rattle.sonic_pointer.specs.Paths.{HasNext}
+use Rattle.sonic_pointer.specs.Paths.{HasNextNode}
 use Rattle.sonic_pointer.specs.declared.branch.Branch.{Branch}
 use Rattle.sonic_pointer.specs.declared.branch.Branch.TheVariants.{Leaf, Keys, Indexes}
 
@@ -20,11 +20,11 @@ pub record View : Type 0 where
 -- some node follows the prefix, and all that do are of this kind
 pub record HasKind (paths : List (List Node)) (prefix : List Node) (kind : Bool) : Type 0 where
   pub node : Node
-  pub next : HasNext paths prefix node
-  pub all : (other : Node) → HasNext paths prefix other → is_key other ≡ kind
+  pub next : HasNextNode paths prefix node
+  pub all : (other : Node) → HasNextNode paths prefix other → is_key other ≡ kind
 
 -- what follows a prefix: nothing, keys alone, or indexes alone
 abbrev pub IsBranch : List (List Node) → List Node → Branch → Type 0
-IsBranch paths prefix Leaf = (node : Node) → ¬ HasNext paths prefix node
+IsBranch paths prefix Leaf = (node : Node) → ¬ HasNextNode paths prefix node
 IsBranch paths prefix Keys = HasKind paths prefix true
 IsBranch paths prefix Indexes = HasKind paths prefix false

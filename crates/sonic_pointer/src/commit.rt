@@ -1,11 +1,11 @@
 // A path more in a tree: all memory is taken before anything changes.
 ghost use Rattle.std.specs.Prelude.{◌≡◌, ◌+◌, ◌-◌, ◌^◌, ◌<◌, ◌≤◌, ◌∷◌, ◌++◌, [], IfOk, OnOk, OnErr, length, set, vec_len, vec_capacity};
 ghost use Rattle.sonic_pointer.specs.Paths.{IsShort};
-ghost use Rattle.sonic_pointer.specs.Tries.{entry_at, with_order, with_child, IsLine, IsTree};
-ghost use Rattle.sonic_pointer.specs.Shapes.{kept_entries, entries_of, IsLeaving, Branches};
+ghost use Rattle.sonic_pointer.specs.Internal.Tries.{entry_at, with_order, with_child, IsChain, IsTree};
+ghost use Rattle.sonic_pointer.specs.Internal.TrieFields.{kept_entries, entries_of, IsInsertionPoint, Branches};
 
 use crate::owned::OwnedPath;
-use crate::shape::{Leaving, Shape};
+use crate::trie::{InsertionPoint, Trie};
 use crate::vertex::Vertex;
 use std::alloc::{AllocError, Global};
 
@@ -19,11 +19,11 @@ pub(crate) struct Parts {
 
 impl Parts {
     // The same parts, borrowed.
-    pub(crate) fn shape(&self) -> Shape<'_>
+    pub(crate) fn trie(&self) -> Trie<'_>
         ensures paths { result.paths.now ≡ self.now.paths.items }
         ensures entries { entries_of result ≡ kept_entries self.now }
     {
-        Shape {
+        Trie {
             paths: self.paths.as_slice(),
             root: &self.root,
             vertices: self.vertices.as_slice(),
@@ -32,7 +32,7 @@ impl Parts {
 }
 
 // The new vertices of a path with this length, below the depth where it leaves the tree.
-fn line(
+fn chain(
     alloc: Global,
     number: usize,
     first: usize,
@@ -41,7 +41,7 @@ fn line(
 ) -> Result<Vec<Vertex>, AllocError>
     requires short { depth < len }
     requires fits { first + (len - depth) < 2 ^ 64 }
-    ensures { IfOk result (λ made. IsLine number first depth (len - depth) made.items) }
+    ensures { IfOk result (λ made. IsChain number first depth (len - depth) made.items) }
 {
     let mut made = Vec::new(alloc);
     for j in 1..len - depth {
@@ -113,53 +113,53 @@ fn end_path(parts: &mut Parts, at: usize, path: OwnedPath) -> Result<(), AllocEr
 fn branch_path(
     alloc: Global,
     parts: &mut Parts,
-    leaving: Leaving,
+    point: InsertionPoint,
     len: usize,
     path: OwnedPath,
 ) -> Result<(), AllocError>
-    requires inside { leaving.at ≤ vec_len parts.old.vertices }
-    requires fits { leaving.position
-        ≤ length (entry_at (kept_entries parts.old) leaving.at).children }
-    requires short { leaving.depth < len }
+    requires inside { point.at ≤ vec_len parts.old.vertices }
+    requires fits { point.position
+        ≤ length (entry_at (kept_entries parts.old) point.at).children }
+    requires short { point.depth < len }
     ensures paths { OnOk result (parts.new.paths.items ≡ parts.old.paths.items ++ path ∷ []) }
     ensures vertices { OnOk result (Branches parts.old.paths.items (kept_entries parts.old)
-        (kept_entries parts.new) leaving len) }
+        (kept_entries parts.new) point len) }
     ensures same_paths { OnErr result (parts.new.paths.items ≡ parts.old.paths.items) }
     ensures same_vertices { OnErr result (kept_entries parts.new ≡ kept_entries parts.old) }
 {
     let number = parts.paths.len();
     let first = parts.vertices.len() + 1;
     parts.paths.reserve(1)?;
-    let Leaving {
+    let InsertionPoint {
         at,
         depth,
         position,
-    } = leaving;
+    } = point;
     parts.vertices.reserve(len - depth)?;
-    let mut added = line(alloc, number, first, depth, len)?;
+    let mut added = chain(alloc, number, first, depth, len)?;
     add_child(&mut parts.root, &mut parts.vertices, at, position, first)?;
     parts.paths.push_reserved(path);
     parts.vertices.append(&mut added)
 }
 
 // Appends the path, which leaves the tree here; out of memory, nothing changes.
-pub(crate) fn keep(
+pub(crate) fn insert_path(
     alloc: Global,
     parts: &mut Parts,
-    leaving: Leaving,
+    point: InsertionPoint,
     len: usize,
     path: OwnedPath,
 ) -> Result<(), AllocError>
     requires tree { IsTree parts.old.paths.items (kept_entries parts.old) }
-    requires leaving { IsLeaving parts.old.paths.items (kept_entries parts.old) path leaving }
+    requires point { IsInsertionPoint parts.old.paths.items (kept_entries parts.old) path point }
     requires len { len ≡ length path }
     requires short { IsShort path }
     ensures tree { IsTree parts.new.paths.items (kept_entries parts.new) }
     ensures ok { OnOk result (parts.new.paths.items ≡ parts.old.paths.items ++ path ∷ []) }
     ensures err { OnErr result (parts.new.paths.items ≡ parts.old.paths.items) }
 {
-    if leaving.depth == len {
-        return end_path(parts, leaving.at, path);
+    if point.depth == len {
+        return end_path(parts, point.at, path);
     }
-    branch_path(alloc, parts, leaving, len, path)
+    branch_path(alloc, parts, point, len, path)
 }

@@ -1,4 +1,5 @@
 // Why a tree refuses a path.
+use sonic_error::{Error, ErrorCode};
 use std::alloc::AllocError;
 
 /// Why a tree of paths refuses one.
@@ -8,7 +9,7 @@ pub enum PathError {
     Mixed,
     /// The path has more than [`MAX_NODES`](crate::MAX_NODES) nodes.
     TooLong,
-    /// Memory was wanting.
+    /// Memory ran out.
     NoMemory,
 }
 
@@ -20,5 +21,23 @@ impl From<AllocError> for PathError {
 
     fn from(_: AllocError) -> Self {
         PathError::NoMemory
+    }
+}
+
+/// So a function whose errors are those of texts adds a path with `?`. The error has no place. `Mixed`
+/// is `ErrorCode::UnexpectedVisitType`, of the family of wrong types, and `TooLong` is
+/// `ErrorCode::RecursionLimitExceeded`.
+impl From<PathError> for Error {
+    ghost use Rattle.sonic_error.specs.Errors.{IsPlainError};
+    ghost use Rattle.sonic_pointer.specs.Refusals.{code_of_refusal};
+
+    ghost from_gives = { λ refusal error. IsPlainError error (code_of_refusal refusal) };
+
+    fn from(refusal: PathError) -> Error {
+        Error::plain(match refusal {
+            PathError::Mixed => ErrorCode::UnexpectedVisitType,
+            PathError::TooLong => ErrorCode::RecursionLimitExceeded,
+            PathError::NoMemory => ErrorCode::NoMemory,
+        })
     }
 }

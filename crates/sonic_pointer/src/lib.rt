@@ -11,7 +11,7 @@ mod fault;
 mod macros;
 // The steps of a path.
 mod node;
-// Copies of paths.
+// Paths that own their keys.
 mod owned;
 // Lists of numbers that grow at any position.
 mod pieces;
@@ -20,17 +20,18 @@ mod rule;
 // The vertices of a tree.
 mod vertex;
 // A tree as its calls read it.
-mod shape;
+mod trie;
 // Trees of paths.
 mod tree;
 // Vertices of a tree, as callers see them.
 mod view;
 // A node that is looked for.
-mod wanted;
+mod target;
 
 pub use branch::Branch;
 pub use fault::PathError;
 pub use node::PointerNode;
+pub use owned::{OwnedNode, OwnedPath};
 pub use rule::KeyRule;
 pub use tree::{MAX_NODES, PointerTree};
 pub use view::TreeView;

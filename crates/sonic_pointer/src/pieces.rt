@@ -1,7 +1,7 @@
 // Lists of numbers that grow at any position.
 ghost use Rattle.std.specs.Prelude.{◌≡◌, ◌+◌, ◌^◌, ◌<◌, ◌≤◌, [], ◌++◌, OnOk, OnErr, length, map, take, drop, slice_get};
 ghost use Rattle.std.specs.List.{All, insert};
-ghost use Rattle.sonic_pointer.specs.Pieces.{numbers_of, raised, AreStarts, IsHolder};
+ghost use Rattle.sonic_pointer.specs.Internal.Pieces.{numbers_of, raised, AreStarts, IsHolder};
 
 use std::alloc::{AllocError, Global};
 use std::marker::Model;
@@ -29,7 +29,7 @@ impl Model for Pieces {
 
     ghost Value = { List ℕ };
 
-    ghost use Rattle.sonic_pointer.specs.Pieces.{all_numbers, ArePieces};
+    ghost use Rattle.sonic_pointer.specs.Internal.Pieces.{all_numbers, ArePieces};
 
     ghost view = { all_numbers };
 

@@ -4,10 +4,10 @@ ghost use Rattle.std.specs.List.{All};
 ghost use Rattle.sonic_pointer.specs.Nodes.{path_of};
 ghost use Rattle.sonic_pointer.specs.Paths.{IsMixed, IsShort, IsUnmixed};
 
-use crate::commit::{Parts, keep};
+use crate::commit::{Parts, insert_path};
 use crate::fault::PathError;
 use crate::node::PointerNode;
-use crate::owned::OwnedPath;
+use crate::owned::{OwnedPath, Steps};
 use crate::vertex::Vertex;
 use crate::view::TreeView;
 use std::alloc::Global;
@@ -36,11 +36,11 @@ impl Model for PointerTree {
 
     ghost Value = { List (List Node) };
 
-    ghost use Rattle.sonic_pointer.specs.Trees.{IsKept};
+    ghost use Rattle.sonic_pointer.specs.Internal.Trees.{IsPointerTree};
 
     ghost view = { λ tree. tree.parts.paths.items };
 
-    ghost invariant = { IsKept };
+    ghost invariant = { IsPointerTree };
 }
 
 /// The most nodes that a path of a tree has.
@@ -74,9 +74,29 @@ impl PointerTree {
         if path.len() > MAX_NODES {
             return Err(PathError::TooLong);
         }
-        let leaving = self.parts.shape().walk(path)?;
-        let copy = OwnedPath::new(alloc, path)?;
-        keep(alloc, &mut self.parts, leaving, path.len(), copy)?;
+        let point = self.parts.trie().walk(&Steps::Lent(path))?;
+        let copy = OwnedPath::from_nodes(alloc, path)?;
+        insert_path(alloc, &mut self.parts, point, path.len(), copy)?;
+        Ok(())
+    }
+
+    /// Appends a path that owns its keys, as [`add_path`](PointerTree::add_path) does, and copies
+    /// none of them. A refused path is let go.
+    ///
+    /// After the path of `["a", 1]` the one of `["a", "b"]` is `Mixed`.
+    pub fn add_owned_path(&mut self, alloc: Global, path: OwnedPath) -> Result<(), PathError>
+        ensures ok { OnOk result (self.new ≡ self.old ++ path ∷ []) }
+        ensures err { OnErr result (self.new ≡ self.old) }
+        ensures too_long { (result ≡ Err PathError.TooLong) ↔ (255 < length path) }
+        ensures mixed { (result ≡ Err PathError.Mixed)
+            ↔ ((length path ≤ 255) × IsMixed self.old path) }
+    {
+        let len = path.len();
+        if len > MAX_NODES {
+            return Err(PathError::TooLong);
+        }
+        let point = self.parts.trie().walk(&Steps::Owned(&path))?;
+        insert_path(alloc, &mut self.parts, point, len, path)?;
         Ok(())
     }
 
@@ -94,6 +114,6 @@ impl PointerTree {
         ensures unmixed { IsUnmixed self.now }
         ensures short { All IsShort self.now }
     {
-        TreeView::of_root(self.parts.shape())
+        TreeView::of_root(self.parts.trie())
     }
 }

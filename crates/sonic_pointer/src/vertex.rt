@@ -1,6 +1,6 @@
 // The vertices of a tree.
 ghost use Rattle.std.specs.Prelude.{◌≡◌, ◌+◌, ◌≤◌, ◌∷◌, ◌++◌, [], IfOk, OnOk, OnErr, length};
-ghost use Rattle.sonic_pointer.specs.Tries.{with_order, with_child};
+ghost use Rattle.sonic_pointer.specs.Internal.Tries.{with_order, with_child};
 
 use crate::pieces::Pieces;
 use std::alloc::{AllocError, Global};
@@ -16,11 +16,11 @@ pub(crate) struct Vertex {
 }
 
 impl Model for Vertex {
-    ghost use Rattle.sonic_pointer.specs.Tries.{Entry};
+    ghost use Rattle.sonic_pointer.specs.Internal.Tries.{Entry};
 
     ghost Value = { Entry };
 
-    ghost use Rattle.sonic_pointer.specs.Vertices.{entry_of};
+    ghost use Rattle.sonic_pointer.specs.Internal.Vertices.{entry_of};
 
     ghost view = { entry_of };
 }
@@ -95,11 +95,11 @@ impl Vertex {
         Ok(())
     }
 
-    pub(crate) fn add_child(&mut self, vertex: usize, child: usize) -> Result<(), AllocError>
-        requires { vertex ≤ length self.old.children }
-        ensures ok { OnOk result (self.new ≡ with_child self.old vertex child) }
+    pub(crate) fn add_child(&mut self, position: usize, child: usize) -> Result<(), AllocError>
+        requires { position ≤ length self.old.children }
+        ensures ok { OnOk result (self.new ≡ with_child self.old position child) }
         ensures err { OnErr result (self.new ≡ self.old) }
     {
-        self.children.insert(vertex, child)
+        self.children.insert(position, child)
     }
 }

@@ -3,14 +3,14 @@ ghost use Rattle.std.specs.Prelude.{◌≡◌, ◌<◌, ◌∷◌, ◌++◌, ℕ
 ghost use Rattle.sonic_text.specs.Strings.{IsString, strict};
 ghost use Rattle.sonic_text.specs.Paths.{Node, key, index};
 ghost use Rattle.sonic_pointer.specs.Nodes.{node_of};
-ghost use Rattle.sonic_pointer.specs.Paths.{HasNext, IsOrders, IsChildren};
+ghost use Rattle.sonic_pointer.specs.Paths.{HasNextNode, IsOrders, IsChildren};
 ghost use Rattle.sonic_pointer.specs.Views.{HaveOneNumber, IsBranch};
 
 use crate::branch::Branch;
 use crate::node::PointerNode;
-use crate::shape::Shape;
+use crate::target::Target;
+use crate::trie::Trie;
 use crate::vertex::Vertex;
-use crate::wanted::Wanted;
 use std::marker::Model;
 
 /// A prefix of the paths in a tree, with the nodes that follow it.
@@ -30,7 +30,7 @@ use std::marker::Model;
 /// ```
 #[derive(Drop)]
 pub struct TreeView<'t> {
-    shape: Shape<'t>,
+    trie: Trie<'t>,
     at: usize,
 }
 
@@ -39,7 +39,7 @@ impl<'t> Model for TreeView<'t> {
 
     ghost Value = { View };
 
-    ghost use Rattle.sonic_pointer.specs.Fields.{view_of, IsView};
+    ghost use Rattle.sonic_pointer.specs.Internal.Fields.{view_of, IsView};
 
     ghost view = { view_of };
 
@@ -47,23 +47,23 @@ impl<'t> Model for TreeView<'t> {
 }
 
 impl<'t> TreeView<'t> {
-    ghost use Rattle.sonic_pointer.specs.Shapes.{IsShape};
-    ghost use Rattle.sonic_pointer.specs.Wanted.{IsLookedFor};
+    ghost use Rattle.sonic_pointer.specs.Internal.TrieFields.{HoldsTree};
+    ghost use Rattle.sonic_pointer.specs.Internal.Targets.{IsTarget};
 
-    pub(crate) fn of_root(shape: Shape<'t>) -> TreeView<'t>
-        requires { IsShape shape }
-        ensures paths { result.paths ≡ shape.entry.paths.now }
+    pub(crate) fn of_root(trie: Trie<'t>) -> TreeView<'t>
+        requires { HoldsTree trie }
+        ensures paths { result.paths ≡ trie.entry.paths.now }
         ensures prefix { result.prefix ≡ [] }
     {
-        TreeView { shape, at: 0 }
+        TreeView { trie, at: 0 }
     }
 
     /// The numbers of the paths that end here, rising: those of all equal paths.
     pub fn orders(&self) -> &'t [usize]
         ensures { IsOrders self.now.paths self.now.prefix result.now }
     {
-        let position: &'t Vertex = self.shape.position(self.at);
-        position.orders()
+        let vertex: &'t Vertex = self.trie.vertex(self.at);
+        vertex.orders()
     }
 
     /// The number of this prefix among the [`prefixes`](TreeView::prefixes) of the tree, from 0 on.
@@ -82,7 +82,7 @@ impl<'t> TreeView<'t> {
         ensures count { result ≡ length self.now.prefixes }
         ensures one { HaveOneNumber self.now.prefixes }
     {
-        self.shape.vertices.len() + 1
+        self.trie.vertices.len() + 1
     }
 
     /// What follows here.
@@ -91,7 +91,7 @@ impl<'t> TreeView<'t> {
     pub fn branch(&self) -> Branch
         ensures { IsBranch self.now.paths self.now.prefix result }
     {
-        match self.shape.first(self.at) {
+        match self.trie.first(self.at) {
             None => Branch::Leaf,
             Some(node) if node.is_key() => Branch::Keys,
             Some(_) => Branch::Indexes,
@@ -103,7 +103,7 @@ impl<'t> TreeView<'t> {
         ensures count { result ≡ length self.now.children }
         ensures children { IsChildren self.now.paths self.now.prefix self.now.children }
     {
-        self.shape.children(self.at).len()
+        self.trie.children(self.at).len()
     }
 
     /// One of the nodes that follow, with its vertex.
@@ -114,24 +114,24 @@ impl<'t> TreeView<'t> {
         ensures prefixes { result.1.prefixes ≡ self.now.prefixes }
         ensures prefix { result.1.prefix ≡ self.now.prefix ++ node_of result.0 ∷ [] }
     {
-        let at = self.shape.children(self.at).get(i);
-        let node = self.shape.label(at);
+        let at = self.trie.children(self.at).get(i);
+        let node = self.trie.label(at);
         let below = TreeView {
-            shape: self.shape,
+            trie: self.trie,
             at,
         };
         (node, below)
     }
 
     // The number of the child that is looked for, or `None`.
-    fn number_of(&self, wanted: &Wanted<'_>) -> Option<usize>
-        requires { (node : Node) × IsLookedFor wanted.now node }
-        ensures some { IfSome result (λ i. (node : Node) → IsLookedFor wanted.now node
+    fn number_of(&self, target: &Target<'_>) -> Option<usize>
+        requires { (node : Node) × IsTarget target.now node }
+        ensures some { IfSome result (λ i. (node : Node) → IsTarget target.now node
             → slice_get self.now.children i ≡ Some node) }
-        ensures none { IfNone result ((node : Node) → IsLookedFor wanted.now node
-            → ¬ HasNext self.now.paths self.now.prefix node) }
+        ensures none { IfNone result ((node : Node) → IsTarget target.now node
+            → ¬ HasNextNode self.now.paths self.now.prefix node) }
     {
-        match self.shape.find(self.at, wanted) {
+        match self.trie.find(self.at, target) {
             Ok(i) => Some(i),
             Err(_) => None,
         }
@@ -146,16 +146,16 @@ impl<'t> TreeView<'t> {
         ensures some { IfSome result (λ i. (b : List ℕ) → IsString strict text.now start end b
             → slice_get self.now.children i ≡ Some (key b)) }
         ensures none { IfNone result ((b : List ℕ) → IsString strict text.now start end b
-            → ¬ HasNext self.now.paths self.now.prefix (key b)) }
+            → ¬ HasNextNode self.now.paths self.now.prefix (key b)) }
     {
-        self.number_of(&Wanted::Text { text, start, end })
+        self.number_of(&Target::Text { text, start, end })
     }
 
     /// The number of the child that is this index, or `None`.
     pub fn of_index(&self, number: usize) -> Option<usize>
         ensures some { IfSome result (λ i. slice_get self.now.children i ≡ Some (index number)) }
-        ensures none { IfNone result (¬ HasNext self.now.paths self.now.prefix (index number)) }
+        ensures none { IfNone result (¬ HasNextNode self.now.paths self.now.prefix (index number)) }
     {
-        self.number_of(&Wanted::Node(PointerNode::Index(number)))
+        self.number_of(&Target::Node(PointerNode::Index(number)))
     }
 }

@@ -4,7 +4,9 @@ ghost use Rattle.std.specs.Prelude.{◌<◌, ◌≤◌};
 
 use crate::same::{same, same_at};
 use sonic_input::FastStr;
-use sonic_pointer::{Branch, PathError, PointerNode, PointerTree, TreeView, pointer};
+use sonic_pointer::{
+    Branch, OwnedNode, OwnedPath, PathError, PointerNode, PointerTree, TreeView, pointer,
+};
 use sonic_text::string_end;
 use std::alloc::{AllocError, Global};
 use std::cmp::Ordering;
@@ -86,7 +88,7 @@ fn check(
             same_at(rt, view.branch(), branch, path);
             same_at(rt, view.count(), count, path);
         }
-        None => panic!(rt; "no position {path:?}"),
+        None => panic!(rt; "no vertex {path:?}"),
     }
 }
 
@@ -379,4 +381,32 @@ fn splits_siblings(rt: HostRuntime) {
     ] {
         check_position(&rt, rt.alloc(), count, position);
     }
+}
+
+#[test]
+fn takes_paths_that_own_their_keys(rt: HostRuntime) -> Result<(), AllocError> {
+    let alloc = rt.alloc();
+    let long = [PointerNode::Index(0); 256];
+    let rows: [(&[PointerNode<'_>], Result<(), PathError>); 5] = [
+        (&pointer!["a", 1], Ok(())),
+        (&pointer!["a", "b"], Err(PathError::Mixed)),
+        (&pointer!["a", 0], Ok(())),
+        (&long, Err(PathError::TooLong)),
+        (&pointer![], Ok(())),
+    ];
+    let mut tree = PointerTree::new(alloc);
+    for (path, answer) in rows {
+        let owned = OwnedPath::from_nodes(alloc, path)?;
+        same_at(&rt, owned.len(), path.len(), path);
+        same_at(&rt, owned.nodes(alloc)?.as_slice(), path, path);
+        same_at(&rt, tree.add_owned_path(alloc, owned), answer, path);
+    }
+    let mut pushed = OwnedPath::new(alloc);
+    pushed.push(OwnedNode::Key(String::from_str(alloc, "a")?))?;
+    pushed.push(OwnedNode::Index(1))?;
+    same(&rt, tree.add_owned_path(alloc, pushed), Ok(()));
+    check(&rt, &tree, &pointer!["a", 1], &[0, 3], Branch::Leaf, 0);
+    check(&rt, &tree, &pointer!["a"], &[], Branch::Indexes, 2);
+    check(&rt, &tree, &pointer![], &[2], Branch::Keys, 1);
+    Ok(())
 }

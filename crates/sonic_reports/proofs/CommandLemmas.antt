@@ -13,8 +13,7 @@ use Rattle.std.proofs.lemmas.Slice.Eq.{bytes_eq-Decides}
 use Rattle.std.specs.Bool.{Decides}
 use Rattle.std.specs.Str.{bytes_eq}
 use Rattle.sonic_reports.specs.declared.commands.Command.TheVariants.{Get, List as Items, Edit, Fill, Fast, Gen}
-use Rattle.sonic_reports.specs.declared.commands.TheConstants.{MOST}
-use Rattle.sonic_reports.specs.Commands.{IsListed, Reads, rule_word}
+use Rattle.sonic_reports.specs.Commands.{IsListed, Reads, rule_word, most_objects}
 use Rattle.sonic_reports.specs.Commands.Asks.{no_word, get_word, list_word, edit_word, fill_word, fast_word, gen_words, keys_words}
 
 -- no words are none
@@ -61,7 +60,7 @@ only_named (_, gen_words e l h) = absurd cc
 record IsCount (text : List ℕ) (n : ℕ) : Type 0 where
   is_decimal : text ≡ decimal n
   least : 1 ≤ n
-  most : n ≤ MOST
+  most : n ≤ most_objects
 
 -- two words that ask for a command are `gen` and such a text
 only_counted : {word next : List ℕ} → IsListed (word ∷ next ∷ []) → (word ≡ codes "gen") × ((n : ℕ) × IsCount next n)
@@ -167,11 +166,11 @@ word_listed word = elim (is_name word (codes "get")) [
 ]
 
 -- the number that digits write is the one whose decimal they are
-pub value_of_decimal : (n : ℕ) → n ≤ MOST → digits_value 10 (decimal n) ≡ n
+pub value_of_decimal : (n : ℕ) → n ≤ most_objects → digits_value 10 (decimal n) ≡ n
 value_of_decimal n most = (decimal_is_IsNumeral n (omega arith)).1
 
 -- such a text is parsed as the number
-pub parsed_count : {E : Type 0} {text : List ℕ} {n : ℕ} (r : Result ℕ E) → text ≡ decimal n → n ≤ MOST → ParsesUnsigned 32 10 text r → r ≡ Ok n
+pub parsed_count : {E : Type 0} {text : List ℕ} {n : ℕ} (r : Result ℕ E) → text ≡ decimal n → n ≤ most_objects → ParsesUnsigned 32 10 text r → r ≡ Ok n
 parsed_count {text = text} {n} r e most p = parse-decimal 32 n text r (omega arith) (omega arith) e p
 
 -- a text is the decimal of a number in the range of `gen`, or of none
@@ -183,7 +182,7 @@ count_or_not text =
       | inr other ↦ inr (λ m c. other (c.is_decimal ∙ sym (ap decimal (only m c))))
       | inl e ↦ elim (cases_lt n 1) [
         | inl low ↦ inr (λ m c. let same = only m c in let l = c.least in omega (arith, same, l, low))
-        | inr least ↦ elim (cases_lt MOST n) [
+        | inr least ↦ elim (cases_lt most_objects n) [
           | inl high ↦ inr (λ m c. let same = only m c in let h = c.most in omega (arith, same, h, high))
           | inr most ↦ inl (n, record { is_decimal = e; least = least; most = most })
         ]

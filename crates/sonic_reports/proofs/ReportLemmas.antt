@@ -7,7 +7,7 @@ use Rattle.sonic_pointer.specs.declared.rule.KeyRule.{KeyRule}
 use Rattle.sonic_pointer.specs.declared.rule.KeyRule.TheVariants.{First, Last, Refuse}
 use Rattle.sonic_reports.specs.declared.commands.Command.{Command}
 use Rattle.sonic_reports.specs.declared.commands.Command.TheVariants.{Get, List as Items, Edit, Fill, Fast, Gen}
-use Rattle.sonic_io.specs.declared.reading.TheConstants.{LIMIT}
+use Rattle.sonic_io.specs.Outside.{input_limit}
 use Rattle.sonic_reports.specs.declared.status.Status.{Status}
 use Rattle.sonic_reports.specs.declared.status.Status.TheVariants.{Done, NoMemory}
 use Rattle.sonic_reports.specs.Commands.{Asks, no_word, get_word, list_word, edit_word, fill_word, fast_word, gen_words, keys_words, rule_word, Reads}
@@ -76,8 +76,8 @@ writes_some Fast input = fast_report_some input
 writes_some (Gen n) input = gen_report_some n
 
 -- an input that is read is within the limit or not
-few_not_many : {words : List (List ℕ)} {asked other : Command} (input : List ℕ) → Asks words asked → Reads asked → LIMIT < length input → Asks words other
-    → (Reads other → length input ≤ LIMIT) → ⊥
+few_not_many : {words : List (List ℕ)} {asked other : Command} (input : List ℕ) → Asks words asked → Reads asked → input_limit < length input → Asks words other
+    → (Reads other → length input ≤ input_limit) → ⊥
 few_not_many {asked = asked} {other} input n reads many m few =
     let own : Reads other = rw (asks_one n m) at reads in
     let within = few own in
@@ -104,7 +104,7 @@ report_some words input = elim (listed_or_not words) [
   | inr unlisted ↦ (_, _, usage unlisted)
   | inl (asked, asks) ↦ let r = writes_some asked input in elim (reads_or_gen asked) [
     | inr (n, e) ↦ (r.0, r.1, written asks (λ reads. absurd (reads n e)) r.2)
-    | inl reads ↦ elim (cases_lt LIMIT (length input)) [
+    | inl reads ↦ elim (cases_lt input_limit (length input)) [
       | inl many ↦ (_, _, large (asked, asks, reads) many)
       | inr few ↦ (r.0, r.1, written asks (λ _. few) r.2)
     ]

@@ -7,7 +7,6 @@ use Rattle.sonic_find.specs.Answers.{Answer}
 use Rattle.sonic_pointer.specs.declared.rule.KeyRule.{KeyRule}
 use Rattle.sonic_reports.specs.declared.commands.Command.{Command}
 use Rattle.sonic_reports.specs.declared.commands.Command.TheVariants.{Get, List as Items, Edit, Fill, Fast, Gen}
-use Rattle.sonic_io.specs.declared.reading.TheConstants.{LIMIT}
 use Rattle.sonic_reports.specs.declared.runs.Request.{Request}
 use Rattle.sonic_reports.specs.declared.runs.Request.TheVariants.{Usage, Large, Input}
 use Rattle.sonic_reports.specs.declared.status.Status.{Status}
@@ -29,10 +28,10 @@ use Rattle.sonic_reports.specs.Commands.Get.IsPathsReport.{bad_line, answered}
 use Rattle.sonic_lazy.specs.Items.{Ending, closed, stopped}
 use Rattle.sonic_reports.specs.Commands.Items.{IsListReport, status_of_ending}
 use Rattle.sonic_reports.specs.Internal.Requests.{IsAsked, IsAnswered}
-use Rattle.sonic_io.specs.Outside.{Gave, Took, TookPrefix, Rose}
+use Rattle.sonic_io.specs.Outside.{Gave, Took, TookPrefix, Rose, input_limit}
 use Rattle.sonic_reports.specs.Reports.{Writes, IsReport}
 use Rattle.sonic_reports.specs.Reports.IsReport.{usage, large, written}
-use Rattle.sonic_reports.specs.Sessions.{Session, IsReported, IsOfInput, IsReply, Reports, ReportsOnly, AnswersAll, ReadsTooMuch, IsRun}
+use Rattle.sonic_reports.specs.Sessions.{Session, IsReported, IsOfInput, IsReply, Reports, ReportsOnly, AnswersAll, IsSent, ReadsTooMuch, IsRun}
 use Rattle.sonic_reports.proofs.ReportLemmas.{asks_one, has_one_report, answered_done}
 use Rattle.sonic_reports.proofs.CommandLemmas.{reads_or_gen}
 
@@ -46,7 +45,7 @@ some_input None = ([], tt)
 some_input (Some bytes) = (bytes, refl)
 
 -- where more bytes than an input may have were read, such an input was left
-large_input : (left rest : Option (List ℕ)) (bytes : List ℕ) → length bytes ≡ LIMIT + 1 → Gave left rest bytes → (input : List ℕ) × Known left input × (LIMIT < length input)
+large_input : (left rest : Option (List ℕ)) (bytes : List ℕ) → length bytes ≡ input_limit + 1 → Gave left rest bytes → (input : List ℕ) × Known left input × (input_limit < length input)
 large_input None rest bytes l gave = (bytes, tt, omega arith)
 large_input (Some all) None bytes l gave = absurd cc
 large_input (Some all) (Some rest) bytes l gave = let e : all ≡ bytes ++ rest = cc in (all, refl, rw e (omega (arith, length-append bytes rest)))
@@ -153,7 +152,7 @@ of_each_input input other text ending e w = rw e (rw e at w)
 
 -- what a command writes of what it read is a report of what was left
 written_reply : (run : Session) {text : List ℕ} {ending : Status} {command : Command} (bytes : List ℕ) → Asks run.words command
-    → (Reads command → Gave run.before.left run.after.left bytes × IsAtEnd run.after.left × (length bytes ≤ LIMIT)) → Writes command bytes text ending
+    → (Reads command → Gave run.before.left run.after.left bytes × IsAtEnd run.after.left × (length bytes ≤ input_limit)) → Writes command bytes text ending
     → IsReply run text ending
 written_reply run {command = command} bytes asks read answers = elim (reads_or_gen command) [
   | inl reads ↦ (let (gave, end, within) = read reads in
@@ -210,12 +209,13 @@ answers_all run only rule input known asks i = let r = answered_done asks i in (
 
 -- a run whose report was written
 pub delivered : {run : Session} {text : List ℕ} {ending : Status} → IsPrepared run text ending → Took run.before.written run.after.written text
-    → run.after.read_faults ≡ run.before.read_faults → run.after.write_faults ≡ run.before.write_faults → IsRun run ending
-delivered {run} {text} {ending} p taken reads writes =
+    → IsSent run → run.after.read_faults ≡ run.before.read_faults → run.after.write_faults ≡ run.before.write_faults → IsRun run ending
+delivered {run} {text} {ending} p taken sent reads writes =
     let reports : Reports run ending = record { text = text; reply = p.reply; taken = taken } in
     record {
       reports = λ _. reports;
       the_only_one = λ _. the_report run reports;
+      sends = λ _. sent;
       complete = λ _. answers_all run (the_report run reports);
       breaks_off = λ e. absurd (p.reported.no_write_fault e);
       read_fault_is_silent = λ e. absurd (p.reported.no_read_fault e);
@@ -238,6 +238,7 @@ pub broken : {run : Session} {text : List ℕ} {status : Status} → IsPrepared 
 broken {run} {text} {status} p taken reads rose = record {
   reports = λ r. absurd (r.no_write_fault refl);
   the_only_one = λ r. absurd (r.no_write_fault refl);
+  sends = λ r. absurd (r.no_write_fault refl);
   complete = λ r. absurd (r.no_write_fault refl);
   breaks_off = λ _. record { text = text; status = status; reply = p.reply; taken = taken };
   read_fault_is_silent = λ e. absurd cc;
@@ -260,6 +261,7 @@ pub unread : {run : Session} → run.after.written ≡ run.before.written → Ro
 unread silent rose writes (asked, asks, reads) = record {
   reports = λ r. absurd (r.no_read_fault refl);
   the_only_one = λ r. absurd (r.no_read_fault refl);
+  sends = λ r. absurd (r.no_read_fault refl);
   complete = λ r. absurd (r.no_read_fault refl);
   breaks_off = λ e. absurd cc;
   read_fault_is_silent = λ _. silent;
@@ -282,6 +284,7 @@ pub out_of_memory : {run : Session} → run.after.written ≡ run.before.written
 out_of_memory silent reads writes listed = record {
   reports = λ r. absurd (r.memory refl);
   the_only_one = λ r. absurd (r.memory refl);
+  sends = λ r. absurd (r.memory refl);
   complete = λ r. absurd (r.memory refl);
   breaks_off = λ e. absurd cc;
   read_fault_is_silent = λ e. absurd cc;

@@ -11,13 +11,16 @@ use Rattle.sonic_pointer.specs.declared.rule.KeyRule.{KeyRule}
 use Rattle.sonic_pointer.specs.declared.rule.KeyRule.TheVariants.{First, Last, Refuse}
 use Rattle.sonic_reports.specs.declared.commands.Command.{Command}
 use Rattle.sonic_reports.specs.declared.commands.Command.TheVariants as command
-use Rattle.sonic_reports.specs.declared.commands.TheConstants.{MOST}
 
 -- the word that names a rule for equal keys
 abbrev pub rule_word : KeyRule → List ℕ
 rule_word First = codes "first"
 rule_word Last = codes "last"
 rule_word Refuse = codes "refuse"
+
+-- the most objects that `gen` makes
+abbrev pub most_objects : ℕ
+most_objects = 1000000
 
 -- the words ask for this command: no word asks for `get` by first equal keys, as the one word `get` does
 pub data Asks (words : List (List ℕ)) : Command → Type 0 where
@@ -28,7 +31,7 @@ pub data Asks (words : List (List ℕ)) : Command → Type 0 where
   edit_word : words ≡ codes "edit" ∷ [] → Asks words command.Edit
   fill_word : words ≡ codes "fill" ∷ [] → Asks words command.Fill
   fast_word : words ≡ codes "fast" ∷ [] → Asks words command.Fast
-  gen_words : {n : ℕ} → words ≡ codes "gen" ∷ decimal n ∷ [] → 1 ≤ n → n ≤ MOST → Asks words (command.Gen n)
+  gen_words : {n : ℕ} → words ≡ codes "gen" ∷ decimal n ∷ [] → 1 ≤ n → n ≤ most_objects → Asks words (command.Gen n)
 
 -- the words ask for some command
 abbrev pub IsListed : List (List ℕ) → Type 0

@@ -2,7 +2,7 @@
 use Rattle.std.specs.Prelude.{ℕ, ◌<◌, ◌≤◌, List, length, codes}
 use Rattle.sonic_reports.specs.declared.commands.Command.{Command}
 use Rattle.sonic_reports.specs.declared.commands.Command.TheVariants as command
-use Rattle.sonic_io.specs.declared.reading.TheConstants.{LIMIT}
+use Rattle.sonic_io.specs.Outside.{input_limit}
 use Rattle.sonic_reports.specs.declared.status.Status.{Status}
 use Rattle.sonic_reports.specs.declared.status.Status.TheVariants.{BadUsage, TooLarge}
 use Rattle.sonic_reports.specs.Commands.{Asks, IsListed, Reads, IsReading}
@@ -27,7 +27,7 @@ pub data IsReport (words : List (List ℕ)) (input : List ℕ) : List ℕ → St
   -- words that ask for no command are answered so, whatever the input is
   usage : ¬ IsListed words → IsReport words input (codes "! usage\n") BadUsage
   -- an input of more than 256 MiB is answered by its size alone, where it is read
-  large : IsReading words → LIMIT < length input → IsReport words input (codes "! large\n") TooLarge
+  large : IsReading words → input_limit < length input → IsReport words input (codes "! large\n") TooLarge
   -- each command writes its own report of the others
-  written : {asked : Command} {text : List ℕ} {status : Status} → Asks words asked → (Reads asked → length input ≤ LIMIT) → Writes asked input text status
+  written : {asked : Command} {text : List ℕ} {status : Status} → Asks words asked → (Reads asked → length input ≤ input_limit) → Writes asked input text status
       → IsReport words input text status

@@ -4,19 +4,19 @@ use Rattle.std.specs.Io.KnownBytes.{IsAtEnd}
 use Rattle.std.specs.declared.option.Option.{Option}
 use Rattle.sonic_pointer.specs.declared.rule.KeyRule.{KeyRule}
 use Rattle.sonic_reports.specs.declared.commands.Command.TheVariants.{Get}
-use Rattle.sonic_io.specs.declared.reading.TheConstants.{LIMIT}
 use Rattle.sonic_reports.specs.declared.status.Status.{Status}
 use Rattle.sonic_reports.specs.declared.status.Status.TheVariants.{Done, DocumentError, BadUsage, BadLines, TooLarge, ReadFault, WriteFault, NoMemory}
 use Rattle.sonic_reports.specs.Commands.{Asks, IsListed, IsReading}
 use Rattle.sonic_reports.specs.Commands.Get.{IsAnswerableInput}
-use Rattle.sonic_io.specs.Outside.{Rose, Gave, Took, TookPrefix}
+use Rattle.sonic_io.specs.Outside.{Rose, Gave, Took, TookPrefix, input_limit}
 use Rattle.sonic_reports.specs.Reports.{IsReport}
 
--- what the source has left and the sink has written, where that is known, and how many of their calls failed, up to the greatest number of 64 bits
+-- what the source has left, and what the sink has written and sent on, where that is known, and how many of their calls failed, up to the greatest number of 64 bits
 pub record Outside : Type 0 where
   pub left : Option (List ℕ)
   pub read_faults : ℕ
   pub written : Option (List ℕ)
+  pub sent : Option (List ℕ)
   pub write_faults : ℕ
 
 -- a run: the words of its command line, and the outside before and after it
@@ -25,9 +25,9 @@ pub record Session : Type 0 where
   pub before : Outside
   pub after : Outside
 
--- the outside, where the source has this left and has failed so often, and the sink has written this and has failed so often
-abbrev pub outside_of : Option (List ℕ) → ℕ → Option (List ℕ) → ℕ → Outside
-outside_of left read_faults written write_faults = record { left = left; read_faults = read_faults; written = written; write_faults = write_faults }
+-- the outside, where the source has this left and has failed so often, and the sink has written this, has sent this on and has failed so often
+abbrev pub outside_of : Option (List ℕ) → ℕ → Option (List ℕ) → Option (List ℕ) → ℕ → Outside
+outside_of left read_faults written sent write_faults = record { left = left; read_faults = read_faults; written = written; sent = sent; write_faults = write_faults }
 
 -- the run of these words
 abbrev pub session_of : List (List ℕ) → Outside → Outside → Session
@@ -73,13 +73,17 @@ pub record BreaksOff (run : Session) : Type 0 where
   pub reply : IsReply run text status
   pub taken : TookPrefix run.before.written run.after.written text
 
+-- all that was written was sent on
+abbrev pub IsSent : Session → Type 0
+IsSent run = run.after.sent ≡ run.after.written
+
 -- nothing was written
 abbrev pub IsSilent : Session → Type 0
 IsSilent run = run.after.written ≡ run.before.written
 
 -- one byte more than an input may have was read
 abbrev pub ReadsTooMuch : Session → Type 0
-ReadsTooMuch run = (bytes : List ℕ) × (length bytes ≡ LIMIT + 1) × Gave run.before.left run.after.left bytes
+ReadsTooMuch run = (bytes : List ℕ) × (length bytes ≡ input_limit + 1) × Gave run.before.left run.after.left bytes
 
 -- what a run has done that ended with this status
 pub record IsRun (run : Session) (ending : Status) : Type 0 where
@@ -87,6 +91,8 @@ pub record IsRun (run : Session) (ending : Status) : Type 0 where
   pub reports : IsReported ending → Reports run ending
   -- it is the only report, where the input is known
   pub the_only_one : IsReported ending → ReportsOnly run ending
+  -- and the sink was finished after it
+  pub sends : IsReported ending → IsSent run
   -- where each path finds a value or lacks its key, the status says so, whatever comes after the last of them
   pub complete : IsReported ending → AnswersAll run ending
   -- after a failed write no more than a prefix of the report was written

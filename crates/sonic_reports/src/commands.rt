@@ -1,8 +1,7 @@
 //! The commands, and the words of a command line that ask for them.
 ghost use Rattle.std.specs.Prelude.{◌≡◌, ◌≢◌, ◌≤◌, ℕ, ◌∷◌, [], map, string_bytes, IfSome, IfNone};
 ghost use Rattle.std.specs.Fmt.{decimal};
-ghost use Rattle.sonic_reports.specs.Commands.{Asks, IsListed, rule_word};
-ghost use Rattle.sonic_reports.specs.declared.commands.TheConstants.{MOST};
+ghost use Rattle.sonic_reports.specs.Commands.{Asks, IsListed, rule_word, most_objects};
 
 // What `edit` writes: what the edits of an input's head make of its document.
 pub(crate) mod edit;
@@ -117,8 +116,8 @@ fn counted_command(word: &str, count: &str) -> Option<Command>
 
 // The number of objects that a text asks for: its decimal has no sign and no zero before it.
 fn asked_count(text: &str) -> Option<u32>
-    ensures some { IfSome result (λ n. (text.now ≡ decimal n) × (1 ≤ n) × (n ≤ MOST)) }
-    ensures none { IfNone result ((n : ℕ) → text.now ≡ decimal n → 1 ≤ n → ¬ (n ≤ MOST)) }
+    ensures some { IfSome result (λ n. (text.now ≡ decimal n) × (1 ≤ n) × (n ≤ most_objects)) }
+    ensures none { IfNone result ((n : ℕ) → text.now ≡ decimal n → 1 ≤ n → ¬ (n ≤ most_objects)) }
 {
     let Ok(count) = text.parse::<u32>() else {
         return None;

@@ -79,6 +79,7 @@ impl<'i> Reply<'i> {
 // finish failed, that is the whole report.
 pub(crate) fn deliver<K: Sink>(sink: &mut K, reply: Reply<'_>) -> Result<(), Failed>
     ensures all { OnOk result (Took (K.written sink.old) (K.written sink.new) (text_of reply.entry)) }
+    ensures sent { OnOk result (K.sent sink.new ≡ K.written sink.new) }
     ensures prefix { OnErr result (TookPrefix (K.written sink.old) (K.written sink.new) (text_of reply.entry)) }
     ensures calm { OnOk result (K.faults sink.new ≡ K.faults sink.old) }
     ensures cause { OnErr result (Rose (K.faults sink.old) (K.faults sink.new)) }

@@ -35,8 +35,8 @@ pub fn run<S: Source, K: Sink>(
     sink: &mut K,
 ) -> Status
     ensures outcome { IsRun (session_of (map string_bytes words.now)
-        (outside_of (S.left source.old) (S.faults source.old) (K.written sink.old) (K.faults sink.old))
-        (outside_of (S.left source.new) (S.faults source.new) (K.written sink.new) (K.faults sink.new)))
+        (outside_of (S.left source.old) (S.faults source.old) (K.written sink.old) (K.sent sink.old) (K.faults sink.old))
+        (outside_of (S.left source.new) (S.faults source.new) (K.written sink.new) (K.sent sink.new) (K.faults sink.new)))
         result }
     // Words that ask for no command that reads leave the source as it is.
     ensures unread { ¬ IsReading (map string_bytes words.now) → source.new ≡ source.old }

@@ -1,3 +1,2 @@
 pub mod Internal
 pub mod Streams
-pub mod StreamViews

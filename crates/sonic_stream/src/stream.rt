@@ -61,7 +61,7 @@ impl Model for RecordStream {
     ghost Value = { Stream };
 
     ghost use Rattle.sonic_stream.specs.Internal.Counts.{IsCounted};
-    ghost use Rattle.sonic_stream.specs.StreamViews.{stream_of};
+    ghost use Rattle.sonic_stream.specs.Internal.StreamViews.{stream_of};
 
     ghost view = { stream_of };
 
@@ -104,7 +104,7 @@ fn is_settled(text: &[u8], is_ended: bool, start: usize, end: usize) -> bool
 }
 
 impl RecordStream {
-    ghost use Rattle.sonic_stream.specs.Streams.{start_of, IsAdded, IsNext, IsNeverOne, IsPastLine, IsWrong};
+    ghost use Rattle.sonic_stream.specs.Streams.{start_of, IsAdded, IsNextRecord, IsNeverOne, IsPastLine, IsWrong};
 
     /// A stream of which nothing came yet. It takes no memory.
     ///
@@ -212,7 +212,7 @@ impl RecordStream {
     fn whole(&mut self, start: usize, end: usize) -> Next
         requires start { start ≡ start_of self.old }
         requires value { IsValue strict self.old.held start end }
-        ensures { IsNext self.old self.new result }
+        ensures { IsNextRecord self.old self.new result }
     {
         if is_settled(self.held(), self.is_ended, start, end) {
             self.next = end;
@@ -231,7 +231,7 @@ impl RecordStream {
     fn cut(&mut self) -> Next
         requires none { (j : ℕ) → ¬ IsValue strict self.old.held (start_of self.old) j }
         requires goes_on { MayGoOnFrom strict self.old.held self.old.next }
-        ensures { IsNext self.old self.new result }
+        ensures { IsNextRecord self.old self.new result }
     {
         if !self.is_ended {
             return Next::NeedsMore;
@@ -248,7 +248,7 @@ impl RecordStream {
         requires within { stop.place < length self.old.held }
         requires wrong { IsWrong self.old stop }
         requires never { IsNeverOne self.old stop }
-        ensures { IsNext self.old self.new result }
+        ensures { IsNextRecord self.old self.new result }
     {
         let place = self.before + stop.place;
         self.pass_line(stop.place);
@@ -288,7 +288,7 @@ impl RecordStream {
     /// What is dropped as `Wrong` would be no record however the stream went on. On an error memory ran
     /// out, and nothing has changed.
     pub fn next(&mut self, alloc: Global) -> Result<Next, AllocError>
-        ensures ok { IfOk result (IsNext self.old self.new) }
+        ensures ok { IfOk result (IsNextRecord self.old self.new) }
         ensures err { OnErr result (self.new ≡ self.old) }
     {
         match self.find(alloc) {

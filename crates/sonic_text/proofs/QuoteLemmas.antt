@@ -1,14 +1,16 @@
 -- The table of escapes is held against what each byte is quoted as, by computing.
-use Rattle.std.proofs.Common.{◌≡◌, ℕ, zero, suc, ◌+◌, ◌-◌, ◌++◌, drop, ap, ◌<◌, ◌≤◌, Bool, true, false, ◌&&◌, ◌||◌, nat_eq, nat_le, List, [], ◌∷◌, take, length, get_or, ◌*◌, arith, inl, inr, refl}
-use Rattle.std.proofs.lemmas.Bool.{cases_eq, cases_Bool, and_parts, eqb-true, leb-true}
+use Rattle.std.proofs.Common.{◌≡◌, ◌∙◌, Some, ℕ, zero, suc, ◌+◌, ◌-◌, ◌++◌, drop, ap, ◌<◌, ◌≤◌, Bool, true, false, ◌&&◌, nat_eq, List, [], ◌∷◌, take, length, get_or, ◌*◌, arith, inl, inr, refl}
+use Rattle.std.proofs.lemmas.Bool.{cases_eq, cases_Bool, and_parts, eqb-true}
 use Rattle.std.proofs.lemmas.Bool.Decides.{nat_tests}
 use Rattle.std.proofs.lemmas.Grind.{flat_map-append}
 use Rattle.std.proofs.lemmas.List.{length-append, append-nil, append_assoc, drop-drop}
-use Rattle.std.proofs.Math.Seq.{take-add, take-suc}
+use Rattle.std.proofs.lemmas.Option.{slice_get-get_or}
+use Rattle.std.proofs.Math.Seq.{take-add, take-suc, take-append_seam}
+use Rattle.std.specs.Prelude.{replicate, slice_get}
 use Rattle.std.specs.List.{prefix_len, slice_range}
 use Rattle.sonic_text.specs.Places.{byte}
 use Rattle.sonic_blocks.specs.Runs.{is_plain}
-use Rattle.sonic_text.specs.Quoting.{quoted_byte, digit, quoted_bytes}
+use Rattle.sonic_text.specs.Quoting.{quoted_byte, digit, quoted_bytes, quote_entry}
 use Rattle.sonic_text.specs.declared.quote.TheConstants.{QUOTE_TAB}
 
 -- two lists of numbers are the same
@@ -27,38 +29,49 @@ same_equal (x ∷ xs) (y ∷ ys) e =
     let both = and_parts (nat_eq x y) (same xs ys) e in
     rw (eqb-true x y both.0, same_equal xs ys both.1) refl
 
--- the entry of a byte is what it is quoted as, of six bytes at most
-abbrev entry_right : ℕ × List ℕ → ℕ → Bool
-entry_right entry b = same (take entry.0 entry.1) (quoted_byte b) && nat_le entry.0 6
+-- the entry is the byte's
+abbrev entry_is : ℕ × List ℕ → ℕ → Bool
+entry_is entry b = nat_eq entry.0 (quote_entry b).0 && same entry.1 (quote_entry b).1
 
-right_at : (entry : ℕ × List ℕ) (b : ℕ) → (is_plain b || entry_right entry b) ≡ true → is_plain b ≡ false
-    → (take entry.0 entry.1 ≡ quoted_byte b) × (entry.0 ≤ 6)
-right_at entry b h plain =
-    let right : entry_right entry b ≡ true = rw plain at h in
-    let both = and_parts (same (take entry.0 entry.1) (quoted_byte b)) (nat_le entry.0 6) right in
-    (same_equal _ _ both.0, leb-true entry.0 6 both.1)
+-- so is each below n
+unfoldable pub entries_are : (ℕ → ℕ × List ℕ) → ℕ → Bool
+entries_are f zero = true
+entries_are f (suc n) = entry_is (f n) n && entries_are f n
 
--- so is each below n that isn't plain
-unfoldable pub entries_right : (ℕ → ℕ × List ℕ) → ℕ → Bool
-entries_right f zero = true
-entries_right f (suc n) = (is_plain n || entry_right (f n) n) && entries_right f n
+-- two pairs are the same whose parts are
+pair_equal : (p q : ℕ × List ℕ) → p.0 ≡ q.0 → p.1 ≡ q.1 → p ≡ q
+pair_equal (a, xs) (b, ys) e f = cc (e, f)
 
-entry_at : (f : ℕ → ℕ × List ℕ) (n : ℕ) → entries_right f n ≡ true → (b : ℕ) → b < n → is_plain b ≡ false → (take (f b).0 (f b).1 ≡ quoted_byte b) × ((f b).0 ≤ 6)
-unfolding entries_right
-entry_at f zero h b l plain = absurd (omega arith)
-entry_at f (suc n) h b l plain =
-    let both = and_parts (is_plain n || entry_right (f n) n) (entries_right f n) h in
-    elim (cases_eq b n) [ inl is ↦ rw is (right_at (f n) n both.0 (rw is at plain)) | inr other ↦ entry_at f n both.1 b (omega arith) plain ]
+-- the entry that passes is the one that the byte has
+entry_equal : (entry : ℕ × List ℕ) (b : ℕ) → entry_is entry b ≡ true → entry ≡ quote_entry b
+entry_equal entry b h =
+    let both = and_parts (nat_eq entry.0 (quote_entry b).0) (same entry.1 (quote_entry b).1) h in
+    pair_equal entry (quote_entry b) (eqb-true entry.0 (quote_entry b).0 both.0) (same_equal entry.1 (quote_entry b).1 both.1)
 
--- so the table has for each byte that isn't plain what it is quoted as
-pub table_right : (b : ℕ) → b < 256 → is_plain b ≡ false → (take (get_or QUOTE_TAB b (0, [])).0 (get_or QUOTE_TAB b (0, [])).1 ≡ quoted_byte b) × ((get_or QUOTE_TAB b (0, [])).0 ≤ 6)
-unfolding entries_right same quoted_byte digit
-table_right b l plain = entry_at (λ k. get_or QUOTE_TAB k (0, [])) 256 refl b l plain
+entry_at : (f : ℕ → ℕ × List ℕ) (n : ℕ) → entries_are f n ≡ true → (b : ℕ) → b < n → f b ≡ quote_entry b
+unfolding entries_are
+entry_at f zero h b l = absurd (omega arith)
+entry_at f (suc n) h b l =
+    let both = and_parts (entry_is (f n) n) (entries_are f n) h in
+    elim (cases_eq b n) [ inl is ↦ rw is (entry_equal (f n) n both.0) | inr other ↦ entry_at f n both.1 b (omega arith) ]
+
+-- so the table has the entry of each byte
+pub table_entry : (b : ℕ) → b < 256 → get_or QUOTE_TAB b (0, []) ≡ quote_entry b
+unfolding entries_are same quote_entry quoted_byte digit
+table_entry b l = entry_at (λ k. get_or QUOTE_TAB k (0, [])) 256 refl b l
+
+pub entries_stand : (b : ℕ) → b < 256 → slice_get QUOTE_TAB b ≡ Some (quote_entry b)
+entries_stand b l = slice_get-get_or QUOTE_TAB b (0, []) l ∙ ap Some (table_entry b l)
 
 -- an escape has six bytes at most
 pub quoted_short : (b : ℕ) → length (quoted_byte b) ≤ 6
 unfolding quoted_byte
 quoted_short b = grind (arith, nat_tests)
+
+-- so a byte that isn't plain has what it is quoted as, of six bytes at most
+pub table_right : (b : ℕ) → b < 256 → is_plain b ≡ false → (take (get_or QUOTE_TAB b (0, [])).0 (get_or QUOTE_TAB b (0, [])).1 ≡ quoted_byte b) × ((get_or QUOTE_TAB b (0, [])).0 ≤ 6)
+unfolding quote_entry
+table_right b l plain = rw (table_entry b l, plain) (take-append_seam (quoted_byte b) (replicate (8 - length (quoted_byte b)) 0), quoted_short b)
 
 -- so the bytes between the quotes are at most six for each byte
 pub contents_short : (b : List ℕ) → length (quoted_bytes b) ≤ 6 * length b

@@ -7,7 +7,7 @@ use Rattle.sonic_text.specs.declared.stop.Stop.{Stop}
 use Rattle.sonic_text.specs.Places.{byte, bad}
 use Rattle.sonic_blocks.specs.Bits.{is_set, IsNextBit}
 use Rattle.sonic_blocks.specs.Runs.{is_plain}
-use Rattle.sonic_text.specs.Reading.{AreSpecial, IsInString, EndsString}
+use Rattle.sonic_text.specs.Internal.Reading.{AreSpecial, IsInString, EndsString}
 use Rattle.sonic_text.specs.Strings.{AreChars, IsChar, IsEscapeFault, IsEscapedString, IsStringFault, IsUnescaped}
 use Rattle.sonic_text.proofs.Places.{byte_within}
 use Rattle.sonic_text.proofs.Strings.{chars_later}

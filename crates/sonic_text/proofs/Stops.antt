@@ -15,8 +15,7 @@ use Rattle.sonic_text.specs.Strings.{IsStringFault, escape_fault}
 use Rattle.sonic_text.specs.Strings.IsStringFault.{control_char, in_escape}
 use Rattle.sonic_text.specs.Faults.{IsKeyFault, IsFault, code_after_item}
 use Rattle.sonic_text.specs.Faults.IsKeyFault.{no_quote, key_fault, no_colon}
-use Rattle.sonic_text.specs.Faults.IsFault.{no_value, null_fault, true_fault, false_fault, number_fault, string_fault}
-use Rattle.sonic_text.specs.Faults.IsFault.{in_key, in_value, after_item}
+use Rattle.sonic_text.specs.Faults.IsFault.{no_value, null_fault, true_fault, false_fault, number_fault, string_fault, in_key, in_value, after_item}
 use Rattle.sonic_text.proofs.Numbers.{int_longer, after_minus_later, after_sign_later, fraction_later}
 use Rattle.sonic_text.proofs.Places.{after_space_later}
 use Rattle.sonic_text.proofs.Strings.{chars_later, string_longer}

@@ -1,14 +1,17 @@
 -- A value that is somewhere means one tree.
-use Rattle.std.proofs.Common.{◌≡◌, ◌≢◌, ◌∙◌, ℕ, ◌+◌, arith, refl, sym, ap, codes}
+use Rattle.std.proofs.Common.{◌≡◌, ◌≢◌, ◌⊎◌, inl, inr, ◌∙◌, ℕ, ◌+◌, arith, refl, sym, ap, codes}
+use Rattle.std.proofs.lemmas.Bool.Decides.{nat_tests}
 use Rattle.std.specs.Prelude.{true, false, List, Option, slice_range}
+use Rattle.sonic_error.specs.declared.json_type.JsonType.TheVariants.{Number}
 use Rattle.sonic_text.specs.declared.kind.Kind.{Kind}
-use Rattle.sonic_text.specs.Places.{byte, after_space}
+use Rattle.sonic_text.specs.declared.kind.Kind.TheVariants.{Array, Object}
+use Rattle.sonic_text.specs.Places.{byte, after_space, IsDigit}
 use Rattle.sonic_text.specs.Numbers.{IsNumber}
 use Rattle.sonic_text.specs.Strings.{IsString, strict}
-use Rattle.sonic_text.specs.Values.{closing, ItemHead, IsValue, ItemsFit}
+use Rattle.sonic_text.specs.Values.{opening, closing, type_of, type_at, ItemHead, IsValue, ItemsFit}
 use Rattle.sonic_text.specs.Values.IsValue.{null_literal, true_literal, false_literal, number, string, empty, filled}
 use Rattle.sonic_text.specs.Values.ItemsFit.{first_item, next_item}
-use Rattle.sonic_text.specs.Trees.{Tree, null, truth, numeral, text, container, Items, no_item, Means, ItemsMean}
+use Rattle.sonic_text.specs.Trees.{Tree, null, truth, numeral, text, container, Items, no_item, Means, ItemsMean, type_of_tree}
 use Rattle.sonic_text.specs.Trees.Means.{means_null, means_true, means_false, means_number, means_string, means_empty, means_filled}
 use Rattle.sonic_text.specs.Trees.ItemsMean.{last_item, more_items}
 use Rattle.sonic_text.proofs.FirstByteLemmas.{Sort, none, a_null, a_true, a_false, a_number, a_string, a_container, Begins, begins_one}
@@ -138,3 +141,23 @@ mutual
       let e = same_end z y x u r in
       let k = items_mean_one (rw (q, p, e) refl) is us in
       cc (o.1, s, k)
+
+-- a minus sign or a digit begins a number
+number_type : (b : ℕ) → (b ≡ 45) ⊎ IsDigit b → type_of b ≡ Number
+number_type b (inl e) = rw e refl
+number_type b (inr d) = grind (arith, nat_tests)
+
+-- and a bracket a container
+container_type : (kind : Kind) (xs : Items) (b : ℕ) → b ≡ opening kind → type_of b ≡ type_of_tree (container kind xs)
+container_type Array xs b e = rw e refl
+container_type Object xs b e = rw e refl
+
+-- the first byte says the type of what a value means
+pub type_means : {t : List ℕ} {i j : ℕ} {x : Tree} → Means t i j x → type_at t i ≡ type_of_tree x
+type_means {t} {i} (means_null h) = rw (first_letter (codes "null") t i (omega arith) h) refl
+type_means {t} {i} (means_true h) = rw (first_letter (codes "true") t i (omega arith) h) refl
+type_means {t} {i} (means_false h) = rw (first_letter (codes "false") t i (omega arith) h) refl
+type_means {t} {i} (means_number h is) = number_type (byte t i) (number_begins h)
+type_means (means_string h) = rw h.opens refl
+type_means {t} {i} (means_empty {kind} b c q) = container_type kind no_item (byte t i) b
+type_means {t} {i} (means_filled {kind} {xs = xs} b q d is) = container_type kind xs (byte t i) b

@@ -6,14 +6,13 @@ use Rattle.std.specs.Prelude.{Option}
 use Rattle.std.specs.Char.{is_ascii_digit}
 use Rattle.sonic_text.specs.declared.kind.Kind.{Kind}
 use Rattle.sonic_text.specs.Places.{byte, is_space, after_space, digits_end}
-use Rattle.sonic_text.specs.Numbers.{after_minus, after_sign, IsInt, IsNumber}
+use Rattle.sonic_text.specs.Numbers.{after_minus, after_sign, IsInt, IsNumber, IsE}
 use Rattle.sonic_text.specs.Strings.{IsEscape, IsUnicodeChar, IsChar, AreChars}
 use Rattle.sonic_text.specs.Strings.IsUnicodeChar.{scalar, pair, lone_high, lone_low}
 use Rattle.sonic_text.specs.Strings.IsChar.{unescaped, short_escape, unicode_escape}
 use Rattle.sonic_text.specs.Strings.AreChars.{no_char, one_more}
 use Rattle.sonic_text.specs.Values.{IsValue, IsKey, ItemHead, no_head, key_head, ItemsFit, first_item, next_item}
 use Rattle.sonic_text.specs.Values.IsValue.{null_literal, true_literal, false_literal, number, string, empty, filled}
-use Rattle.sonic_text.specs.Numbers.{IsE}
 use Rattle.sonic_text.proofs.EscapeFaultLemmas.{escaped_letter}
 use Rattle.sonic_text.proofs.HexDigitLemmas.{hex4_within}
 use Rattle.sonic_text.proofs.Numbers.{Tail}

@@ -1,13 +1,13 @@
 pub mod Brackets
 pub mod Documents
 pub mod Faults
+pub mod Internal
 pub mod Laws
 pub mod Literals
 pub mod Numbers
 pub mod Paths
 pub mod Places
 pub mod Quoting
-pub mod Reading
 pub mod Strings
 pub mod TreePaths
 pub mod Trees

@@ -1,6 +1,7 @@
 -- Strings as they are written (RFC 8259, section 7).
-use Rattle.std.specs.Prelude.{ℕ, ◌+◌, ◌/◌, ◌%◌, ◌==◌, ◌||◌, nat_lt, if◌then◌else◌, List, [], ◌∷◌, ◌++◌}
+use Rattle.std.specs.Prelude.{ℕ, ◌+◌, ◌-◌, ◌/◌, ◌%◌, ◌==◌, ◌||◌, nat_lt, if◌then◌else◌, List, [], ◌∷◌, ◌++◌, length, replicate}
 use Rattle.std.specs.List.{flat_map}
+use Rattle.sonic_blocks.specs.Runs.{is_plain}
 
 -- a hexadecimal digit, in lower case
 unfoldable pub digit : ℕ → ℕ
@@ -25,3 +26,9 @@ quoted_bytes b = flat_map quoted_byte b
 -- a quote, these, and a quote
 abbrev pub quoted : List ℕ → List ℕ
 quoted b = 34 ∷ quoted_bytes b ++ 34 ∷ []
+
+-- the entry of a byte in a table of escapes: of how many bytes its escape is and which, with zeros up to eight, and no bytes where it stands as itself
+unfoldable pub quote_entry : ℕ → ℕ × List ℕ
+quote_entry b =
+    if is_plain b then (0, replicate 8 0)
+    else (length (quoted_byte b), quoted_byte b ++ replicate (8 - length (quoted_byte b)) 0)

@@ -1,6 +1,9 @@
 -- What a value means (RFC 8259, section 1).
 use Rattle.std.specs.Prelude.{◌≡◌, ◌≢◌, ℕ, ◌+◌, Bool, true, false, List, Option, codes, slice_range}
+use Rattle.sonic_error.specs.declared.json_type.JsonType.{JsonType}
+use Rattle.sonic_error.specs.declared.json_type.JsonType.TheVariants.{Null, Boolean, Number, String, Object as AnObject, Array as AnArray}
 use Rattle.sonic_text.specs.declared.kind.Kind.{Kind}
+use Rattle.sonic_text.specs.declared.kind.Kind.TheVariants.{Array, Object}
 use Rattle.sonic_text.specs.Places.{byte, after_space}
 use Rattle.sonic_text.specs.Literals.{IsLiteral}
 use Rattle.sonic_text.specs.Numbers.{IsNumber}
@@ -40,3 +43,12 @@ mutual
         → byte t (after_space t e) ≡ closing kind → j ≡ after_space t e + 1 → ItemsMean t kind h j (item l x no_item)
     more_items : {kind : Kind} {h v e g j : ℕ} {l : Option (List ℕ)} {x : Tree} {xs : Items} → ItemHead strict t kind h v l → Means t v e x
         → byte t (after_space t e) ≡ 44 → g ≡ after_space t (after_space t e + 1) → ItemsMean t kind g j xs → ItemsMean t kind h j (item l x xs)
+
+-- the type of a tree
+abbrev pub type_of_tree : Tree → JsonType
+type_of_tree null = Null
+type_of_tree (truth b) = Boolean
+type_of_tree (numeral b) = Number
+type_of_tree (text b) = String
+type_of_tree (container Array xs) = AnArray
+type_of_tree (container Object xs) = AnObject

@@ -7,8 +7,8 @@ ghost use Rattle.sonic_text.specs.Laws.{HasOneOutcome, IsFinal, MayGoOn};
 ghost use Rattle.sonic_text.specs.Literals.{IsLiteral, IsLiteralFault};
 ghost use Rattle.sonic_text.specs.Numbers.{IsNumber, IsNumberFault};
 ghost use Rattle.sonic_text.specs.Strings.{strict};
-ghost use Rattle.sonic_text.specs.Trees.{Tree, Means};
-ghost use Rattle.sonic_text.specs.Values.{IsValue};
+ghost use Rattle.sonic_text.specs.Trees.{Tree, Means, type_of_tree};
+ghost use Rattle.sonic_text.specs.Values.{type_at, IsValue};
 
 /// A law of the numbers, for every text and every place: either a number is there and ends at
 /// exactly one place, or none does for exactly one reason, and never both.
@@ -46,6 +46,14 @@ pub fn value_means_one_tree()
     ensures means { (t : List ℕ) (i j : ℕ) → IsValue strict t i j ↔ ((x : Tree) × Means t i j x) }
     ensures one_tree { (t : List ℕ) (i j k : ℕ) (x y : Tree) → Means t i j x → Means t i k y
         → x ≡ y }
+{}
+
+/// The law of types, for every text: where a value means a tree, the type that its first byte says is
+/// the type of the tree. So `-1` begins with a minus sign and means a number.
+///
+/// The type that an error names is told by the first byte alone ([`type_of`](crate::type_of)).
+pub fn first_byte_says_the_type()
+    ensures { (t : List ℕ) (i j : ℕ) (x : Tree) → Means t i j x → type_at t i ≡ type_of_tree x }
 {}
 
 /// The law of the honest end, for both ways of reading and every text that no value begins.

@@ -41,8 +41,8 @@ pub use hex::hex4;
 pub use key::{compare_key, same_key};
 pub use kind::Kind;
 pub use law::{
-    end_is_honest, literal_has_one_outcome, number_has_one_outcome, value_has_one_outcome,
-    value_means_one_tree,
+    end_is_honest, first_byte_says_the_type, literal_has_one_outcome, number_has_one_outcome,
+    value_has_one_outcome, value_means_one_tree,
 };
 pub use literal::{literal_end, skip_literal};
 pub use number::{number_end, skip_number, whole_i64, whole_u64};
@@ -52,6 +52,9 @@ pub use scan::{byte_at, skip_digits, skip_space, stop_at, type_of};
 pub use space::is_whitespace;
 pub use stop::Stop;
 pub use string::{StringEnd, skip_string, string_end};
-pub use string_law::{quoted_text_is_a_string, string_denotes_one_text, string_has_one_outcome};
+pub use string_law::{
+    quoted_text_is_a_string, string_denotes_one_text, string_has_one_outcome,
+    tables_have_the_escapes,
+};
 pub use unescape::{ESCAPED_TAB, unescape_into};
 pub use utf8::codepoint_to_utf8;

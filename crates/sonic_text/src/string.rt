@@ -2,7 +2,7 @@ ghost use Rattle.std.specs.Prelude.{◌≡◌, ◌+◌, ◌<◌, ◌≤◌, ◌�
 ghost use Rattle.sonic_error.specs.declared.code.ErrorCode.TheVariants.{InvalidUnicodeCodePoint};
 ghost use Rattle.sonic_text.specs.declared.stop.Stop.{Stop};
 ghost use Rattle.sonic_text.specs.Places.{byte, bad};
-ghost use Rattle.sonic_text.specs.Reading.{AreSpecial, IsInString, EndsString, IsPassed, IsLater};
+ghost use Rattle.sonic_text.specs.Internal.Reading.{AreSpecial, IsInString, EndsString, IsReadSoFar, CharsLeadOn};
 ghost use Rattle.sonic_text.specs.Strings.{escaped, hex_digit, is_low_byte, IsHex4, IsLow, IsChar, IsEscapeFault, IsString, IsEscapedString, IsStringFault, IsUnescaped};
 
 use crate::hex::{digit_of, hex4_at};
@@ -200,8 +200,8 @@ fn special_at(text: &[u8], place: usize) -> Option<u64>
 #[inline(always)]
 fn pass_block(text: &[u8], base: usize, lossy: bool) -> Passed
     requires { base ≤ length text.now }
-    ensures later { IsLater text.now base result }
-    ensures passed { (i : ℕ) → IsInString lossy text.now i base → IsPassed lossy text.now i result }
+    ensures later { CharsLeadOn text.now base result }
+    ensures passed { (i : ℕ) → IsInString lossy text.now i base → IsReadSoFar lossy text.now i result }
 {
     let Some(special) = special_at(text, base) else {
         return Passed::Left(base);

@@ -1,8 +1,11 @@
-ghost use Rattle.std.specs.Prelude.{◌≡◌, ◌+◌, ◌*◌, ◌≤◌, ◌++◌, ℕ, Bool, List, length};
+ghost use Rattle.std.specs.Prelude.{◌≡◌, ◌+◌, ◌*◌, ◌<◌, ◌≤◌, ◌++◌, ℕ, Bool, List, length, slice_get, unwrap_or};
 ghost use Rattle.sonic_text.specs.Places.{byte};
-ghost use Rattle.sonic_text.specs.Quoting.{quoted};
-ghost use Rattle.sonic_text.specs.Strings.{strict, IsString, IsStringFault};
+ghost use Rattle.sonic_text.specs.Quoting.{quoted, quote_entry};
+ghost use Rattle.sonic_text.specs.Strings.{strict, escaped, IsString, IsStringFault};
 ghost use Rattle.sonic_text.specs.Laws.{HasOneOutcome};
+
+use crate::quote::QUOTE_TAB;
+use crate::unescape::ESCAPED_TAB;
 
 /// The law of strings (RFC 8259, section 7), for both ways of reading, every text and every quote
 /// in it: a string ends at exactly one place, or there is none for exactly one reason, and never
@@ -30,4 +33,16 @@ pub fn quoted_text_is_a_string()
     ensures string { (front b back : List ℕ)
         → IsString strict (front ++ quoted b ++ back) (length front) (length front + length (quoted b)) b }
     ensures short { (b : List ℕ) → length (quoted b) ≤ 6 * length b + 2 }
+{}
+
+/// The law of the two tables, at each byte: [`ESCAPED_TAB`] has what it denotes after a backslash
+/// (RFC 8259, section 7), or 0 where that is nothing, and [`QUOTE_TAB`] the escape that
+/// [`format_string`] writes of it, or none.
+///
+/// So at `n` the first has a line feed, and at a line feed the second has 2 and `\n`.
+///
+/// [`format_string`]: crate::format_string
+pub fn tables_have_the_escapes()
+    ensures escaped { (b : ℕ) → b < 256 → slice_get ESCAPED_TAB b ≡ Some (unwrap_or (escaped b) 0) }
+    ensures quoted { (b : ℕ) → b < 256 → slice_get QUOTE_TAB b ≡ Some (quote_entry b) }
 {}

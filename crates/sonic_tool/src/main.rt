@@ -1,32 +1,49 @@
 //! A command that reads a JSON text from standard input and writes its report to standard output.
 #![tactic(auto)]
 
-use sonic_io::{InputSource, OutputSink};
+ghost use Rattle.std.specs.Prelude.{◌≡◌};
+ghost use Rattle.std.specs.Process.{exit_status};
+ghost use Rattle.sonic_reports.specs.Sessions.{outside_of};
+ghost use Rattle.sonic_tool.specs.Endings.{number_of_status, IsProgram};
+
+// The words of the command line.
+mod words;
+
+use crate::words::words_of;
+use sonic_io::{InputSource, OutputSink, Sink, Source};
 use sonic_reports::{Status, run};
-use std::io::ErrorKind;
+use std::alloc::Global;
+use std::env::Args;
 use std::process::ExitCode;
 use std::{env, io};
 
-// The words of the command line. A word that isn't text makes the line one word that is no command.
-fn words(rt: &HostRuntime) -> io::Result<Vec<String>> {
-    let alloc = rt.alloc();
-    match env::args(rt) {
-        Ok(all) => all.skip(1).collect(alloc).map_err(io::Error::from),
-        Err(error) if error.kind() == ErrorKind::InvalidData => {
-            let mut words = Vec::new(alloc);
-            words.push(String::new(alloc))?;
-            Ok(words)
-        }
-        Err(error) => Err(error),
-    }
+// What the process ends with.
+fn ending(status: Status) -> ExitCode
+    ensures { exit_status result ≡ number_of_status status }
+{
+    ExitCode::from(status as u8)
+}
+
+// Runs the words of the arguments, over a source and a sink.
+fn program<S: Source, K: Sink>(
+    alloc: Global,
+    arguments: io::Result<Args>,
+    source: &mut S,
+    sink: &mut K,
+) -> ExitCode
+    ensures { IsProgram arguments
+        (outside_of (S.left source.old) (S.faults source.old) (K.written sink.old) (K.sent sink.old) (K.faults sink.old))
+        (outside_of (S.left source.new) (S.faults source.new) (K.written sink.new) (K.sent sink.new) (K.faults sink.new))
+        (exit_status result) }
+{
+    let Ok(words) = words_of(alloc, arguments) else {
+        return ending(Status::NoMemory);
+    };
+    ending(run(alloc, &words, source, sink))
 }
 
 fn main(rt: HostRuntime) -> ExitCode {
-    let Ok(words) = words(&rt) else {
-        return ExitCode::from(Status::NoMemory as u8);
-    };
     let mut source = InputSource::new(rt.stdin());
     let mut sink = OutputSink::new(rt.stdout());
-    let status = run(rt.alloc(), &words, &mut source, &mut sink);
-    ExitCode::from(status as u8)
+    program(rt.alloc(), env::args(&rt), &mut source, &mut sink)
 }

@@ -7,9 +7,7 @@ use Rattle.std.proofs.lemmas.Slice.{between_from_start}
 use Rattle.std.specs.Str.{IsUtf8}
 use Rattle.sonic_lazy.proofs.RawNumberLemmas.{whole_utf8}
 use Rattle.sonic_owned.proofs.ValueLemmas.{sound_valid}
-use Rattle.sonic_owned.specs.Forms.{Form, raw, level, Members, no_member, member, members_text, text as form_text}
-use Rattle.sonic_owned.specs.Forms.{FormMeans, raw_means, level_means, MembersMean, no_member_means, member_means}
-use Rattle.sonic_owned.specs.Forms.{IsSound, raw_sound, level_sound, AreSound, none_sound, item_sound}
+use Rattle.sonic_owned.specs.Forms.{Form, raw, level, Members, no_member, member, members_text, text as form_text, FormMeans, raw_means, level_means, MembersMean, no_member_means, member_means, IsSound, raw_sound, level_sound, AreSound, none_sound, item_sound}
 use Rattle.sonic_text.proofs.TreeLemmas.{value_of}
 use Rattle.sonic_text.proofs.WrittenLemmas.{string_stands}
 use Rattle.sonic_text.specs.Literals.{IsLiteral}

@@ -19,8 +19,8 @@ use Rattle.sonic_text.specs.declared.stop.Stop.{Stop}
 use Rattle.sonic_value.proofs.KeepingLemmas.{kept_same}
 use Rattle.sonic_value.proofs.ReaderLemmas.{value_read}
 use Rattle.sonic_value.specs.Depths.{IsShallow}
-use Rattle.sonic_value.specs.Keeping.{kept}
-use Rattle.sonic_value.specs.Readers.{Source, IsValueRead, IsUnreadValue, too_deep as a_too_deep, at_fault, IsDocumentRead}
+use Rattle.sonic_value.specs.Internal.Keeping.{kept}
+use Rattle.sonic_value.specs.Internal.Readers.{Source, IsValueRead, IsUnreadValue, too_deep as a_too_deep, at_fault, IsDocumentRead}
 use Rattle.sonic_value.specs.Reading.{IsRead, IsUnread, too_deep, invalid, IsUnreadError, out_of_memory, unread}
 
 -- a value that isn't read is so within the text

@@ -18,9 +18,9 @@ use Rattle.sonic_text.specs.declared.stop.Stop.{Stop}
 use Rattle.sonic_value.proofs.DepthLemmas.{inside-later, inside_before_end}
 use Rattle.sonic_value.proofs.FillingLemmas.{object_fill}
 use Rattle.sonic_value.proofs.SchemaLemmas.{filled_fit, deep_nested, replaced_shallow, replaced_too_deep, filled_one, rest_fills, deep_member}
-use Rattle.sonic_value.specs.Fillers.{IsUnfillable, is_too_deep, has_fault, IsMemberFilled, IsMemberStopped, member_too_deep, member_fault, AreMembersFilled}
+use Rattle.sonic_value.specs.Internal.Fillers.{IsUnfillable, is_too_deep, has_fault, IsMemberFilled, IsMemberStopped, member_too_deep, member_fault, AreMembersFilled}
 use Rattle.sonic_value.specs.Filling.{last_of}
-use Rattle.sonic_value.specs.Readers.{IsUnreadValue, too_deep, at_fault}
+use Rattle.sonic_value.specs.Internal.Readers.{IsUnreadValue, too_deep, at_fault}
 use Rattle.sonic_value.specs.Schemas.{HasMembers, AreFilled, none_filled, one_more_filled, meets_member, IsReplaced, IsDeepIn, IsTooDeepIn, IsShallowIn, IsFilledBy}
 
 -- what isn't read takes no schema's place

@@ -15,7 +15,7 @@ use Rattle.sonic_text.specs.Trees.Means.{means_null, means_true, means_false, me
 use Rattle.sonic_text.specs.Trees.Tree.{null, truth, numeral, text, container}
 use Rattle.sonic_text.specs.declared.kind.Kind.TheVariants.{Array, Object}
 use Rattle.sonic_value.proofs.Folds.{tree_null, tree_bool, tree_number, tree_string, tree_array}
-use Rattle.sonic_value.specs.Fillers.{items_of, IsLastWith}
+use Rattle.sonic_value.specs.Internal.Fillers.{items_of, IsLastWith}
 use Rattle.sonic_value.specs.Filling.{has_key, last_of, change_last, fill, fill_members}
 use Rattle.sonic_value.specs.Schemas.{IsObject, HasMembers, IsReplaced, no_object_met, no_members}
 use Rattle.sonic_value.specs.Views.{tree}

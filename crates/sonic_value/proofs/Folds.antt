@@ -8,7 +8,7 @@ use Rattle.sonic_text.specs.Trees.Items.{no_item, item}
 use Rattle.sonic_text.specs.Trees.Tree.{null, truth, numeral, text, container}
 use Rattle.sonic_text.specs.Trees.{Tree}
 use Rattle.sonic_text.specs.declared.kind.Kind.TheVariants.{Array as KArray, Object as KObject}
-use Rattle.sonic_value.specs.Readers.{items_before}
+use Rattle.sonic_value.specs.Internal.Readers.{items_before}
 use Rattle.sonic_value.specs.Views.{tree, value_step, pair_of, key_and_tree, elements_of, members_of}
 use Rattle.sonic_value.specs.declared.value.Value.{Value, Null, Bool as ABool, Number, String as AString, Array, Object, fold-roll-Value}
 use Rattle.sonic_value.specs.declared.value.Value.TheOpen.{Value-F}

@@ -9,8 +9,8 @@ use Rattle.sonic_text.specs.declared.kind.Kind.{Kind}
 use Rattle.sonic_text.specs.declared.kind.Kind.TheVariants.{Array as KArray, Object as KObject}
 use Rattle.sonic_value.proofs.Folds.{tree_array, tree_object}
 use Rattle.sonic_value.proofs.LevelLemmas.{value_tells}
-use Rattle.sonic_value.specs.Keys.{seen}
-use Rattle.sonic_value.specs.Views.{tree, elements_of, members_of, level_array, level_object, array_in, object_in, IsLevelOf, an_array, an_object, no_level}
+use Rattle.sonic_value.specs.Internal.Keys.{seen}
+use Rattle.sonic_value.specs.Views.{tree, elements_of, members_of, level_array, level_object, array_in, object_in, IsContainerOf, an_array, an_object, no_level}
 use Rattle.sonic_value.specs.declared.value.Value.TheOpen.{Value-F}
 use Rattle.sonic_value.specs.declared.value.Value.TheViews.{out-roll-Value}
 use Rattle.sonic_value.specs.declared.value.Value.{Value, Array, Object, roll-Value, ind-Value}
@@ -41,13 +41,13 @@ pub object_is : (v : Value) (ms : Vec (String Global × Value) Global) → objec
 object_is = ind-Value (λ v. (ms : Vec (String Global × Value) Global) → object_in v ≡ Some ms → v ≡ Object ms) (λ x y is ms. rw out-roll-Value (level_object_is x ms))
 
 -- and one that holds none is of another kind
-no_array : {x : Tree} {o : Option (Vec Value Global)} {p : Option (Vec (String Global × Value) Global)} → IsLevelOf x o p → o ≡ None → (xs : Items)
+no_array : {x : Tree} {o : Option (Vec Value Global)} {p : Option (Vec (String Global × Value) Global)} → IsContainerOf x o p → o ≡ None → (xs : Items)
     → x ≢ container KArray xs
 no_array (an_array e) none xs is = absurd cc
 no_array (an_object e) none xs is = let clash = sym e ∙ is in cc
 no_array (no_level other) none xs is = other KArray xs is
 
-no_object : {x : Tree} {o : Option (Vec Value Global)} {p : Option (Vec (String Global × Value) Global)} → IsLevelOf x o p → p ≡ None → (xs : Items)
+no_object : {x : Tree} {o : Option (Vec Value Global)} {p : Option (Vec (String Global × Value) Global)} → IsContainerOf x o p → p ≡ None → (xs : Items)
     → x ≢ container KObject xs
 no_object (an_object e) none xs is = absurd cc
 no_object (an_array e) none xs is = let clash = sym e ∙ is in cc

@@ -19,7 +19,8 @@ use Rattle.sonic_text.specs.Trees.Tree.{null, container}
 use Rattle.sonic_text.specs.Trees.{Tree, Items}
 use Rattle.sonic_text.specs.declared.kind.Kind.TheVariants.{Array as KArray, Object as KObject}
 use Rattle.sonic_value.proofs.Folds.{tree_array, tree_object}
-use Rattle.sonic_value.specs.Indexing.{with_node, IsInserted, IsUnindexed, out_of_memory}
+use Rattle.sonic_value.specs.Indexing.{with_node, IsUnindexed, out_of_memory}
+use Rattle.sonic_value.specs.Internal.Inserted.{IsInserted}
 use Rattle.sonic_value.specs.Views.{tree, value_step, members_of, level_object, object_in}
 use Rattle.sonic_value.specs.declared.value.Value.TheOpen.{Value-F}
 use Rattle.sonic_value.specs.declared.value.Value.TheViews.{out-roll-Value}

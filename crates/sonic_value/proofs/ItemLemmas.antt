@@ -17,7 +17,7 @@ use Rattle.sonic_owned.specs.TreePuts.{change_at, change_of}
 use Rattle.sonic_text.specs.TreePaths.{element_at, member_of}
 use Rattle.sonic_text.specs.Trees.Items.{item}
 use Rattle.sonic_text.specs.Trees.{Tree}
-use Rattle.sonic_value.specs.Keys.{seen, keys, IsFirst}
+use Rattle.sonic_value.specs.Internal.Keys.{seen, keys, IsFirstKey}
 use Rattle.sonic_value.specs.Views.{tree, elements_of, members_of, key_and_tree}
 
 -- the member at a place, and its key
@@ -110,11 +110,11 @@ key_unlike k l e same =
 key_differs : (k l : List ℕ) → ¬ (◌≡◌ {A = Option (List ℕ)} (Some k) (Some l)) → pointwise nat_eq k l ≡ false
 key_differs k l other = elim (cases_Bool (pointwise nat_eq k l)) [ inl same ↦ absurd (other (ap Some (key_equal k l same))) | inr differ ↦ differ ]
 
-below : {x : List ℕ} {y : List ℕ} {xs : List (List ℕ)} {i : ℕ} → IsFirst x (y ∷ xs) (suc i) → IsFirst x xs i
+below : {x : List ℕ} {y : List ℕ} {xs : List (List ℕ)} {i : ℕ} → IsFirstKey x (y ∷ xs) (suc i) → IsFirstKey x xs i
 below f = record { here = f.here; first = λ p less. f.first (suc p) (omega (arith, less)) }
 
 -- a member
-pub member_first : (ms : List (List ℕ × Tree)) (k : List ℕ) (i : ℕ) (m : List ℕ × Tree) → IsFirst k (keys ms) i → slice_get ms i ≡ Some m
+pub member_first : (ms : List (List ℕ × Tree)) (k : List ℕ) (i : ℕ) (m : List ℕ × Tree) → IsFirstKey k (keys ms) i → slice_get ms i ≡ Some m
     → member_of k (members_of ms) ≡ Some m.1
 member_first [] k i m f e = absurd cc
 member_first (n ∷ ns) k zero m f e =
@@ -127,7 +127,7 @@ pub member_none : (ms : List (List ℕ × Tree)) (k : List ℕ) → ((p : ℕ) �
 member_none [] k none = refl
 member_none (m ∷ ms) k none = rw (key_differs m.0 k (none 0)) (member_none ms k (λ p. none (suc p)))
 
-pub member_put : (ms : List (String Global × Value)) (k : List ℕ) (i : ℕ) (m : String Global × Value) (w : Value) → IsFirst k (keys (seen ms)) i
+pub member_put : (ms : List (String Global × Value)) (k : List ℕ) (i : ℕ) (m : String Global × Value) (w : Value) → IsFirstKey k (keys (seen ms)) i
     → m ≡ get_or ms i m → members_of (seen (slice_set ms i (m.0, w))) ≡ change_of k (λ _. tree w) (members_of (seen ms))
 member_put [] k i m w f e = refl
 member_put (n ∷ ns) k zero m w f e =

@@ -9,8 +9,8 @@ use Rattle.sonic_text.specs.Trees.Items.{no_item, item}
 use Rattle.sonic_text.specs.declared.kind.Kind.TheVariants.{Array, Object}
 use Rattle.sonic_value.proofs.ItemLemmas.{key_equal}
 use Rattle.sonic_value.specs.Filling.{has_key, last_of, change_last}
-use Rattle.sonic_value.specs.Keeping.{spelling, kept_text, kept_label, kept, kept_items}
-use Rattle.sonic_value.specs.Readers.{kept_item, items_before}
+use Rattle.sonic_value.specs.Internal.Keeping.{spelling, kept_text, kept_label, kept, kept_items}
+use Rattle.sonic_value.specs.Internal.Readers.{kept_item, items_before}
 use Rattle.sonic_value.specs.Schemas.{HasMembers}
 
 -- of a text in UTF-8 all is kept as it is

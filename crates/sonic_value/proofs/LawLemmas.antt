@@ -16,7 +16,7 @@ use Rattle.sonic_value.proofs.OutcomeLemmas.{read_or_not, fill_or_not}
 use Rattle.sonic_value.proofs.UnfilledLemmas.{unfillable_at, unfilled_for, object_or_none}
 use Rattle.sonic_value.specs.Depths.{IsShallow}
 use Rattle.sonic_value.specs.Laws.{HasOneTreeOrReason}
-use Rattle.sonic_value.specs.Readers.{IsDocumentRead}
+use Rattle.sonic_value.specs.Internal.Readers.{IsDocumentRead}
 use Rattle.sonic_value.specs.Reading.{IsRead, IsUnread, too_deep, invalid}
 use Rattle.sonic_value.specs.Schemas.{IsFilledBy, IsFilledAt, IsUnfilled, no_object, too_deep as deep_schema, fault, broken_text}
 

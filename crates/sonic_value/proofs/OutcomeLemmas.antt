@@ -26,10 +26,10 @@ use Rattle.sonic_value.proofs.KeepingLemmas.{kept_same}
 use Rattle.sonic_value.proofs.ReaderLemmas.{value_read, first_read, empty_read, key_unread, value_unread, item_read, last_read, separator_unread}
 use Rattle.sonic_value.proofs.ScalarLemmas.{scalar_read, scalar_unread}
 use Rattle.sonic_value.proofs.SchemaLemmas.{filled_fit, replaced_shallow}
-use Rattle.sonic_value.specs.Fillers.{IsMemberFilled, IsMemberStopped, member_too_deep, member_fault, IsUnfillable, is_too_deep, has_fault, AreMembersFilled}
+use Rattle.sonic_value.specs.Internal.Fillers.{IsMemberFilled, IsMemberStopped, member_too_deep, member_fault, IsUnfillable, is_too_deep, has_fault, AreMembersFilled}
 use Rattle.sonic_value.specs.Filling.{has_key, last_of, change_last, fill}
-use Rattle.sonic_value.specs.Keeping.{kept_label}
-use Rattle.sonic_value.specs.Readers.{Source, BeginsNoContainer, IsKept, IsValueRead, IsUnreadValue, too_deep, IsHeadRead, AreItemsRead}
+use Rattle.sonic_value.specs.Internal.Keeping.{kept_label}
+use Rattle.sonic_value.specs.Internal.Readers.{Source, BeginsNoContainer, IsKept, IsValueRead, IsUnreadValue, too_deep, IsHeadRead, AreItemsRead}
 use Rattle.sonic_value.specs.Schemas.{HasMembers, IsReplaced, no_object_met, no_members, IsFilledBy}
 
 -- after what ends at e the bracket comes, or a comma, or neither

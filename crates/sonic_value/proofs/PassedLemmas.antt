@@ -20,10 +20,10 @@ use Rattle.sonic_value.proofs.FillingLemmas.{replaced_fill, none_with, change_sa
 use Rattle.sonic_value.proofs.KeepingLemmas.{kept_has, kept_last, kept_change, kept_members, kept_object}
 use Rattle.sonic_value.proofs.ReaderLemmas.{value_read}
 use Rattle.sonic_value.proofs.SchemaLemmas.{replaced_shallow}
-use Rattle.sonic_value.specs.Fillers.{IsMemberFilled, IsMemberStopped, member_too_deep, member_fault, IsUnfillable, is_too_deep, has_fault, IsFillRead, IsFillStopped, IsObjectRead, IsObjectStopped, IsMemberRead, IsMemberUnread, AreMembersRead, IsObjectPassed}
+use Rattle.sonic_value.specs.Internal.Fillers.{IsMemberFilled, IsMemberStopped, member_too_deep, member_fault, IsUnfillable, is_too_deep, has_fault, IsFillRead, IsFillStopped, IsObjectRead, IsObjectStopped, IsMemberRead, IsMemberUnread, AreMembersRead, IsObjectPassed}
 use Rattle.sonic_value.specs.Filling.{has_key, last_of, change_last, fill}
-use Rattle.sonic_value.specs.Keeping.{kept_text, kept_label, kept, kept_items}
-use Rattle.sonic_value.specs.Readers.{Source, IsHeadRead, IsValueRead, IsUnreadValue}
+use Rattle.sonic_value.specs.Internal.Keeping.{kept_text, kept_label, kept, kept_items}
+use Rattle.sonic_value.specs.Internal.Readers.{Source, IsHeadRead, IsValueRead, IsUnreadValue}
 use Rattle.sonic_value.specs.Schemas.{HasMembers, IsReplaced, IsShallowIn, IsFilledBy}
 
 -- a schema has members where something is kept of some

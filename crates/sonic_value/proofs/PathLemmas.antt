@@ -12,7 +12,7 @@ use Rattle.sonic_text.specs.Trees.Items.{no_item, item}
 use Rattle.sonic_text.specs.Trees.Tree.{container}
 use Rattle.sonic_text.specs.Trees.{Tree, Items}
 use Rattle.sonic_text.specs.declared.kind.Kind.TheVariants.{Array, Object}
-use Rattle.sonic_value.specs.Loans.{AtFirst}
+use Rattle.sonic_value.specs.Internal.Loans.{AtFirst}
 use lib.Dec.{T}
 use mathlib.Core.Bool.{not}
 

@@ -20,20 +20,20 @@ use Rattle.sonic_text.specs.declared.kind.Kind.TheVariants.{Array, Object}
 use Rattle.sonic_text.specs.declared.stop.Stop.{Stop}
 use Rattle.sonic_value.proofs.DepthLemmas.{empty_shallow, more_shallow, whole_shallow, fault_shallow, key_shallow, item_too_deep}
 use Rattle.sonic_value.proofs.KeepingLemmas.{kept_before}
-use Rattle.sonic_value.specs.Readers.{Source, Cursor, IsValueRead, IsUnreadValue, too_deep, at_fault, IsHeadRead, kept_item, items_before, AreItemsRead, IsContainerRead}
+use Rattle.sonic_value.specs.Internal.Readers.{Source, ReaderState, IsValueRead, IsUnreadValue, too_deep, at_fault, IsHeadRead, kept_item, items_before, AreItemsRead, IsContainerRead}
 
 -- cursors that are the same have the same text, and are at the same place
-pub same_source : {a b : Cursor} → a ≡ b → a.source ≡ b.source
-same_source e = ap (λ (c : Cursor). c.source) e
+pub same_source : {a b : ReaderState} → a ≡ b → a.source ≡ b.source
+same_source e = ap (λ (c : ReaderState). c.source) e
 
-pub source_text : {a b : Cursor} → a ≡ b → a.source.text ≡ b.source.text
-source_text e = ap (λ (c : Cursor). c.source.text) e
+pub source_text : {a b : ReaderState} → a ≡ b → a.source.text ≡ b.source.text
+source_text e = ap (λ (c : ReaderState). c.source.text) e
 
-pub source_utf8 : {a b : Cursor} → a ≡ b → a.source.is_utf8 ≡ b.source.is_utf8
-source_utf8 e = ap (λ (c : Cursor). c.source.is_utf8) e
+pub source_utf8 : {a b : ReaderState} → a ≡ b → a.source.is_utf8 ≡ b.source.is_utf8
+source_utf8 e = ap (λ (c : ReaderState). c.source.is_utf8) e
 
-pub same_place : {a b : Cursor} → a ≡ b → a.place ≡ b.place
-same_place e = ap (λ (c : Cursor). c.place) e
+pub same_place : {a b : ReaderState} → a ≡ b → a.place ≡ b.place
+same_place e = ap (λ (c : ReaderState). c.place) e
 
 -- a value was read where one is
 pub value_read : {s : Source} {room i j : ℕ} {x : Tree} → IsValueRead s room i j x → IsValue strict s.text i j
@@ -149,12 +149,12 @@ less_left {s} {e = e} false read head value comma close =
     omega (arith, within, c.1, after_space_later s.text e, head-later head.head, value-longer (value_read value))
 
 -- the same by the cursors that an item is passed with: at its head, at its value, at its end, and where the next item is expected
-module _ {s : Source} {kind : Kind} {room i : ℕ} {h : Cursor} {xs : List (Option (List ℕ) × Tree)} (at_head : h ≡ record { source = s; place = h.place })
+module _ {s : Source} {kind : Kind} {room i : ℕ} {h : ReaderState} {xs : List (Option (List ℕ) × Tree)} (at_head : h ≡ record { source = s; place = h.place })
     (read : AreItemsRead s kind room i h.place xs) where
   pub key_stops : {stop : Stop} → kind ≡ Object → IsKeyFault strict h.source.text h.place stop → IsUnreadValue s.text (room + 1) i stop
   key_stops k f = key_unread read k (rw (same_source at_head) at f)
 
-  module _ {v : Cursor} {l : Option (List ℕ)} (at_value : v ≡ record { source = h.source; place = v.place }) (head : IsHeadRead h.source kind h.place v.place l) where
+  module _ {v : ReaderState} {l : Option (List ℕ)} (at_value : v ≡ record { source = h.source; place = v.place }) (head : IsHeadRead h.source kind h.place v.place l) where
     head_in : IsHeadRead s kind h.place v.place l
     head_in = rw (same_source at_head) at head
 
@@ -164,14 +164,14 @@ module _ {s : Source} {kind : Kind} {room i : ℕ} {h : Cursor} {xs : List (Opti
     pub value_stops : {stop : Stop} → IsUnreadValue v.source.text room v.place stop → IsUnreadValue s.text (room + 1) i stop
     value_stops f = value_unread read head_in (rw value_in at f)
 
-    module _ {e : Cursor} {x : Tree} (at_end : e ≡ record { source = v.source; place = e.place }) (value : IsValueRead v.source room v.place e.place x) where
+    module _ {e : ReaderState} {x : Tree} (at_end : e ≡ record { source = v.source; place = e.place }) (value : IsValueRead v.source room v.place e.place x) where
       end_in : e.source ≡ s
       end_in = same_source at_end ∙ value_in
 
       pub separator_stops : {stop : Stop} → IsSeparatorFault e.source.text kind e.place stop → IsUnreadValue s.text (room + 1) i stop
       separator_stops f = separator_unread read head_in (rw value_in at value) (rw end_in at f)
 
-      module _ {g : Cursor} (at_next : g ≡ record { source = e.source; place = g.place }) (more : Bool) (comma : more ≡ true → IsSeparated e.source.text e.place g.place)
+      module _ {g : ReaderState} (at_next : g ≡ record { source = e.source; place = g.place }) (more : Bool) (comma : more ≡ true → IsSeparated e.source.text e.place g.place)
           (close : more ≡ false → IsEnd e.source.text kind e.place g.place) where
         pub item_kept : g ≡ record { source = s; place = g.place }
         item_kept = rw end_in at at_next

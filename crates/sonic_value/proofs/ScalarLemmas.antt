@@ -14,7 +14,7 @@ use Rattle.sonic_text.specs.Values.{IsValue}
 use Rattle.sonic_text.specs.Values.IsValue.{null_literal, true_literal, false_literal, number, string, empty, filled}
 use Rattle.sonic_text.specs.declared.stop.Stop.{Stop}
 use Rattle.sonic_value.proofs.DepthLemmas.{scalar_shallow}
-use Rattle.sonic_value.specs.Readers.{Source, BeginsNoContainer, IsKept, IsValueRead, IsUnreadValue, at_fault}
+use Rattle.sonic_value.specs.Internal.Readers.{Source, BeginsNoContainer, IsKept, IsValueRead, IsUnreadValue, at_fault}
 
 -- the value from i to j is one of these, which begin with other bytes each
 data IsScalar (t : List ℕ) (i j : ℕ) : Type 0 where

@@ -3,8 +3,8 @@ use Rattle.std.proofs.Common.{◌≡◌, ap, refl, List, [], ◌∷◌, map, Som
 use Rattle.std.specs.declared.alloc.Global.{Global}
 use Rattle.std.specs.declared.string.String.{String}
 use Rattle.sonic_text.specs.Trees.Items.{item}
-use Rattle.sonic_value.specs.Keeping.{spelling, kept, kept_items}
-use Rattle.sonic_value.specs.SpelledViews.{spelled_tree, spelled_member}
+use Rattle.sonic_value.specs.Internal.Keeping.{spelling, kept, kept_items}
+use Rattle.sonic_value.specs.Internal.SpelledViews.{spelled_tree, spelled_member}
 use Rattle.sonic_value.specs.Views.{tree, key_and_tree, elements_of, members_of}
 use Rattle.sonic_value.specs.declared.value.Value.{Value}
 

@@ -14,8 +14,8 @@ use Rattle.sonic_text.specs.Values.{key_head, IsKey, IsValue}
 use Rattle.sonic_text.specs.Values.IsValue.{string}
 use Rattle.sonic_text.specs.declared.kind.Kind.TheVariants.{Object}
 use Rattle.sonic_value.proofs.ScalarLemmas.{string_there}
-use Rattle.sonic_value.specs.Keeping.{kept_text}
-use Rattle.sonic_value.specs.Readers.{Source, BeginsNoContainer, IsScalarToken, IsStringToken, IsKeptText, IsKept, IsHeadRead}
+use Rattle.sonic_value.specs.Internal.Keeping.{kept_text}
+use Rattle.sonic_value.specs.Internal.Readers.{Source, BeginsNoContainer, IsScalarToken, IsStringToken, IsKeptText, IsKept, IsHeadRead}
 use Rattle.sonic_value.specs.declared.reader.Token.{Token}
 
 -- a string without a backslash denotes all between its quotes

@@ -28,9 +28,9 @@ use Rattle.sonic_text.specs.declared.stop.Stop.{Stop}
 use Rattle.sonic_value.proofs.KeepingLemmas.{kept_same}
 use Rattle.sonic_value.proofs.SchemaLemmas.{deep_nested}
 use Rattle.sonic_value.specs.Depths.{IsInside, at_the_value, inside_an_item}
-use Rattle.sonic_value.specs.Fillers.{IsFillRead, IsFillStopped, IsUnfillable, is_too_deep, has_fault}
+use Rattle.sonic_value.specs.Internal.Fillers.{IsFillRead, IsFillStopped, IsUnfillable, is_too_deep, has_fault}
 use Rattle.sonic_value.specs.Filling.{fill}
-use Rattle.sonic_value.specs.Keeping.{kept}
+use Rattle.sonic_value.specs.Internal.Keeping.{kept}
 use Rattle.sonic_value.specs.Schemas.{IsObject, IsFilledBy, IsFilledAt, IsUnfilled, no_object, too_deep, fault, broken_text, IsFillErrorFrom, out_of_memory, stopped, IsTooDeepIn}
 
 -- a tree is an object exactly where its first level says so

@@ -1,5 +1,5 @@
 -- The tree in which a node names a value.
-use Rattle.std.specs.Prelude.{◌≡◌, Some, None, Result, Ok, Err, IsSome, is_some, if◌then◌else◌}
+use Rattle.std.specs.Prelude.{◌≡◌, Some, None, Result, Ok, Err, is_some, if◌then◌else◌}
 use Rattle.sonic_error.specs.Errors.{IsPlainError}
 use Rattle.sonic_error.specs.declared.code.ErrorCode.{ErrorCode}
 use Rattle.sonic_error.specs.declared.code.ErrorCode.TheVariants.{GetIndexOutOfArray, NoMemory, UnexpectedVisitType}
@@ -23,8 +23,3 @@ with_node node other = Err UnexpectedVisitType
 pub data IsUnindexed (node : Node) (x : Tree) (e : Error) : Type 0 where
   refused : (code : ErrorCode) → with_node node x ≡ Err code → IsPlainError e code → IsUnindexed node x e
   out_of_memory : (base : Tree) → with_node node x ≡ Ok base → child node x ≡ None → IsPlainError e NoMemory → IsUnindexed node x e
-
--- the second tree is that in which the node names a value. Clauses of private calls alone cite this
-pub record IsInserted (node : Node) (x y : Tree) : Type 0 where
-  pub base : with_node node x ≡ Ok y
-  pub there : IsSome (child node y)

@@ -57,7 +57,7 @@ abbrev pub object_in : Value → Option (Vec (String Global × Value) Global)
 object_in v = level_object (out-Value v)
 
 -- the container that a tree is, if it is one: an array of these elements, an object of these members, or none
-pub data IsLevelOf (x : Tree) : Option (Vec Value Global) → Option (Vec (String Global × Value) Global) → Type 0 where
-  an_array : {xs : Vec Value Global} → x ≡ container Array (elements_of (map tree xs.items)) → IsLevelOf x (Some xs) None
-  an_object : {ms : Vec (String Global × Value) Global} → x ≡ container Object (members_of (map key_and_tree ms.items)) → IsLevelOf x None (Some ms)
-  no_level : ((kind : Kind) (xs : Items) → x ≢ container kind xs) → IsLevelOf x None None
+pub data IsContainerOf (x : Tree) : Option (Vec Value Global) → Option (Vec (String Global × Value) Global) → Type 0 where
+  an_array : {xs : Vec Value Global} → x ≡ container Array (elements_of (map tree xs.items)) → IsContainerOf x (Some xs) None
+  an_object : {ms : Vec (String Global × Value) Global} → x ≡ container Object (members_of (map key_and_tree ms.items)) → IsContainerOf x None (Some ms)
+  no_level : ((kind : Kind) (xs : Items) → x ≢ container kind xs) → IsContainerOf x None None

@@ -5,7 +5,7 @@ ghost use Rattle.sonic_text.specs.Faults.{IsKeyFault};
 ghost use Rattle.sonic_text.specs.Places.{byte};
 ghost use Rattle.sonic_text.specs.Strings.{strict};
 ghost use Rattle.sonic_text.specs.Values.{opening};
-ghost use Rattle.sonic_value.specs.Fillers.{items_of, IsFillRead, IsFillStopped, IsObjectRead, IsObjectStopped, IsMemberRead, IsMemberUnread, IsMemberFound, IsPlaceOf};
+ghost use Rattle.sonic_value.specs.Internal.Fillers.{items_of, IsFillRead, IsFillStopped, IsObjectRead, IsObjectStopped, IsMemberRead, IsMemberUnread, IsMemberFound, IsPlaceOf};
 ghost use Rattle.sonic_value.specs.Views.{tree};
 
 use crate::Value;

@@ -8,8 +8,9 @@ ghost use Rattle.sonic_text.specs.Paths.{Node, key, index};
 ghost use Rattle.sonic_text.specs.TreePaths.{child};
 ghost use Rattle.sonic_text.specs.Trees.{Tree};
 ghost use Rattle.sonic_text.specs.Trees.Tree.{null};
-ghost use Rattle.sonic_value.specs.Indexing.{with_node, IsInserted, IsUnindexed};
-ghost use Rattle.sonic_value.specs.Keys.{seen};
+ghost use Rattle.sonic_value.specs.Indexing.{with_node, IsUnindexed};
+ghost use Rattle.sonic_value.specs.Internal.Inserted.{IsInserted};
+ghost use Rattle.sonic_value.specs.Internal.Keys.{seen};
 ghost use Rattle.sonic_value.specs.Views.{tree};
 ghost use Rattle.sonic_value.specs.contracts.value.Value.{the_row as value_row};
 
@@ -31,10 +32,6 @@ mod sealed {
 pub trait Index: sealed::Sealed {
     // The node that it is.
     ghost node: { Self → Node };
-
-    /// The same as a step of a path.
-    fn as_node(&self) -> PointerNode<'_>
-        ensures { node_of result ≡ node self.now };
 
     /// The item, and `None` where there is none, or the value is of another kind.
     fn value_index_into<'v>(&self, v: &'v Value) -> Option<&'v Value>
@@ -101,10 +98,6 @@ impl<T: Names> sealed::Sealed for T {}
 
 impl<T: Names> Index for T {
     ghost node = { T.Names.named };
-
-    fn as_node(&self) -> PointerNode<'_> {
-        self.to_node()
-    }
 
     fn value_index_into<'v>(&self, v: &'v Value) -> Option<&'v Value> {
         v.get(self.to_node())
@@ -229,8 +222,8 @@ fn lend_or_insert<'a, A: Inserts>(
     value.insert(alloc, node)?;
     match lend_item(value, node) {
         Some(item) => Ok(item),
-        // What a node names is there now, so this never comes.
-        None => Err(Error::plain(ErrorCode::NoMemory)),
+        // What a node names is there now.
+        None => unreachable!(),
     }
 }
 

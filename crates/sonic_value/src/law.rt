@@ -7,7 +7,7 @@ ghost use Rattle.sonic_value.specs.CompactTexts.{HasNumbers, compact};
 ghost use Rattle.sonic_value.specs.Laws.{HasOneTreeOrReason};
 ghost use Rattle.sonic_value.specs.Reading.{IsRead, IsUnread};
 ghost use Rattle.sonic_value.specs.Schemas.{IsFilledAt, IsUnfilled};
-ghost use Rattle.sonic_value.specs.Views.{tree, array_in, object_in, IsLevelOf};
+ghost use Rattle.sonic_value.specs.Views.{tree, array_in, object_in, IsContainerOf};
 ghost use Rattle.sonic_value.specs.declared.value.Value.{Value};
 
 use sonic_owned::text_is_a_document;
@@ -37,7 +37,7 @@ pub fn what_is_read_has_numbers()
 /// The law of levels: the array or the object that `as_array` or `as_object` gives has the items of
 /// the value's tree, and there is none exactly where the tree is no container.
 pub fn level_is_that_of_the_tree()
-    ensures { (value : Value) → IsLevelOf (tree value) (array_in value) (object_in value) }
+    ensures { (value : Value) → IsContainerOf (tree value) (array_in value) (object_in value) }
 {}
 
 /// The law of readings: a text is read as one tree, or it isn't for exactly one reason, and never

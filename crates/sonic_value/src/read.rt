@@ -7,7 +7,7 @@ ghost use Rattle.sonic_parser.specs.Faults.{IsStopFor};
 ghost use Rattle.sonic_text.specs.Places.{byte, after_space};
 ghost use Rattle.sonic_text.specs.Values.{opening};
 ghost use Rattle.sonic_value.specs.Depths.{IsShallow};
-ghost use Rattle.sonic_value.specs.Readers.{IsValueRead, IsUnreadValue, IsDocumentRead};
+ghost use Rattle.sonic_value.specs.Internal.Readers.{IsValueRead, IsUnreadValue, IsDocumentRead};
 ghost use Rattle.sonic_value.specs.Reading.{IsRead, IsUnread, IsUnreadError};
 ghost use Rattle.sonic_value.specs.Views.{tree};
 

@@ -10,8 +10,8 @@ ghost use Rattle.sonic_text.specs.Places.{byte, after_space};
 ghost use Rattle.sonic_text.specs.Strings.{strict, IsString, IsEscapedString};
 ghost use Rattle.sonic_text.specs.Values.{opening, closing, IsValue};
 ghost use Rattle.sonic_text.specs.declared.kind.Kind.{Kind};
-ghost use Rattle.sonic_value.specs.Keeping.{spelling};
-ghost use Rattle.sonic_value.specs.Readers.{IsValueRead, IsUnreadValue, IsScalarToken, IsStringToken, IsKeyToken, IsKeptText, IsKept, IsHeadRead};
+ghost use Rattle.sonic_value.specs.Internal.Keeping.{spelling};
+ghost use Rattle.sonic_value.specs.Internal.Readers.{IsValueRead, IsUnreadValue, IsScalarToken, IsStringToken, IsKeyToken, IsKeptText, IsKept, IsHeadRead};
 ghost use Rattle.sonic_value.specs.Views.{tree};
 
 use crate::Value;
@@ -32,11 +32,11 @@ pub(crate) struct Reader<'de> {
 }
 
 impl<'de> Model for Reader<'de> {
-    ghost use Rattle.sonic_value.specs.Readers.{Cursor};
+    ghost use Rattle.sonic_value.specs.Internal.Readers.{ReaderState};
 
-    ghost Value = { Cursor };
+    ghost Value = { ReaderState };
 
-    ghost use Rattle.sonic_value.specs.ReaderViews.{cursor_of, IsReader};
+    ghost use Rattle.sonic_value.specs.Internal.ReaderViews.{cursor_of, IsReader};
 
     ghost view = { cursor_of };
 

@@ -375,17 +375,28 @@ fn deeper_and_deeper(alloc: Global, others: &[usize], last: usize) -> Result<Str
     Ok(text)
 }
 
+// Members that deepen a schema to so many levels, one that fills it last, and how long the text is
+// then, if it is filled.
+fn last_levels() -> [(&'static [usize], usize, Option<usize>); 3] {
+    [
+        (&[254, 508, 762, 1016, 1022], 1276, Some(6_387)),
+        // 1024 levels are filled at most.
+        (&[254, 508, 762, 1016, 1023], 1277, Some(6_392)),
+        (&[254, 508, 762, 1016, 1024], 1278, None),
+    ]
+}
+
 #[test]
 fn fills_as_deep_as_a_stack_surely_has_room(rt: HostRuntime) -> Result<(), Fail> {
     let alloc = rt.alloc();
-    let json = deeper_and_deeper(alloc, &[254, 508, 762, 1016], 1270)?;
-    match get_by_schema(alloc, &json[..], read(&rt, alloc, "{\"\":1}")) {
-        Ok(made) => same(&rt, made.to_string(alloc)?.len(), 5 * (254 * 5 + 1) + 2),
-        Err(error) => panic!(rt; "{error}"),
+    for (others, last, wanted) in last_levels() {
+        let json = deeper_and_deeper(alloc, others, last)?;
+        let made = get_by_schema(alloc, &json[..], read(&rt, alloc, "{\"\":1}"));
+        match (made, wanted) {
+            (Ok(made), Some(length)) => same(&rt, made.to_string(alloc)?.len(), length),
+            (made, _) => check_error(&rt, made, (ErrorCode::NoMemory, 0)),
+        }
     }
-    let json = deeper_and_deeper(alloc, &[254, 508, 762, 1016, 1270], 1524)?;
-    let made = get_by_schema(alloc, &json[..], read(&rt, alloc, "{\"\":1}"));
-    check_error(&rt, made, (ErrorCode::NoMemory, 0));
     Ok(())
 }
 

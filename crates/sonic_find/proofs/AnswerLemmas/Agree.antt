@@ -9,7 +9,8 @@ use Rattle.sonic_find.proofs.AnswerLemmas.One.{none_in_empty, first_in, later_in
 use Rattle.sonic_find.proofs.AnswerLemmas.Walk.{IsEnd, IsGathered, both_same, found_value, lead_from}
 use Rattle.sonic_find.proofs.PathLemmas.Outcome.{either, cut_is_fault}
 use Rattle.sonic_find.proofs.Utf8Lemmas.{utf8_up_to}
-use Rattle.sonic_find.specs.Answers.{AllLeadBy, AllLead, no_more, one_more, NoneFails, NoneCut, IsReach, to_the_root, to_the_furthest, Span, span_of, Answer, spans, error, ComeTo, no_path, failing, cutting, lacking, breaking, finding, IsAnswerBy, IsAnswer, ComesToAlone, value_found, value_broken, key_lacked, path_failed, path_cut}
+use Rattle.sonic_find.specs.Answers.{AllLeadBy, no_more, one_more, NoneFails, NoneCut, IsReach, to_the_root, to_the_furthest, Span, span_of, Answer, spans, error, ComeTo, no_path, failing, cutting, lacking, breaking, finding, IsAnswerBy, IsAnswer, ComesToAlone, value_found, value_broken, key_lacked, path_failed, path_cut}
+use Rattle.sonic_find.specs.Internal.FirstAnswers.{AllLead}
 use Rattle.sonic_find.specs.Laws.{IsGetEntry, value_got, key_missed, AreGetAnswers, no_more_entries, one_more_entry}
 use Rattle.sonic_find.specs.Paths.{Outcome, found, lacks, fails, cut, fails_at, past_end, empty_code, nowhere, kind_of, Evaluates, LeadsUnder, Leads}
 use Rattle.sonic_find.specs.Paths.EvaluatesBy.{found_here, goes_on, leads_nowhere, cut_here, cut_before}

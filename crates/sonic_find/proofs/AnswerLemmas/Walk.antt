@@ -14,11 +14,11 @@ use Rattle.sonic_find.proofs.WalkLemmas.List.{some_there, first_of}
 use Rattle.sonic_find.proofs.WalkLemmas.Path.{contained}
 use Rattle.sonic_find.specs.Answers.{AllLeadBy, no_more, one_more, IsNearest, NoneFails, SomeLacks, IsReach, to_the_root, to_the_furthest, Span, span_of, Answer, ComeTo, no_path, failing, cutting, lacking, breaking, finding, IsAnswerBy}
 use Rattle.sonic_find.specs.Internal.Located.{HaveStatuses, span_at, spans_of}
-use Rattle.sonic_find.specs.Internal.Walk.{Findings, root_point, AllSettled, IsSettled, was_found, was_lacked, AreFindings, SomeLack, IsStopped, fails_so, cut_so, NoneNearer, path_stops, value_stops, IsStop, IsFurthest, IsReached, IsError}
+use Rattle.sonic_find.specs.Internal.Walk.{Findings, root_point, AllSettled, IsKnown, was_found, was_lacked, AreFindings, SomeLack, IsPathStop, fails_so, cut_so, NoneNearer, path_stops, value_stops, IsStop, IsFurthest, AllReached, IsError}
 use Rattle.sonic_find.specs.Paths.{Outcome, found, lacks, fails, cut, kind_of, EvaluatesBy, LeadsUnder}
 use Rattle.sonic_find.specs.Paths.EvaluatesBy.{found_here, goes_on, leads_nowhere}
 use Rattle.sonic_find.specs.declared.located.Located.{Located}
-use Rattle.sonic_pointer.specs.Paths.{HasPrefix}
+use Rattle.sonic_pointer.specs.Internal.Prefixes.{HasPrefix}
 use Rattle.sonic_text.proofs.Outcomes.{value_some_outcome}
 use Rattle.sonic_text.proofs.Stops.{fault_within}
 use Rattle.sonic_text.proofs.Values.{value-longer, value_fault_one}
@@ -89,7 +89,7 @@ lacks_kept {t} {paths} {q = q} {rule = rule} k path (Some (i, j)) reported is l 
 
 -- a path that is settled ends so
 pub settled_ends : {t : List ℕ} {paths : List Path} {notes : Findings} {rule : KeyRule} (k : ℕ) (path : Path) → AreFindings rule t paths notes
-    → slice_get paths k ≡ Some path → IsSettled rule t notes k path → Ends rule t notes.lacking (slice_get notes.spans k) path
+    → slice_get paths k ≡ Some path → IsKnown rule t notes k path → Ends rule t notes.lacking (slice_get notes.spans k) path
 settled_ends k path reported is (was_found {i = i} {j} l h) = record { outcome = found i j; leads = l; end = tt; is = h }
 settled_ends {paths = paths} {notes} k path reported is (was_lacked {q = q} l e) =
     let within : k < length notes.spans = (let w = slice_get_within paths k path is in omega (arith, w, reported.long)) in
@@ -204,7 +204,7 @@ reach_within {r = r} g (to_the_furthest {i} none c all) = (let x = lead_from (fo
 
 -- so it is reached
 pub is_reached : {t : List ℕ} {paths : List Path} {f : Findings} {r e : ℕ} {rule : KeyRule} → AreFindings rule t paths f → AllSettled (root_point rule t paths) f → paths ≢ []
-    → (f.lacking ≡ true → IsWhole t e) → (f.lacking ≡ true → r ≡ e) → (f.lacking ≡ false → IsFurthest f.spans r) → IsReached rule t paths f.spans r
+    → (f.lacking ≡ true → IsWhole t e) → (f.lacking ≡ true → r ≡ e) → (f.lacking ≡ false → IsFurthest f.spans r) → AllReached rule t paths f.spans r
 is_reached are settled some whole at_end furthest =
     let g = gathered are settled in
     let reach = reached g some are.lack whole at_end furthest in
@@ -219,12 +219,12 @@ is_reached are settled some whole at_end furthest =
     }
 
 -- the spans are the answer
-pub answers_spans : {t : List ℕ} {is_bytes : Bool} {spans : List (Option Span)} {paths : List Path} {r : ℕ} {rule : KeyRule} → IsReached rule t paths spans r
+pub answers_spans : {t : List ℕ} {is_bytes : Bool} {spans : List (Option Span)} {paths : List Path} {r : ℕ} {rule : KeyRule} → AllReached rule t paths spans r
     → (is_bytes ≡ true → IsUtf8 (take r t)) → IsAnswerBy rule t is_bytes paths (Answer.spans spans)
 answers_spans x text = record { outcomes = x.outcomes; lead = x.lead; come_to = finding x.none_fails x.none_cut x.reach text x.entries }
 
 -- or the first broken place
-pub answers_broken : {t : List ℕ} {is_bytes : Bool} {spans : List (Option Span)} {paths : List Path} {r : ℕ} {s : Stop} {rule : KeyRule} → IsReached rule t paths spans r
+pub answers_broken : {t : List ℕ} {is_bytes : Bool} {spans : List (Option Span)} {paths : List Path} {r : ℕ} {s : Stop} {rule : KeyRule} → AllReached rule t paths spans r
     → is_bytes ≡ true → ¬ IsUtf8 (take r t) → s ≡ record { place = valid_up_to (take r t); code = InvalidUTF8 }
     → s.place ≤ length t → IsError rule t is_bytes paths s
 answers_broken x e broken is within = record {
@@ -271,7 +271,7 @@ fault_answers {os = os} is_bytes all near f (inr l) = elim (cut_or_none os) [
 
 -- what stops a path at the root is the answer
 path_answers : {t : List ℕ} {paths : List Path} {os : List Outcome} {s : Stop} {rule : KeyRule} (is_bytes : Bool) (k : ℕ) (path : Path) → AllLeadBy rule t paths os
-    → NoneNearer (root_point rule t paths) s → slice_get paths k ≡ Some path → IsStopped rule t (after_space t 0) path s
+    → NoneNearer (root_point rule t paths) s → slice_get paths k ≡ Some path → IsPathStop rule t (after_space t 0) path s
     → ComeTo t is_bytes os (Answer.error s) × (s.place ≤ length t)
 path_answers {os = os} {s} is_bytes k path all near is (fails_so e) =
     let nearest = is_nearest s os (lead_at k path all is e) (λ r c. (let y = lead_from (fails r) all c in near y.number y.path r y.is y.leads)) in

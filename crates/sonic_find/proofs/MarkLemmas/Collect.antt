@@ -17,7 +17,7 @@ use Rattle.sonic_find.specs.Internal.Fill.{IsNoted}
 use Rattle.sonic_find.specs.Internal.Follow.{IsDeadNode, LacksNode}
 use Rattle.sonic_find.specs.Internal.Marks.{Marking, IsMarkOf, AreMarks, IsWholeMark, HasItems, ChildSays, says_none, says_twice, says_one, NodeSays, says_no_items, says_items, SaysAll, IsLive}
 use Rattle.sonic_find.specs.Internal.Steps.{HasWhole}
-use Rattle.sonic_find.specs.Internal.Walk.{Findings, Point, child_point, ComesTo, IsPath, AreFindings, IsLater, IsSettled, was_found, was_lacked, AllSettled, fails_so, cut_so, IsCause, path_stops, value_stops, IsStop, IsFilled, NoneNearer}
+use Rattle.sonic_find.specs.Internal.Walk.{Findings, Point, child_point, ComesTo, IsPath, AreFindings, IsLater, IsKnown, was_found, was_lacked, AllSettled, fails_so, cut_so, IsCause, path_stops, value_stops, IsStop, AreSetTo, NoneNearer}
 use Rattle.sonic_find.specs.Paths.{found, lacks, fails, kind_of, empty_code, wanted_of, LeadsOn, LeadsBy, EvaluatesBy, past_end}
 use Rattle.sonic_find.specs.Paths.EvaluatesBy.{found_here, goes_on, repeats, leads_nowhere, cut_before}
 use Rattle.sonic_find.specs.declared.marks.Mark.{Mark}
@@ -222,15 +222,15 @@ nearer_below p x y (inr e) = rw e y
 
 -- where the value is kept for the paths that end at the prefix, all with it are collected
 pub kept_collected : (p : Point) {j : ℕ} {orders : List ℕ} {f : Findings} {more : List (Option Span)} {nearest : Option Stop} {children : List Node} → ComesTo p
-    → IsValue strict p.text p.place j → IsOrders p.paths p.prefix orders → IsFilled orders f.spans more (p.place, j)
+    → IsValue strict p.text p.place j → IsOrders p.paths p.prefix orders → AreSetTo orders f.spans more (p.place, j)
     → IsLater p.rule p.text p.paths f (record f { spans = more }) → IsChildren p.paths p.prefix children
     → ((c : ℕ) (node : Node) → slice_get children c ≡ Some node → NodeCollected p f nearest node) → AllCollected p (record f { spans = more }) nearest
 kept_collected p comes value o fill later all below k [] h =
     is_settled (filled_here p comes value o fill k h)
   where
     filled_here : (p : Point) {j : ℕ} {orders : List ℕ} {f : Findings} {more : List (Option Span)} → ComesTo p → IsValue strict p.text p.place j
-        → IsOrders p.paths p.prefix orders → IsFilled orders f.spans more (p.place, j) → (k : ℕ) → IsPath p k []
-        → IsSettled p.rule p.text (record f { spans = more }) k (p.prefix ++ [])
+        → IsOrders p.paths p.prefix orders → AreSetTo orders f.spans more (p.place, j) → (k : ℕ) → IsPath p k []
+        → IsKnown p.rule p.text (record f { spans = more }) k (p.prefix ++ [])
     filled_here p {j} comes value o fill k h =
         let is : slice_get p.paths k ≡ Some p.prefix = rw (append-nil p.prefix) at h in
         was_found (comes.up [] (found p.place j) (found_here value)) (fill.filled k ((o.exact k).1 is))
@@ -242,7 +242,7 @@ kept_collected p comes value o fill later all below k (node ∷ rest) h =
 pub none_settled : (p : Point) {f : Findings} → AllCollected p f None → AllSettled p f
 none_settled p all k rest h = settled (all k rest h)
   where
-    settled : {t : List ℕ} {f : Findings} {k : ℕ} {path : Path} {rule : KeyRule} → IsCollected rule t f None k path → IsSettled rule t f k path
+    settled : {t : List ℕ} {f : Findings} {k : ℕ} {path : Path} {rule : KeyRule} → IsCollected rule t f None k path → IsKnown rule t f k path
     settled (is_settled x) = x
     settled (is_failed l n) = absurd n
 

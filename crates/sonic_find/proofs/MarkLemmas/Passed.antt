@@ -8,7 +8,7 @@ use Rattle.sonic_find.proofs.MarkLemmas.Seen.{nothing_seen, seen_other, seen_las
 use Rattle.sonic_find.proofs.PathLemmas.Lead.{node_or_other, named_kind, past_byte}
 use Rattle.sonic_find.proofs.WalkLemmas.Path.{contained, child_at}
 use Rattle.sonic_find.specs.Internal.Located.{IsStatus}
-use Rattle.sonic_find.specs.Internal.Marks.{Marking, IsMarkOf, AreMarks, KeptBeside, IsWholeMark, HasNoItems, ChildSays, says_none, says_twice, says_one, says_no_items, says_items, Says, SaysAll, IsPassedBy, IsMarked, Sight, none_seen, one_seen, two_seen, IsSeen, seen_none, seen_only, seen_twice, SightSays, sight_none, sight_one, sight_two, IsFollowing, AllFollowing, IsMarking, IsMarkedItem, IsClosed, IsLevel}
+use Rattle.sonic_find.specs.Internal.Marks.{Marking, IsMarkOf, AreMarks, KeptBeside, IsWholeMark, HasNoItems, ChildSays, says_none, says_twice, says_one, says_no_items, says_items, Says, SaysAll, IsPassedBy, IsMarked, Sight, none_seen, one_seen, two_seen, IsSeen, seen_none, seen_only, seen_twice, SightSays, sight_none, sight_one, sight_two, IsFollowing, AllFollowing, IsMarking, IsMarkedItem, IsClosed, IsWholeLevel}
 use Rattle.sonic_find.specs.Internal.Walk.{Container}
 use Rattle.sonic_find.specs.Paths.{kind_of, IsNamed}
 use Rattle.sonic_find.specs.declared.located.Located.{Located}
@@ -16,7 +16,7 @@ use Rattle.sonic_find.specs.declared.marks.Mark.{Mark}
 use Rattle.sonic_parser.specs.Containers.{IsEnd, IsSeparated}
 use Rattle.sonic_parser.specs.declared.status.ParseStatus.{ParseStatus}
 use Rattle.sonic_parser.specs.declared.status.ParseStatus.TheVariants.{None as NoNeed}
-use Rattle.sonic_pointer.specs.Paths.{IsChildren, HasNext}
+use Rattle.sonic_pointer.specs.Paths.{IsChildren, HasNextNode}
 use Rattle.sonic_pointer.specs.declared.rule.KeyRule.{KeyRule}
 use Rattle.sonic_pointer.specs.declared.rule.KeyRule.TheVariants.{First, Last, Refuse}
 use Rattle.sonic_text.proofs.Items.{closing_no_comma, opening_no_quote}
@@ -52,14 +52,14 @@ following_other {g} {a} {n} {h} {v} {node} {b} marks fit item other same kept x 
     record { sight = x.sight; seen = seen_other fits named other x.seen; says = sight_kept g marks (a.point.prefix ++ b ∷ []) kept x.says }
 
 -- after an item that is no child all children have other names
-pub none_following : {g : Marking} {a : Container} {n h v : ℕ} {node : Node} → IsLevel a → ItemsFit strict g.text a.kind a.point.place n h
-    → IsNamed g.text a.kind n h v node → ¬ HasNext a.point.paths a.point.prefix node → AllFollowing g a n → AllFollowing g a (n + 1)
+pub none_following : {g : Marking} {a : Container} {n h v : ℕ} {node : Node} → IsWholeLevel a → ItemsFit strict g.text a.kind a.point.place n h
+    → IsNamed g.text a.kind n h v node → ¬ HasNextNode a.point.paths a.point.prefix node → AllFollowing g a n → AllFollowing g a (n + 1)
 none_following {g} {a} {node = node} level fit item none all = λ c b is.
     let other : node ≢ b = (λ e. none (rw e ((level.children.exact b).0 (contained a.children c is)))) in
     following_other g.marks fit item other (level.kind c b is) (λ more n there. refl) (all c b is)
 
 -- after one that is, that one is known, and the marks of the others are kept
-pub child_following : {g : Marking} {a : Container} {n h v : ℕ} {node : Node} (marks : List Mark) → IsLevel a → ItemsFit strict g.text a.kind a.point.place n h
+pub child_following : {g : Marking} {a : Container} {n h v : ℕ} {node : Node} (marks : List Mark) → IsWholeLevel a → ItemsFit strict g.text a.kind a.point.place n h
     → IsNamed g.text a.kind n h v node → KeptBeside g marks (a.point.prefix ++ node ∷ []) → IsFollowing (with_marks g marks) a (n + 1) node → AllFollowing g a n
     → AllFollowing (with_marks g marks) a (n + 1)
 child_following {g} {a} {n} {node = node} marks level fit item beside this all = λ c b is. elim (node_or_other node b) [
@@ -139,8 +139,8 @@ repeated_following {g} {a} {n} {h} {v} {node} {m} now number refuses inside are 
         record { sight = two_seen q; seen = rw refuses (seen_twice_still y); says = sight_two new there (kept ∙ some) }
 
 -- an item that is no child is passed
-pub none_marked : {g : Marking} {a : Container} {n h v e : ℕ} {node : Node} → IsLevel a → IsMarking g a n h → IsNamed g.text a.kind n h v node
-    → ¬ HasNext a.point.paths a.point.prefix node → IsValue strict g.text v e → IsMarkedItem g a n h e
+pub none_marked : {g : Marking} {a : Container} {n h v e : ℕ} {node : Node} → IsWholeLevel a → IsMarking g a n h → IsNamed g.text a.kind n h v node
+    → ¬ HasNextNode a.point.paths a.point.prefix node → IsValue strict g.text v e → IsMarkedItem g a n h e
 none_marked {v = v} {node = node} level m item none value = record {
   are = later_are m.are (omega (arith, head-later item.head, value-longer value));
   fit = m.fit;
@@ -152,7 +152,7 @@ none_marked {v = v} {node = node} level m item none value = record {
 }
 
 -- so is one that is gathered
-pub gathered_marked : {g : Marking} {a : Container} {n h v e : ℕ} {node : Node} {m : Mark} (c : ℕ) (marks : List Mark) → IsLevel a → g.rule ≢ First
+pub gathered_marked : {g : Marking} {a : Container} {n h v e : ℕ} {node : Node} {m : Mark} (c : ℕ) (marks : List Mark) → IsWholeLevel a → g.rule ≢ First
     → (g.rule ≢ Refuse) ⊎ (m.value.start ≤ a.point.place) → IsMarking g a n h → IsMarkOf g (a.point.prefix ++ node ∷ []) m → IsNamed g.text a.kind n h v node
     → slice_get a.children c ≡ Some node → KeptBeside g marks (a.point.prefix ++ node ∷ [])
     → IsMarked (with_marks g marks) (a.point.prefix ++ node ∷ []) v e → IsMarkedItem (with_marks g marks) a n h e
@@ -167,7 +167,7 @@ gathered_marked {g} {v = v} {node = node} c marks level some counts m is item th
 }
 
 -- and one that is refused
-pub repeated_marked : {g : Marking} {a : Container} {n h v e : ℕ} {node : Node} {m : Mark} (c : ℕ) (now : Mark) (number : ℕ) → IsLevel a → g.rule ≡ Refuse
+pub repeated_marked : {g : Marking} {a : Container} {n h v e : ℕ} {node : Node} {m : Mark} (c : ℕ) (now : Mark) (number : ℕ) → IsWholeLevel a → g.rule ≡ Refuse
     → a.point.place < m.value.start → IsMarking g a n h → slice_get g.prefixes number ≡ Some (a.point.prefix ++ node ∷ []) → slice_get g.marks number ≡ Some m
     → now.value ≡ m.value → (m.again ≡ None → now.again ≡ Some h) → (m.again ≢ None → now.again ≡ m.again) → IsNamed g.text a.kind n h v node
     → slice_get a.children c ≡ Some node → IsValue strict g.text v e → IsMarkedItem (with_marks g (set g.marks number now)) a n h e
@@ -215,7 +215,7 @@ closed_child node whole most seen (sight_two is later again) =
     says_twice is later again x.refuses x.is x.twice
 
 -- so the container is closed
-pub closed_marking : {g : Marking} {a : Container} {n h e j : ℕ} → IsLevel a → IsMarkedItem g a n h e → IsEnd g.text a.kind e j → IsClosed g a j
+pub closed_marking : {g : Marking} {a : Container} {n h e j : ℕ} → IsWholeLevel a → IsMarkedItem g a n h e → IsEnd g.text a.kind e j → IsClosed g a j
 closed_marking {g} {a} {n} {e = e} level x k =
     let value = filled x.fit x.item.head x.value k.0 k.1 in
     let last = after_space_later g.text e in
@@ -267,7 +267,7 @@ passed_without are all value whole begins ends first none each = record {
 }
 
 -- one with items is passed when it has closed
-pub passed_with : {g : Marking} {a : Container} {place : ℕ} {m : Mark} → IsLevel a → IsChildren g.paths a.point.prefix a.children → IsClosed g a place → IsWholeMark g.text m → m.value.start ≡ a.point.place
+pub passed_with : {g : Marking} {a : Container} {place : ℕ} {m : Mark} → IsWholeLevel a → IsChildren g.paths a.point.prefix a.children → IsClosed g a place → IsWholeMark g.text m → m.value.start ≡ a.point.place
     → m.value.end ≡ place → m.again ≡ None → m.has_items ≡ true → IsPassedBy g a.point.prefix a.children a.point.place place m
 passed_with level all x whole begins ends first has = record {
   are = x.are;

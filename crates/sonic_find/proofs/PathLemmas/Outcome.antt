@@ -1,5 +1,5 @@
 -- A path has one outcome, which ends inside the value where the path begins, and two that mix nowhere fail at one place for one reason.
-use Rattle.std.proofs.Common.{◌≡◌, inl, inr, ℕ, List, [], ◌∷◌, refl, ◌≢◌, ◌+◌, ◌<◌, arith, ◌-◌, ◌≤◌, ◌==◌, ◌&&◌, Bool, true, false, if◌then◌else◌, ◌⊎◌, ap, sym}
+use Rattle.std.proofs.Common.{◌≡◌, inl, inr, ℕ, List, [], ◌∷◌, ◌++◌, refl, ◌≢◌, ◌+◌, ◌<◌, arith, ◌-◌, ◌≤◌, ◌==◌, ◌&&◌, Bool, true, false, if◌then◌else◌, ◌⊎◌, ap, sym}
 use Rattle.std.proofs.lemmas.Bool.{cases_order}
 use Rattle.std.proofs.lemmas.Bool.Decides.{nat_tests}
 use Rattle.std.specs.Prelude.{Option}
@@ -8,7 +8,7 @@ use Rattle.sonic_error.specs.declared.code.ErrorCode.TheVariants.{Message}
 use Rattle.sonic_error.specs.declared.json_type.Note.TheVariants.{Mismatch}
 use Rattle.sonic_find.proofs.PathLemmas.Lead.{named_one}
 use Rattle.sonic_find.proofs.PathLemmas.Rule.{NamesItem, first_named, by_named, by_first, leads_by_one, only_no_repeats, repeats_one, ByRule, leads_there, repeats_there, nowhere_there, by_rule, by_rule_or_not, EndsBefore, item_ends}
-use Rattle.sonic_find.specs.Laws.{ExactlyOne, MixNowhere}
+use Rattle.sonic_find.specs.Laws.{ExactlyOne}
 use Rattle.sonic_find.specs.Paths.{Outcome, Evaluates, EvaluatesBy, LeadsBy, Repeats, fails, kind_of, IsNamed, NoneNamed, LeadsOn, found, lacks, cut, fails_at, past_end, nowhere, empty_code, wanted_of}
 use Rattle.sonic_find.specs.Paths.EvaluatesBy.{found_here, goes_on, repeats, leads_nowhere, cut_here, cut_before}
 use Rattle.sonic_pointer.specs.declared.rule.KeyRule.{KeyRule}
@@ -240,6 +240,10 @@ fails_inside {t = t} b p {i} {j} {r = r} l a x e =
     let part = part_named l x in
     let last : r.place ≡ j - 1 = rw (← e) at (nowhere_ends t i (j - 1) (kind_of b)) in
     omega (arith, ends_before_end p a part.1 refl, last, part.2)
+
+-- after each prefix that the two paths share, their next nodes ask for one kind of container: both are keys, or both indexes
+abbrev pub MixNowhere : List Node → List Node → Type 0
+MixNowhere p q = (prefix r s : List Node) (a b : Node) → p ≡ prefix ++ a ∷ r → q ≡ prefix ++ b ∷ s → kind_of a ≡ kind_of b
 
 -- the paths after a node that both begin with mix nowhere either
 mix_after : (a b : Node) (p q : List Node) → MixNowhere (a ∷ p) (b ∷ q) → a ≡ b → MixNowhere p q

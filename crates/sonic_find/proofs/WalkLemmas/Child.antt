@@ -10,10 +10,10 @@ use Rattle.sonic_find.proofs.PathLemmas.Outcome.{by_one, fails_later_by, down_by
 use Rattle.sonic_find.proofs.WalkLemmas.List.{still_open, set_elsewhere}
 use Rattle.sonic_find.proofs.WalkLemmas.Path.{contained, path_of_child, child_one, path_down, path_up, comes_down, settled_up, still_settled, cut_stops, stopped_up, FailsOrFaulty, fails_or_faulty}
 use Rattle.sonic_find.proofs.WalkLemmas.Step.{OpenStopped, open_nearest, open_cause, wanted_cause, none_in_value}
-use Rattle.sonic_find.specs.Internal.Walk.{Findings, child_point, ComesTo, IsLater, AllSettled, IsCause, path_stops, value_stops, IsStop, Container, Progress, SomeOpen, IsOpen, IsWanted, IsContainer, IsFollowed, IsPassed, IsItem}
+use Rattle.sonic_find.specs.Internal.Walk.{Findings, child_point, ComesTo, IsLater, AllSettled, IsCause, path_stops, value_stops, IsStop, Container, Progress, SomeOpen, IsUnvisited, IsWanted, IsContainer, IsFollowed, IsItemPassed, IsChildItem}
 use Rattle.sonic_find.specs.Paths.{fails, cut, kind_of, IsNamed, LeadsBy, EvaluatesBy}
 use Rattle.sonic_find.specs.Paths.EvaluatesBy.{cut_before}
-use Rattle.sonic_pointer.specs.Paths.{HasPrefix}
+use Rattle.sonic_pointer.specs.Internal.Prefixes.{HasPrefix}
 use Rattle.sonic_text.specs.Paths.{Node, Path}
 use Rattle.sonic_text.specs.Strings.{strict}
 use Rattle.sonic_text.specs.Values.{IsValue}
@@ -32,7 +32,7 @@ pub record IsVisit (a : Container) (g : Progress) (v child : ℕ) : Type 0 where
   pub unvisited : slice_get g.visited child ≡ Some false
 
 -- so it is of an item whose child was not visited
-pub is_visit : {a : Container} {g : Progress} {v child : ℕ} (number : Option ℕ) → IsFollowed a g → IsItem a g.passed g.next v number
+pub is_visit : {a : Container} {g : Progress} {v child : ℕ} (number : Option ℕ) → IsFollowed a g → IsChildItem a g.passed g.next v number
     → (number ≡ Some child) × (slice_get g.visited child ≡ Some false) → IsVisit a g v child
 is_visit number before x found =
     let y = rw found.0 at x in
@@ -64,15 +64,15 @@ child_prefix {a} {v = v} {child} m =
     record { rest = p.rest; path = contained a.point.paths p.number (path_down a.point p.number m.node p.rest v p.is) }
 
 -- a child that is open after the visit is another, and was open before
-another : {a : Container} {g : Progress} {v child : ℕ} {other : Node} (m : IsVisit a g v child) → IsOpen a (set g.visited child true) other
-    → (m.node ≢ other) × IsOpen a g.visited other
+another : {a : Container} {g : Progress} {v child : ℕ} {other : Node} (m : IsVisit a g v child) → IsUnvisited a (set g.visited child true) other
+    → (m.node ≢ other) × IsUnvisited a g.visited other
 another {g = g} {child = child} m o =
     let was = still_open g.visited child o.0 (slice_get_within g.visited child false m.unvisited) o.1 in
     (λ same. was.0 (child_one o.0 child m.node m.before.container.children (rw (sym same) at o.2) m.is), (o.0, was.1, o.2))
 
 -- a child that was open is the one that is visited, or stays open
-one_or_open : {a : Container} {g : Progress} {v child : ℕ} {node : Node} (m : IsVisit a g v child) → IsOpen a g.visited node
-    → (m.node ≡ node) ⊎ IsOpen a (set g.visited child true) node
+one_or_open : {a : Container} {g : Progress} {v child : ℕ} {node : Node} (m : IsVisit a g v child) → IsUnvisited a g.visited node
+    → (m.node ≡ node) ⊎ IsUnvisited a (set g.visited child true) node
 one_or_open {a} {g} {child = child} {node} m o = elim (cases_eq o.0 child) [
   | inl same ↦ (let there : slice_get a.children child ≡ Some node = rw same at o.2 in inl (cc (m.is, there)))
   | inr other ↦ inr (o.0, set_elsewhere g.visited child o.0 true other ∙ o.1, o.2)
@@ -101,13 +101,13 @@ followed_after {a} {g} {v} {child} m later settled = record {
 pub child_passed : {a : Container} {g : Progress} {v child e : ℕ} {f : Findings} (m : IsVisit a g v child)
     → IsLater a.point.rule a.point.text a.point.paths g.findings f → AllSettled (child_point a.point m.node v) f
     → (IsWanted a (record g { visited = set g.visited child true; findings = f }) → IsValue strict a.point.text v e)
-    → IsPassed a (record g { visited = set g.visited child true; findings = f }) e
+    → IsItemPassed a (record g { visited = set g.visited child true; findings = f }) e
 child_passed {v = v} m later settled value =
     record { before = followed_after m later settled; value_start = v; node = m.node; head = m.head; value = value; closed = λ o. (another m o).0 refl }
 
 -- what stops in the child's value comes before each fail of another child
 other_later : {a : Container} {g : Progress} {v child : ℕ} {other : Node} {s r : Stop} (rest : Path) (m : IsVisit a g v child) → m.node ≢ other
-    → IsOpen a g.visited other → EvaluatesBy a.point.rule a.point.text a.point.place (other ∷ rest) (fails r) → FailsOrFaulty (child_point a.point m.node v) s
+    → IsUnvisited a g.visited other → EvaluatesBy a.point.rule a.point.text a.point.place (other ∷ rest) (fails r) → FailsOrFaulty (child_point a.point m.node v) s
     → s.place < r.place
 other_later {a} {other = other} rest m differ o e (inl x) =
     fails_later_by x.0 rest (m.before.unvisited other o) m.head differ (by_named a.point.rule m.node (visits m)) x.1 e

@@ -12,7 +12,7 @@ use Rattle.sonic_find.proofs.WalkLemmas.Start.{cut_at_end}
 use Rattle.sonic_find.proofs.WalkLemmas.Step.{OpenStopped, open_node, open_cause, open_stops, none_ahead}
 use Rattle.sonic_find.specs.Answers.{Span}
 use Rattle.sonic_find.specs.Internal.Located.{IsStatus, HaveStatuses}
-use Rattle.sonic_find.specs.Internal.Walk.{Findings, Point, ComesTo, IsPath, AreFindings, IsLater, IsSettled, was_found, was_lacked, BelowSettled, IsCause, value_stops, path_stops, IsStop, fails_so, SomeLack, Container, Progress, SomeOpen, IsOpen, IsWanted, IsPassed, IsFilled}
+use Rattle.sonic_find.specs.Internal.Walk.{Findings, Point, ComesTo, IsPath, AreFindings, IsLater, IsKnown, was_found, was_lacked, BelowSettled, IsCause, value_stops, path_stops, IsStop, fails_so, SomeLack, Container, Progress, SomeOpen, IsUnvisited, IsWanted, IsItemPassed, AreSetTo}
 use Rattle.sonic_find.specs.declared.located.Located.{Located}
 use Rattle.sonic_find.specs.Paths.{found, lacks, past_end, EvaluatesBy, LeadsUnder}
 use Rattle.sonic_find.specs.Paths.EvaluatesBy.{found_here, leads_nowhere}
@@ -30,20 +30,20 @@ use Rattle.sonic_text.specs.declared.stop.Stop.{Stop}
 use Rattle.sonic_pointer.specs.declared.rule.KeyRule.{KeyRule}
 
 -- the whole value, where the closing bracket follows an item
-pub whole_there : {a : Container} {g : Progress} {e j : ℕ} → IsPassed a g e → IsWanted a g → IsEnd a.point.text a.kind e j
+pub whole_there : {a : Container} {g : Progress} {e j : ℕ} → IsItemPassed a g e → IsWanted a g → IsEnd a.point.text a.kind e j
     → IsValue strict a.point.text a.point.place j
 whole_there p wanted k = filled p.before.fit p.head.head (p.value wanted) k.0 k.1
 
 -- a child that was not visited is past the container's end
-past_there : {a : Container} {g : Progress} {e j : ℕ} {node : Node} (rest : Path) → IsPassed a g e → IsWanted a g → IsEnd a.point.text a.kind e j
-    → IsOpen a g.visited node → EvaluatesBy a.point.rule a.point.text a.point.place (node ∷ rest) (past_end a.kind (j - 1))
+past_there : {a : Container} {g : Progress} {e j : ℕ} {node : Node} (rest : Path) → IsItemPassed a g e → IsWanted a g → IsEnd a.point.text a.kind e j
+    → IsUnvisited a g.visited node → EvaluatesBy a.point.rule a.point.text a.point.place (node ∷ rest) (past_end a.kind (j - 1))
 past_there {a} {j = j} {node} rest p wanted k o =
     let past = nowhere_past a.point.text a.point.place (j - 1) a.kind (items_open p.before.fit) (items_not_empty p.before.fit) in
     leads_nowhere (whole_there p wanted k) (λ v. none_ahead p wanted (λ e. closing_no_comma a.kind (sym k.0 ∙ e)) node v o)
     (rw (p.before.container.kind o.0 node o.2, past) refl)
 
 -- which stops the walk where it is an index
-pub close_stops : {a : Container} {g : Progress} {e j : ℕ} {s : Stop} → IsPassed a g e → IsWanted a g → IsEnd a.point.text a.kind e j
+pub close_stops : {a : Container} {g : Progress} {e j : ℕ} {s : Stop} → IsItemPassed a g e → IsWanted a g → IsEnd a.point.text a.kind e j
     → SomeOpen g.visited → a.kind ≡ Array → s ≡ record { place = j - 1; code = GetIndexOutOfArray } → IsStop a.point a.needs s
 close_stops {a} {g} {j = j} {s} p wanted k x array is_stop =
     let all : OpenStopped a g.visited s =
@@ -51,13 +51,13 @@ close_stops {a} {g} {j = j} {s} p wanted k x array is_stop =
     open_stops p.before all (open_cause g.visited p.before.container p.before.long all x)
 
 -- and lacks where it is a key
-lacks_there : {a : Container} {g : Progress} {e j : ℕ} {node : Node} (rest : Path) → IsPassed a g e → IsWanted a g → IsEnd a.point.text a.kind e j
-    → IsOpen a g.visited node → a.kind ≡ Object → LeadsUnder a.point.rule a.point.text (a.point.prefix ++ node ∷ rest) (lacks (j - 1))
+lacks_there : {a : Container} {g : Progress} {e j : ℕ} {node : Node} (rest : Path) → IsItemPassed a g e → IsWanted a g → IsEnd a.point.text a.kind e j
+    → IsUnvisited a g.visited node → a.kind ≡ Object → LeadsUnder a.point.rule a.point.text (a.point.prefix ++ node ∷ rest) (lacks (j - 1))
 lacks_there {j = j} {node} rest p wanted k o object =
     p.before.container.comes.up (node ∷ rest) (lacks (j - 1)) (rw object at (past_there rest p wanted k o))
 
 -- so some path does
-some_lack : {a : Container} {g : Progress} {e j : ℕ} → IsPassed a g e → IsWanted a g → IsEnd a.point.text a.kind e j → SomeOpen g.visited
+some_lack : {a : Container} {g : Progress} {e j : ℕ} → IsItemPassed a g e → IsWanted a g → IsEnd a.point.text a.kind e j → SomeOpen g.visited
     → a.kind ≡ Object → SomeLack a.point.rule a.point.text a.point.paths
 some_lack {a} {g} {j = j} p wanted k x object =
     let o = open_node a g.visited p.before.long x in
@@ -71,7 +71,7 @@ some_lack {a} {g} {j = j} p wanted k x object =
     }
 
 -- where that is noted, what was found is true
-pub close_later : {a : Container} {g : Progress} {e j : ℕ} {lacking : Bool} → IsPassed a g e → IsWanted a g → IsEnd a.point.text a.kind e j
+pub close_later : {a : Container} {g : Progress} {e j : ℕ} {lacking : Bool} → IsItemPassed a g e → IsWanted a g → IsEnd a.point.text a.kind e j
     → (SomeOpen g.visited → (a.kind ≡ Object) × (lacking ≡ true)) → (lacking ≡ true → (g.findings.lacking ≡ true) ⊎ SomeOpen g.visited)
     → (g.findings.lacking ≡ true → lacking ≡ true) → IsLater a.point.rule a.point.text a.point.paths g.findings (record g.findings { lacking = lacking })
 close_later p wanted k noted lack still = record {
@@ -85,7 +85,7 @@ close_later p wanted k noted lack still = record {
 }
 
 -- and the paths below are settled
-pub close_settled : {a : Container} {g : Progress} {e j : ℕ} {lacking : Bool} → IsPassed a g e → IsWanted a g → IsEnd a.point.text a.kind e j
+pub close_settled : {a : Container} {g : Progress} {e j : ℕ} {lacking : Bool} → IsItemPassed a g e → IsWanted a g → IsEnd a.point.text a.kind e j
     → (SomeOpen g.visited → (a.kind ≡ Object) × (lacking ≡ true))
     → IsLater a.point.rule a.point.text a.point.paths g.findings (record g.findings { lacking = lacking }) → BelowSettled a.point (record g.findings { lacking = lacking })
 close_settled p wanted k noted later = λ n node rest h. elim (p.before.settled n node rest h) [
@@ -94,7 +94,7 @@ close_settled p wanted k noted later = λ n node rest h. elim (p.before.settled 
 ]
 
 -- where each child was visited, they are
-pub done_settled : {a : Container} {g : Progress} {e : ℕ} → IsPassed a g e → ¬ SomeOpen g.visited → BelowSettled a.point g.findings
+pub done_settled : {a : Container} {g : Progress} {e : ℕ} → IsItemPassed a g e → ¬ SomeOpen g.visited → BelowSettled a.point g.findings
 done_settled p none = λ k node rest h. elim (p.before.settled k node rest h) [ inr done ↦ done | inl o ↦ absurd (none (o.0, o.1)) ]
 
 -- a container is no string with a backslash
@@ -107,7 +107,7 @@ pub order_within : {t : List ℕ} {paths : List Path} {prefix : Path} {orders : 
 order_within {paths = paths} {prefix} k o are h = omega (arith, slice_get_within paths k prefix ((o.exact k).0 h), are.long)
 
 -- where a value with its status is kept, each value has its status
-pub filled_statuses : (t : List ℕ) {orders : List ℕ} {before now : List (Option Located)} {x : Located} → IsFilled orders before now x → HaveStatuses t before
+pub filled_statuses : (t : List ℕ) {orders : List ℕ} {before now : List (Option Located)} {x : Located} → AreSetTo orders before now x → HaveStatuses t before
     → IsStatus t x.start x.end x.status → HaveStatuses t now
 filled_statuses t {x = x} fill have is = λ k y h. elim (fill.each k) [
   | inl same ↦ have k y (sym same ∙ h)
@@ -124,7 +124,7 @@ prefix_found {p} {j} comes x =
 
 -- where the value's span is kept for the paths that end at it, what was found is true and kept
 pub filled_later : {p : Point} {j : ℕ} {orders : List ℕ} {f : Findings} {more : List (Option Span)} → ComesTo p → IsValue strict p.text p.place j
-    → IsOrders p.paths p.prefix orders → AreFindings p.rule p.text p.paths f → IsFilled orders f.spans more (p.place, j)
+    → IsOrders p.paths p.prefix orders → AreFindings p.rule p.text p.paths f → AreSetTo orders f.spans more (p.place, j)
     → IsLater p.rule p.text p.paths f (record f { spans = more })
 filled_later {p} {j} comes x o are fill = record {
   are = record {
@@ -153,8 +153,8 @@ filled_later {p} {j} comes x o are fill = record {
 
 -- and the paths with the prefix are settled
 pub filled_settled : (p : Point) {j : ℕ} {orders : List ℕ} {f : Findings} {more : List (Option Span)} → ComesTo p → IsValue strict p.text p.place j
-    → IsOrders p.paths p.prefix orders → IsFilled orders f.spans more (p.place, j) → IsLater p.rule p.text p.paths f (record f { spans = more }) → BelowSettled p f
-    → (k : ℕ) (rest : Path) → IsPath p k rest → IsSettled p.rule p.text (record f { spans = more }) k (p.prefix ++ rest)
+    → IsOrders p.paths p.prefix orders → AreSetTo orders f.spans more (p.place, j) → IsLater p.rule p.text p.paths f (record f { spans = more }) → BelowSettled p f
+    → (k : ℕ) (rest : Path) → IsPath p k rest → IsKnown p.rule p.text (record f { spans = more }) k (p.prefix ++ rest)
 filled_settled p {j} comes x o fill later below k [] h =
     let is : slice_get p.paths k ≡ Some p.prefix = rw (append-nil p.prefix) at h in
     was_found (comes.up [] (found p.place j) (found_here x)) (fill.filled k ((o.exact k).1 is))
@@ -162,7 +162,7 @@ filled_settled p comes x o fill later below k (node ∷ rest) h = still_settled 
 
 -- where no path ends at the prefix, they are without
 pub early_settled : (p : Point) {orders : List ℕ} {f : Findings} → IsOrders p.paths p.prefix orders → orders ≡ [] → BelowSettled p f
-    → (k : ℕ) (rest : Path) → IsPath p k rest → IsSettled p.rule p.text f k (p.prefix ++ rest)
+    → (k : ℕ) (rest : Path) → IsPath p k rest → IsKnown p.rule p.text f k (p.prefix ++ rest)
 early_settled p o none below k [] h =
     let is : slice_get p.paths k ≡ Some p.prefix = rw (append-nil p.prefix) at h in
     let there : Contains [] k = rw none at ((o.exact k).1 is) in

@@ -6,7 +6,7 @@ use Rattle.std.proofs.lemmas.List.Elements.{Contains-append_left, Contains-push_
 use Rattle.std.proofs.lemmas.List.Sums.{sum_by-cons, sum_by-set}
 use Rattle.std.proofs.lemmas.Option.{slice_get_within, get_or_from_slice_get, slice_get-map}
 use Rattle.std.specs.Prelude.{Some, slice_get, count_by, not, cond, Option, map, option_map}
-use Rattle.sonic_find.specs.Internal.Walk.{SomeOpen, IsFilled}
+use Rattle.sonic_find.specs.Internal.Walk.{SomeOpen, AreSetTo}
 
 -- what is set is there
 pub set_here : {X : Type 0} (xs : List X) (i : ℕ) (a : X) → i < length xs → slice_get (set xs i a) i ≡ Some a
@@ -79,7 +79,7 @@ one_less visited child h =
     omega (arith, counts)
 
 -- for no number
-pub fill_none : {X : Type 0} (xs : List (Option X)) (x : X) → IsFilled [] xs xs x
+pub fill_none : {X : Type 0} (xs : List (Option X)) (x : X) → AreSetTo [] xs xs x
 fill_none xs x = record {
   long = refl;
   filled = λ k some. (let l : some.0 < 0 = some.1 in absurd (omega arith));
@@ -87,8 +87,8 @@ fill_none xs x = record {
 }
 
 -- for one more
-pub fill_more : {X : Type 0} {os : List ℕ} {before now : List (Option X)} {x : X} (o : ℕ) → IsFilled os before now x → o < length before
-    → IsFilled (os ++ o ∷ []) before (set now o (Some x)) x
+pub fill_more : {X : Type 0} {os : List ℕ} {before now : List (Option X)} {x : X} (o : ℕ) → AreSetTo os before now x → o < length before
+    → AreSetTo (os ++ o ∷ []) before (set now o (Some x)) x
 fill_more {os = os} {before} {now} {x} o f l =
     let within : o < length now = omega (arith, f.long) in
     record {
@@ -113,8 +113,8 @@ fill_more {os = os} {before} {now} {x} o f l =
 pub ruleset fillings = (fill_none, fill_more)
 
 -- what is kept of values is kept of what is read off them
-pub fill_mapped : {X Y : Type 0} (f : X → Y) {os : List ℕ} {before now : List (Option X)} {x : X} → IsFilled os before now x
-    → IsFilled os (map (option_map f) before) (map (option_map f) now) (f x)
+pub fill_mapped : {X Y : Type 0} (f : X → Y) {os : List ℕ} {before now : List (Option X)} {x : X} → AreSetTo os before now x
+    → AreSetTo os (map (option_map f) before) (map (option_map f) now) (f x)
 fill_mapped f {before = before} {now} {x} h = record {
   long = length-map now (option_map f) ∙ (h.long ∙ sym (length-map before (option_map f)));
   filled = λ k c. slice_get-map (option_map f) now k ∙ ap (option_map (option_map f)) (h.filled k c);

@@ -6,7 +6,7 @@ use Rattle.std.specs.List.{Contains}
 use Rattle.std.specs.Prelude.{Some, slice_get}
 use Rattle.sonic_find.proofs.PathLemmas.Rule.{by_first, by_fault}
 use Rattle.sonic_find.proofs.PathLemmas.Outcome.{cut_is_fault, by_one}
-use Rattle.sonic_find.specs.Internal.Walk.{Findings, Point, child_point, IsPath, AreFindings, IsLater, IsSettled, was_found, was_lacked, AllSettled, ComesTo, IsStopped, fails_so, cut_so, IsCause, path_stops, value_stops}
+use Rattle.sonic_find.specs.Internal.Walk.{Findings, Point, child_point, IsPath, AreFindings, IsLater, IsKnown, was_found, was_lacked, AllSettled, ComesTo, IsPathStop, fails_so, cut_so, IsCause, path_stops, value_stops}
 use Rattle.sonic_find.specs.Paths.{found, lacks, fails, cut, LeadsOn, LeadsBy, EvaluatesBy}
 use Rattle.sonic_find.specs.Paths.EvaluatesBy.{goes_on, cut_before}
 use Rattle.sonic_pointer.specs.Paths.{IsChildren}
@@ -76,11 +76,11 @@ comes_down {p} node comes l = record {
 
 -- where the paths of a child are settled, each of them is
 pub settled_up : (p : Point) (v : ℕ) {f : Findings} (k : ℕ) (node : Node) (rest : Path) → AllSettled (child_point p node v) f → IsPath p k (node ∷ rest)
-    → IsSettled p.rule p.text f k (p.prefix ++ node ∷ rest)
+    → IsKnown p.rule p.text f k (p.prefix ++ node ∷ rest)
 settled_up p v k node rest all h = rw append_assoc at (all k rest (path_down p k node rest v h))
 
 -- what is settled fails nowhere
-pub settled_no_fail : {p : Point} {rest : Path} {k : ℕ} {f : Findings} {r : Stop} → ComesTo p → IsSettled p.rule p.text f k (p.prefix ++ rest)
+pub settled_no_fail : {p : Point} {rest : Path} {k : ℕ} {f : Findings} {r : Stop} → ComesTo p → IsKnown p.rule p.text f k (p.prefix ++ rest)
     → ¬ EvaluatesBy p.rule p.text p.place rest (fails r)
 settled_no_fail {p} {rest} {r = r} comes (was_found {i} {j} l h) e =
     let same : found i j ≡ fails r = by_one (p.prefix ++ rest) l (comes.up rest (fails r) e) in
@@ -90,8 +90,8 @@ settled_no_fail {p} {rest} {r = r} comes (was_lacked {q} l h) e =
     absurd cc
 
 -- what is settled stays so
-pub still_settled : {t : List ℕ} {paths : List Path} {before now : Findings} {k : ℕ} {path : Path} {rule : KeyRule} → IsLater rule t paths before now → IsSettled rule t before k path
-    → IsSettled rule t now k path
+pub still_settled : {t : List ℕ} {paths : List Path} {before now : Findings} {k : ℕ} {path : Path} {rule : KeyRule} → IsLater rule t paths before now → IsKnown rule t before k path
+    → IsKnown rule t now k path
 still_settled {k = k} g (was_found {i} {j} l h) = was_found l (g.kept k i j h)
 still_settled g (was_lacked l h) = was_lacked l (g.lack h)
 
@@ -105,16 +105,16 @@ later_twice f g = record { are = g.are; kept = λ k i j h. g.kept k i j (f.kept 
 
 -- a path whose node leads nowhere is cut by the value's fault
 pub cut_stops : {t : List ℕ} {i : ℕ} {node : Node} {rest : Path} {s : Stop} {rule : KeyRule} → IsFault strict t i s → ((v : ℕ) → ¬ LeadsOn t i node v)
-    → IsStopped rule t i (node ∷ rest) s
+    → IsPathStop rule t i (node ∷ rest) s
 cut_stops {node = node} {rule = rule} f none = cut_so (cut_before f (λ v l. by_first rule node v l none))
 
 -- a path is stopped where its rest is
-pub stopped_up : {t : List ℕ} {i v : ℕ} {node : Node} {rest : Path} {s : Stop} {rule : KeyRule} → LeadsBy rule t i node v → IsStopped rule t v rest s → IsStopped rule t i (node ∷ rest) s
+pub stopped_up : {t : List ℕ} {i v : ℕ} {node : Node} {rest : Path} {s : Stop} {rule : KeyRule} → LeadsBy rule t i node v → IsPathStop rule t v rest s → IsPathStop rule t i (node ∷ rest) s
 stopped_up l (fails_so e) = fails_so (goes_on l e)
 stopped_up l (cut_so e) = cut_so (goes_on l e)
 
 -- a path that fails is stopped so, and nowhere else
-pub stopped_one : {t : List ℕ} {i : ℕ} {r s : Stop} {rule : KeyRule} (path : Path) → EvaluatesBy rule t i path (fails r) → IsStopped rule t i path s → r ≡ s
+pub stopped_one : {t : List ℕ} {i : ℕ} {r s : Stop} {rule : KeyRule} (path : Path) → EvaluatesBy rule t i path (fails r) → IsPathStop rule t i path s → r ≡ s
 stopped_one {r = r} {s} path e (fails_so x) = let same : fails r ≡ fails s = by_one path e x in cc
 stopped_one {r = r} {s} path e (cut_so x) = let same : fails r ≡ cut s = by_one path e x in absurd cc
 

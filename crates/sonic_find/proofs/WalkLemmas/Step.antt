@@ -5,7 +5,7 @@ use Rattle.std.specs.Prelude.{Option, Some, None, IfSome, slice_get}
 use Rattle.sonic_find.proofs.PathLemmas.Lead.{none_leads, one_more_unnamed, not_named, past_value, past_byte, past_key}
 use Rattle.sonic_find.proofs.WalkLemmas.List.{some_there}
 use Rattle.sonic_find.proofs.WalkLemmas.Path.{contained, path_of_child, child_one, settled_no_fail, cut_stops, stopped_one}
-use Rattle.sonic_find.specs.Internal.Walk.{IsPath, AreFindings, IsStopped, IsCause, path_stops, value_stops, IsStop, Container, Progress, IsContainer, SomeOpen, IsOpen, IsWanted, IsFollowed, IsPassed, IsChildOf}
+use Rattle.sonic_find.specs.Internal.Walk.{IsPath, AreFindings, IsPathStop, IsCause, path_stops, value_stops, IsStop, Container, Progress, IsContainer, SomeOpen, IsUnvisited, IsWanted, IsFollowed, IsItemPassed, IsChildOf}
 use Rattle.sonic_find.specs.Paths.{fails, IsNamed, LeadsOn, EvaluatesBy}
 use Rattle.sonic_parser.specs.Containers.{IsSeparated, IsSeparatorFault}
 use Rattle.sonic_text.proofs.Items.{head_never_both}
@@ -21,7 +21,7 @@ use Rattle.sonic_text.specs.declared.stop.Stop.{Stop}
 
 -- where some child was not visited, it is a node
 pub open_node : (a : Container) (visited : List Bool) → length visited ≡ length a.children → (x : SomeOpen visited)
-    → (node : Node) × IsOpen a visited node
+    → (node : Node) × IsUnvisited a visited node
 open_node a visited long x =
     let within : x.0 < length a.children = omega (arith, slice_get_within visited x.0 false x.1, long) in
     let node = some_there a.children x.0 within in
@@ -29,7 +29,7 @@ open_node a visited long x =
 
 -- no path fails before a stop where none does that goes on by a child that was not visited
 pub open_nearest : {a : Container} {g : Progress} {s : Stop} → IsFollowed a g
-    → ((k : ℕ) (node : Node) (rest : Path) (r : Stop) → IsPath a.point k (node ∷ rest) → IsOpen a g.visited node
+    → ((k : ℕ) (node : Node) (rest : Path) (r : Stop) → IsPath a.point k (node ∷ rest) → IsUnvisited a g.visited node
     → EvaluatesBy a.point.rule a.point.text a.point.place (node ∷ rest) (fails r) → (r ≡ s) ⊎ (s.place < r.place))
     → (k : ℕ) (rest : Path) (r : Stop) → IsPath a.point k rest → EvaluatesBy a.point.rule a.point.text a.point.place rest (fails r) → (r ≡ s) ⊎ (s.place < r.place)
 open_nearest l all k [] r h e = elim e [ ]
@@ -40,7 +40,7 @@ open_nearest l all k (node ∷ rest) r h e = elim (l.settled k node rest h) [
 
 -- each path that goes on by a child that was not visited is stopped so
 abbrev pub OpenStopped : Container → List Bool → Stop → Type 0
-OpenStopped a visited s = (node : Node) (rest : Path) → IsOpen a visited node → IsStopped a.point.rule a.point.text a.point.place (node ∷ rest) s
+OpenStopped a visited s = (node : Node) (rest : Path) → IsUnvisited a visited node → IsPathStop a.point.rule a.point.text a.point.place (node ∷ rest) s
 
 -- and if there is one, it is the cause
 pub open_cause : {a : Container} {s : Stop} (visited : List Bool) → IsContainer a → length visited ≡ length a.children → OpenStopped a visited s
@@ -63,7 +63,7 @@ wanted_cause a g are f ahead (inr (inr x)) = ahead x
 
 -- a child that was not visited leads nowhere
 abbrev pub NoneAhead : Container → List Bool → Type 0
-NoneAhead a visited = (node : Node) (v : ℕ) → IsOpen a visited node → ¬ LeadsOn a.point.text a.point.place node v
+NoneAhead a visited = (node : Node) (v : ℕ) → IsUnvisited a visited node → ¬ LeadsOn a.point.text a.point.place node v
 
 -- then a fault stops the walk
 fault_stops : {a : Container} {g : Progress} {s : Stop} → IsFollowed a g → IsWanted a g → IsFault strict a.point.text a.point.place s
@@ -82,34 +82,34 @@ key_stops {a} {g} l wanted e f =
 
 -- where the item's value has a fault, another child leads nowhere
 pub none_in_value : {a : Container} {g : Progress} {v : ℕ} {node other : Node} {s : Stop} → IsFollowed a g
-    → IsNamed a.point.text a.kind g.passed g.next v node → IsFault strict a.point.text v s → node ≢ other → IsOpen a g.visited other
+    → IsNamed a.point.text a.kind g.passed g.next v node → IsFault strict a.point.text v s → node ≢ other → IsUnvisited a g.visited other
     → (w : ℕ) → ¬ LeadsOn a.point.text a.point.place other w
 none_in_value {other = other} l head f differ o = none_leads (l.unvisited other o) (not_named head differ) (past_value l.fit head f)
 
 -- a node that was not visited is none that was
-other_node : (a : Container) (visited : List Bool) {node other : Node} → ¬ IsOpen a visited node → IsOpen a visited other → node ≢ other
+other_node : (a : Container) (visited : List Bool) {node other : Node} → ¬ IsUnvisited a visited node → IsUnvisited a visited other → node ≢ other
 other_node a visited closed o same = closed (rw same o)
 
 -- a fault of the value of an item that is not followed
 pub skip_stops : {a : Container} {g : Progress} {v : ℕ} {node : Node} {s : Stop} → IsFollowed a g → IsWanted a g
-    → IsNamed a.point.text a.kind g.passed g.next v node → ¬ IsOpen a g.visited node → IsFault strict a.point.text v s → IsStop a.point a.needs s
+    → IsNamed a.point.text a.kind g.passed g.next v node → ¬ IsUnvisited a g.visited node → IsFault strict a.point.text v s → IsStop a.point a.needs s
 skip_stops {a} {g} l wanted head closed f =
     fault_stops l wanted (in_value l.fit head.head f) (λ other w o. none_in_value l head f (other_node a g.visited closed o) o w)
 
 -- after the item no child that was not visited leads on where no comma follows
-pub none_ahead : {a : Container} {g : Progress} {e : ℕ} → IsPassed a g e → IsWanted a g → byte a.point.text (after_space a.point.text e) ≢ 44
+pub none_ahead : {a : Container} {g : Progress} {e : ℕ} → IsItemPassed a g e → IsWanted a g → byte a.point.text (after_space a.point.text e) ≢ 44
     → NoneAhead a g.visited
 none_ahead {a} {g} p wanted comma = λ other w o.
     none_leads (p.before.unvisited other o) (not_named p.head (other_node a g.visited p.closed o)) (past_byte p.before.fit p.head (p.value wanted) comma) w
 
 -- what follows an item and doesn't fit
-pub separator_stops : {a : Container} {g : Progress} {e : ℕ} {s : Stop} → IsPassed a g e → IsWanted a g → IsSeparatorFault a.point.text a.kind e s
+pub separator_stops : {a : Container} {g : Progress} {e : ℕ} {s : Stop} → IsItemPassed a g e → IsWanted a g → IsSeparatorFault a.point.text a.kind e s
     → IsStop a.point a.needs s
 separator_stops p wanted f =
     fault_stops p.before wanted (after_item p.before.fit p.head.head (p.value wanted) f.0 f.1) (none_ahead p wanted f.0.0)
 
 -- after a comma the next item follows
-pub next_followed : {a : Container} {g : Progress} {e h : ℕ} → IsPassed a g e → IsWanted a g → IsSeparated a.point.text e h
+pub next_followed : {a : Container} {g : Progress} {e h : ℕ} → IsItemPassed a g e → IsWanted a g → IsSeparated a.point.text e h
     → IsFollowed a (record g { passed = g.passed + 1; next = h })
 next_followed {a} {g} {h = h} p wanted comma =
     let more : g.passed + 1 ≡ g.passed + 1 = refl in
@@ -125,12 +125,12 @@ next_followed {a} {g} {h = h} p wanted comma =
 
 -- an item that is not followed is passed
 pub skip_passed : {a : Container} {g : Progress} {v e : ℕ} {node : Node} → IsFollowed a g → IsNamed a.point.text a.kind g.passed g.next v node
-    → ¬ IsOpen a g.visited node → IsValue strict a.point.text v e → IsPassed a g e
+    → ¬ IsUnvisited a g.visited node → IsValue strict a.point.text v e → IsItemPassed a g e
 skip_passed {v = v} {node = node} l head closed x = record { before = l; value_start = v; node = node; head = head; value = λ wanted. x; closed = closed }
 
 -- an item whose child was visited, if it has one, is none that was not
 pub closed : (a : Container) (visited : List Bool) {node : Node} (child : Option ℕ) → IsContainer a → IsChildOf a child node
-    → IfSome child (λ c. slice_get visited c ≡ Some true) → ¬ IsOpen a visited node
+    → IfSome child (λ c. slice_get visited c ≡ Some true) → ¬ IsUnvisited a visited node
 closed a visited {node} (Some c) is here done o =
     let same : o.0 ≡ c = child_one o.0 c node is.children o.2 here in
     let there : slice_get visited c ≡ Some false = rw same at o.1 in
@@ -145,7 +145,7 @@ child_within a visited node (Some c) long is = omega (arith, slice_get_within a.
 child_within a visited node None long none = tt
 
 -- an item ends after the place where it is expected
-pub passed_later : {a : Container} {g : Progress} {e : ℕ} → IsPassed a g e → IsWanted a g → g.next < e
+pub passed_later : {a : Container} {g : Progress} {e : ℕ} → IsItemPassed a g e → IsWanted a g → g.next < e
 passed_later p wanted = omega (arith, head-later p.head.head, value-longer (p.value wanted))
 
 -- and the next one is expected after that end, which lies within the text

@@ -4,7 +4,7 @@ use Rattle.sonic_text.specs.declared.stop.Stop.{Stop}
 use Rattle.sonic_text.specs.Paths.{Node, Path}
 use Rattle.sonic_pointer.specs.declared.rule.KeyRule.{KeyRule}
 use Rattle.sonic_find.specs.Internal.Fill.{IsNoted}
-use Rattle.sonic_find.specs.Internal.Walk.{Findings, Point, IsPath, IsSettled}
+use Rattle.sonic_find.specs.Internal.Walk.{Findings, Point, IsPath, IsKnown}
 use Rattle.sonic_find.specs.Paths.{fails, EvaluatesBy, LeadsUnder}
 
 -- some path with the prefix fails so
@@ -16,7 +16,7 @@ pub record IsFailBelow (p : Point) (s : Stop) : Type 0 where
 
 -- where the path with the number k leads is known: it is settled, or it fails, and no stop after that is the nearest
 pub data IsCollected (rule : KeyRule) (t : List ℕ) (f : Findings) (nearest : Option Stop) (k : ℕ) (path : Path) : Type 0 where
-  is_settled : IsSettled rule t f k path → IsCollected rule t f nearest k path
+  is_settled : IsKnown rule t f k path → IsCollected rule t f nearest k path
   is_failed : {s : Stop} → LeadsUnder rule t path (fails s) → IsNoted nearest s.place → IsCollected rule t f nearest k path
 
 -- so it is for each path with the prefix

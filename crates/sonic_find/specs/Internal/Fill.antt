@@ -69,7 +69,7 @@ abbrev pub NodeSlots : Point → Filling → Node → Type 0
 NodeSlots p f node = (k : ℕ) (rest : Path) → IsPath p k (node ∷ rest) → IsSlot p.rule p.text f k (p.prefix ++ node ∷ rest)
 
 -- a whole value begins at the place to which the prefix leads, and the slots are true so far
-pub record IsBegun (p : Point) (f : Filling) : Type 0 where
+pub record IsFillBegun (p : Point) (f : Filling) : Type 0 where
   pub whole : HasWhole p.text p.place
   pub comes : ComesTo p
   pub slots : AreSlots p.rule p.text p.paths f

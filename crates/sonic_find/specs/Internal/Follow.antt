@@ -4,17 +4,17 @@ use Rattle.sonic_error.specs.declared.code.ErrorCode.TheVariants.{GetUnknownKeyI
 use Rattle.sonic_text.specs.declared.stop.Stop.{Stop}
 use Rattle.sonic_text.specs.Paths.{Node, Path}
 use Rattle.sonic_find.specs.Paths.{Outcome, lacks, kind_of, IsNamed, EvaluatesBy}
-use Rattle.sonic_find.specs.Internal.Walk.{IsStopped}
+use Rattle.sonic_find.specs.Internal.Walk.{IsPathStop}
 use Rattle.sonic_pointer.specs.declared.rule.KeyRule.{KeyRule}
 
 -- the path stops so from the place i: it fails, is cut, or lacks its key
 pub data IsDeadEnd (rule : KeyRule) (t : List ℕ) (i : ℕ) (path : Path) (s : Stop) : Type 0 where
-  stops_so : IsStopped rule t i path s → IsDeadEnd rule t i path s
+  stops_so : IsPathStop rule t i path s → IsDeadEnd rule t i path s
   lacks_so : {q : ℕ} → EvaluatesBy rule t i path (lacks q) → s ≡ record { place = q; code = GetUnknownKeyInObject } → IsDeadEnd rule t i path s
 
 -- each path that goes on by the node stops so
 abbrev pub IsDeadNode : KeyRule → List ℕ → ℕ → Node → Stop → Type 0
-IsDeadNode rule t i node s = (rest : Path) → IsStopped rule t i (node ∷ rest) s
+IsDeadNode rule t i node s = (rest : Path) → IsPathStop rule t i (node ∷ rest) s
 
 -- each path that goes on by the node lacks its key, in the object whose closing brace is at q
 abbrev pub LacksNode : KeyRule → List ℕ → ℕ → Node → ℕ → Type 0

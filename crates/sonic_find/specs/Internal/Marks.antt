@@ -191,7 +191,7 @@ pub record IsClosed (g : Marking) (a : Container) (place : ℕ) : Type 0 where
       (λ below. SaysAll g (a.point.prefix ++ node ∷ []) below)
 
 -- the children of a prefix, in a container of the kind that they ask for, under a rule that reads it to its end
-pub record IsLevel (a : Container) : Type 0 where
+pub record IsWholeLevel (a : Container) : Type 0 where
   pub rule : a.point.rule ≢ First
   pub children : IsChildren a.point.paths a.point.prefix a.children
   pub kind : (c : ℕ) (node : Node) → slice_get a.children c ≡ Some node → kind_of node ≡ a.kind

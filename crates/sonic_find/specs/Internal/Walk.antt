@@ -12,7 +12,7 @@ use Rattle.sonic_text.specs.Paths.{Node, Path}
 use Rattle.sonic_text.specs.Values.{IsValue, ItemsFit}
 use Rattle.sonic_text.specs.Documents.{IsRootFault}
 use Rattle.sonic_text.specs.Faults.{IsFault}
-use Rattle.sonic_pointer.specs.Paths.{HasNext, IsChildren}
+use Rattle.sonic_pointer.specs.Paths.{HasNextNode, IsChildren}
 use Rattle.sonic_find.specs.declared.marks.Mark.{Mark}
 use Rattle.sonic_find.specs.Answers.{Span, span_of, AllLeadBy, NoneFails, NoneCut, IsReach, Answer, IsAnswerBy}
 use Rattle.sonic_find.specs.Paths.{Outcome, found, lacks, fails, cut, kind_of, IsNamed, NoneNamed, EvaluatesBy, LeadsUnder}
@@ -85,17 +85,17 @@ pub record IsLater (rule : KeyRule) (t : List ℕ) (paths : List Path) (before n
   pub lack : before.lacking ≡ true → now.lacking ≡ true
 
 -- where the path with the number k leads is known: its span is kept, or that some path lacks its key
-pub data IsSettled (rule : KeyRule) (t : List ℕ) (f : Findings) (k : ℕ) (path : Path) : Type 0 where
-  was_found : {i j : ℕ} → LeadsUnder rule t path (found i j) → slice_get f.spans k ≡ Some (Some (i, j)) → IsSettled rule t f k path
-  was_lacked : {q : ℕ} → LeadsUnder rule t path (lacks q) → f.lacking ≡ true → IsSettled rule t f k path
+pub data IsKnown (rule : KeyRule) (t : List ℕ) (f : Findings) (k : ℕ) (path : Path) : Type 0 where
+  was_found : {i j : ℕ} → LeadsUnder rule t path (found i j) → slice_get f.spans k ≡ Some (Some (i, j)) → IsKnown rule t f k path
+  was_lacked : {q : ℕ} → LeadsUnder rule t path (lacks q) → f.lacking ≡ true → IsKnown rule t f k path
 
 -- so it is for each path with the prefix
 abbrev pub AllSettled : Point → Findings → Type 0
-AllSettled p f = (k : ℕ) (rest : Path) → IsPath p k rest → IsSettled p.rule p.text f k (p.prefix ++ rest)
+AllSettled p f = (k : ℕ) (rest : Path) → IsPath p k rest → IsKnown p.rule p.text f k (p.prefix ++ rest)
 
 -- for each that goes on after the prefix
 abbrev pub BelowSettled : Point → Findings → Type 0
-BelowSettled p f = (k : ℕ) (node : Node) (rest : Path) → IsPath p k (node ∷ rest) → IsSettled p.rule p.text f k (p.prefix ++ node ∷ rest)
+BelowSettled p f = (k : ℕ) (node : Node) (rest : Path) → IsPath p k (node ∷ rest) → IsKnown p.rule p.text f k (p.prefix ++ node ∷ rest)
 
 -- from the root the prefix leads to the place
 pub record ComesTo (p : Point) : Type 0 where
@@ -103,9 +103,9 @@ pub record ComesTo (p : Point) : Type 0 where
   pub fault : (s : Stop) → IsFault strict p.text p.place s → IsRootFault p.text s
 
 -- the path fails so from the place i, or is cut
-pub data IsStopped (rule : KeyRule) (t : List ℕ) (i : ℕ) (path : Path) (s : Stop) : Type 0 where
-  fails_so : EvaluatesBy rule t i path (fails s) → IsStopped rule t i path s
-  cut_so : EvaluatesBy rule t i path (cut s) → IsStopped rule t i path s
+pub data IsPathStop (rule : KeyRule) (t : List ℕ) (i : ℕ) (path : Path) (s : Stop) : Type 0 where
+  fails_so : EvaluatesBy rule t i path (fails s) → IsPathStop rule t i path s
+  cut_so : EvaluatesBy rule t i path (cut s) → IsPathStop rule t i path s
 
 -- no path with the prefix fails before this stop, and none that fails at its place does so for another reason
 abbrev pub NoneNearer : Point → Stop → Type 0
@@ -113,7 +113,7 @@ NoneNearer p s = (k : ℕ) (rest : Path) (r : Stop) → IsPath p k rest → Eval
 
 -- some path with the prefix is stopped so, or the value has this fault and has to be whole: as it is asked for, or as some path lacks its key
 pub data IsCause (p : Point) (needs : Bool) (s : Stop) : Type 0 where
-  path_stops : (k : ℕ) (rest : Path) → IsPath p k rest → IsStopped p.rule p.text p.place rest s → IsCause p needs s
+  path_stops : (k : ℕ) (rest : Path) → IsPath p k rest → IsPathStop p.rule p.text p.place rest s → IsCause p needs s
   value_stops : IsFault strict p.text p.place s → (needs ≡ true) ⊎ SomeLack p.rule p.text p.paths → IsCause p needs s
 
 -- why the walk stops inside the value at a point
@@ -123,7 +123,7 @@ pub record IsStop (p : Point) (needs : Bool) (s : Stop) : Type 0 where
 
 -- no container of this kind with an item begins at i: each node that asks for one is stopped so, under each rule
 abbrev pub IsNoEntry : List ℕ → ℕ → Kind → Stop → Type 0
-IsNoEntry t i kind s = (rule : KeyRule) (node : Node) (rest : Path) → kind_of node ≡ kind → IsStopped rule t i (node ∷ rest) s
+IsNoEntry t i kind s = (rule : KeyRule) (node : Node) (rest : Path) → kind_of node ≡ kind → IsPathStop rule t i (node ∷ rest) s
 
 -- the children of the prefix are all of the kind that leads on in the container, in which the first item that is named is the one that counts
 pub record IsContainer (a : Container) : Type 0 where
@@ -137,8 +137,8 @@ abbrev pub SomeOpen : List Bool → Type 0
 SomeOpen visited = (c : ℕ) × (slice_get visited c ≡ Some false)
 
 -- the node is a child that was not visited
-abbrev pub IsOpen : Container → List Bool → Node → Type 0
-IsOpen a visited node = (c : ℕ) × (slice_get visited c ≡ Some false) × (slice_get a.children c ≡ Some node)
+abbrev pub IsUnvisited : Container → List Bool → Node → Type 0
+IsUnvisited a visited node = (c : ℕ) × (slice_get visited c ≡ Some false) × (slice_get a.children c ≡ Some node)
 
 -- more is needed: the whole value, as it is asked for or as some path lacks its key, or a child
 abbrev pub IsWanted : Container → Progress → Type 0
@@ -149,33 +149,33 @@ pub record IsFollowed (a : Container) (g : Progress) : Type 0 where
   pub container : IsContainer a
   pub fit : ItemsFit strict a.point.text a.kind a.point.place g.passed g.next
   pub long : length g.visited ≡ length a.children
-  pub unvisited : (node : Node) → IsOpen a g.visited node → NoneNamed a.point.text a.point.place a.kind g.passed g.next node
+  pub unvisited : (node : Node) → IsUnvisited a g.visited node → NoneNamed a.point.text a.point.place a.kind g.passed g.next node
   pub settled : (k : ℕ) (node : Node) (rest : Path) → IsPath a.point k (node ∷ rest)
-      → IsOpen a g.visited node ⊎ IsSettled a.point.rule a.point.text g.findings k (a.point.prefix ++ node ∷ rest)
+      → IsUnvisited a g.visited node ⊎ IsKnown a.point.rule a.point.text g.findings k (a.point.prefix ++ node ∷ rest)
   pub are : AreFindings a.point.rule a.point.text a.point.paths g.findings
 
 -- so it is of the next item, too, which was passed up to its end e if more is needed
-pub record IsPassed (a : Container) (g : Progress) (e : ℕ) : Type 0 where
+pub record IsItemPassed (a : Container) (g : Progress) (e : ℕ) : Type 0 where
   pub before : IsFollowed a g
   pub value_start : ℕ
   pub node : Node
   pub head : IsNamed a.point.text a.kind g.passed g.next value_start node
   pub value : IsWanted a g → IsValue strict a.point.text value_start e
-  pub closed : ¬ IsOpen a g.visited node
+  pub closed : ¬ IsUnvisited a g.visited node
 
 -- the number of the child that a node is, if it is one
 abbrev pub IsChildOf : Container → Option ℕ → Node → Type 0
 IsChildOf a (Some c) node = slice_get a.children c ≡ Some node
-IsChildOf a None node = ¬ HasNext a.point.paths a.point.prefix node
+IsChildOf a None node = ¬ HasNextNode a.point.paths a.point.prefix node
 
 -- the n-th item, which is expected at h, has its value expected at v, and is this child
-pub record IsItem (a : Container) (n h v : ℕ) (child : Option ℕ) : Type 0 where
+pub record IsChildItem (a : Container) (n h v : ℕ) (child : Option ℕ) : Type 0 where
   pub node : Node
   pub head : IsNamed a.point.text a.kind n h v node
   pub is : IsChildOf a child node
 
 -- the paths of these numbers have this now, and all others what they had
-pub record IsFilled {X : Type 0} (orders : List ℕ) (before now : List (Option X)) (x : X) : Type 0 where
+pub record AreSetTo {X : Type 0} (orders : List ℕ) (before now : List (Option X)) (x : X) : Type 0 where
   pub long : length now ≡ length before
   pub filled : (k : ℕ) → Contains orders k → slice_get now k ≡ Some (Some x)
   pub each : (k : ℕ) → (slice_get now k ≡ slice_get before k) ⊎ Contains orders k × (slice_get now k ≡ Some (Some x))
@@ -191,7 +191,7 @@ pub record IsError (rule : KeyRule) (t : List ℕ) (is_bytes : Bool) (paths : Li
   pub within : s.place ≤ length t
 
 -- each path found a value or lacks its key, these are the spans, and the text is needed up to r
-pub record IsReached (rule : KeyRule) (t : List ℕ) (paths : List Path) (spans : List (Option Span)) (r : ℕ) : Type 0 where
+pub record AllReached (rule : KeyRule) (t : List ℕ) (paths : List Path) (spans : List (Option Span)) (r : ℕ) : Type 0 where
   pub outcomes : List Outcome
   pub lead : AllLeadBy rule t paths outcomes
   pub none_fails : NoneFails outcomes

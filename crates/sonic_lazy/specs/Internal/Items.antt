@@ -35,15 +35,15 @@ pub record IsKeyAt (t : List ℕ) (h v : ℕ) (key : StringSpan) : Type 0 where
   pub escaped : IsTrue key.escaped ↔ IsEscapedString t h key.end
 
 -- of the item that is expected at h the value is expected at v, and this is the key before it
-pub data IsHead (t : List ℕ) : Kind → ℕ → ℕ → Option StringSpan → Type 0 where
-  no_key : {h v : ℕ} → v ≡ h → IsHead t Array h v None
-  a_key : {h v : ℕ} {key : StringSpan} → IsKeyAt t h v key → IsHead t Object h v (Some key)
+pub data IsFoundHead (t : List ℕ) : Kind → ℕ → ℕ → Option StringSpan → Type 0 where
+  no_key : {h v : ℕ} → v ≡ h → IsFoundHead t Array h v None
+  a_key : {h v : ℕ} {key : StringSpan} → IsKeyAt t h v key → IsFoundHead t Object h v (Some key)
 
 -- this is the item after n others
 pub record IsFound (t : List ℕ) (kind : Kind) (n : ℕ) (x : Found) : Type 0 where
   pub place : ℕ
   pub before : ItemsReach t kind n place
-  pub head : IsHead t kind place x.value.start x.key
+  pub head : IsFoundHead t kind place x.value.start x.key
   pub value : IsValue strict t x.value.start x.value.end
   pub status : IsStatus t x.value.start x.value.end x.value.status
 

@@ -1,14 +1,16 @@
 // What a value is, and the level that it is opened to.
-ghost use Rattle.std.specs.Prelude.{◌≡◌, ◌↔◌, length, IsSome, IsTrue, IfSome, IfOk, IfErr, OnErr, Some};
+ghost use Rattle.std.specs.Prelude.{◌≡◌, ◌↔◌, length, IsSome, IsTrue, IfSome, IfOk, IfErr, OnErr, None, Some};
 ghost use Rattle.std.specs.Fmt.{signed_decimal};
 ghost use Rattle.std.specs.Cow.{cow_str_bytes};
 ghost use Rattle.sonic_error.specs.Errors.{IsPlainError};
 ghost use Rattle.sonic_lazy.specs.RawNumbers.{IsNumberText};
 ghost use Rattle.sonic_find.specs.Paths.{kind_of};
 ghost use Rattle.sonic_lazy.specs.Scalars.{container, text as a_text};
+ghost use Rattle.sonic_lazy.specs.StringTexts.{IsEscapedText};
 ghost use Rattle.sonic_owned.specs.Forms.{text, scalar_of_form};
 ghost use Rattle.sonic_owned.specs.Integers.{value};
-ghost use Rattle.sonic_owned.specs.Views.{form};
+ghost use Rattle.sonic_owned.specs.Seen.{IsLentText};
+ghost use Rattle.sonic_owned.specs.Views.{form, made_text};
 ghost use Rattle.sonic_pointer.specs.Nodes.{node_of};
 ghost use Rattle.sonic_text.specs.Strings.{strict, IsString};
 
@@ -79,14 +81,16 @@ impl OwnedLazyValue {
 
     /// What the value denotes where it is a string (RFC 8259, section 7), and else `None`.
     ///
-    /// The text is borrowed where the string was made of it, or has no backslash, and else made anew
-    /// at each call. The only error is `ErrorCode::NoMemory`, and of a string alone.
+    /// The text is borrowed exactly where the string was made of it, or has no backslash, and else made
+    /// anew at each call. Only that takes memory, and the only error is `ErrorCode::NoMemory`.
     pub fn as_str(&self, alloc: Global) -> Result<Option<CowStr<'_>>>
         ensures some { IfOk result (λ found. IsSome found ↔ (scalar_of_form (form self.now) ≡ a_text)) }
         ensures text { IfOk result (λ found. IfSome found (λ shown.
             IsString strict (text (form self.now)) 0 (length (text (form self.now))) (cow_str_bytes shown))) }
         ensures err { IfErr result (λ error. IsPlainError error ErrorCode.NoMemory) }
-        ensures memory { OnErr result (scalar_of_form (form self.now) ≡ a_text) }
+        ensures lent { IfOk result (λ found. IfSome found
+            (IsLentText (made_text self.now) (text (form self.now)))) }
+        ensures memory { OnErr result ((made_text self.now ≡ None) × IsEscapedText (text (form self.now))) }
     {
         match &self.node {
             Node::Text(text) => {

@@ -6,10 +6,11 @@ ghost use Rattle.sonic_find.specs.Paths.{kind_of};
 ghost use Rattle.sonic_lazy.specs.Scalars.{container};
 ghost use Rattle.sonic_owned.specs.Forms.{Form, level, Members, unnamed, named, scalar_of_form};
 ghost use Rattle.sonic_owned.specs.Leading.{item_in};
-ghost use Rattle.sonic_owned.specs.Lends.{answer_name, last_nodes, AtNode, HasItem, HasNoItem, IfAtNode, IsFound, IsItemPut, IsLeft, IsLeftBehind, IsPathFound, OfAnswer, OfPart, IsAnswer};
+ghost use Rattle.sonic_owned.specs.Lends.{answer_name, IsLeftBehind, OfAnswer};
+ghost use Rattle.sonic_owned.specs.Internal.Lends.{last_nodes, AtNode, HasItem, HasNoItem, IfAtNode, IsLent, IsItemPut, IsLeft, IsPathFound, OfPart, IsLoanAnswer};
 ghost use Rattle.sonic_owned.specs.Opened.{IsOpened, IsClosedContainer, IsClosedOf};
-ghost use Rattle.sonic_owned.specs.Puts.{put_in, IsPart, IsPut};
-ghost use Rattle.sonic_owned.specs.Reached.{IsOpenedOn, IsUnreached, LeadsNowhere, MeansStill};
+ghost use Rattle.sonic_owned.specs.Puts.{put_in, IsPartOf, IsPut};
+ghost use Rattle.sonic_owned.specs.Reached.{IsKeptAlong, IsOpenedAlong, IsOpenedOn, IsUnreached, LeadsNowhere};
 ghost use Rattle.sonic_owned.specs.Views.{form, elements, members};
 ghost use Rattle.sonic_owned.specs.contracts.value.OwnedLazyValue.{the_row as value_row};
 ghost use Rattle.sonic_owned.specs.contracts.value.LazyArray.{the_row as array_row};
@@ -124,8 +125,9 @@ fn lend_opened<'a, A: Opens>(
     ensures* back { sem 𝓛 (LendsSoOk A.row value_row value.entry result
         (λ m w. OfPart result (λ i.
         IsItemPut (node_of node.entry) (A.Opens.seen value.old) i (form w) (A.Opens.seen m)))
-        (λ m. IsLeft result (A.Opens.seen value.old) (A.Opens.seen m))) }
-    ensures found { IsFound (HasItem (node_of node.entry) (A.Opens.seen value.old))
+        (λ m. IsLeft (IsOpenedAlong (node_of node.entry ∷ []) (A.Opens.seen value.old) (A.Opens.seen m))
+        result (A.Opens.seen value.old) (A.Opens.seen m))) }
+    ensures found { IsLent (HasItem (node_of node.entry) (A.Opens.seen value.old))
         (HasNoItem (node_of node.entry) (A.Opens.seen value.old))
         (IsClosedOf (kind_of (node_of node.entry)) (A.Opens.seen value.old))
         result }
@@ -158,8 +160,10 @@ fn lend_next<'a, 's, 'p, A: Opens>(
     ensures* back { sem 𝓛 (LendsSoOk A.row value_row value.entry result
         (λ m w. OfPart result (λ i. AtNode left way.now.nodes.now (λ node.
         IsItemPut node (A.Opens.seen value.old) i (form w) (A.Opens.seen m))))
-        (λ m. IsLeft result (A.Opens.seen value.old) (A.Opens.seen m))) }
-    ensures found { IsFound
+        (λ m. IsLeft (AtNode left way.now.nodes.now (λ node.
+        IsOpenedAlong (node ∷ []) (A.Opens.seen value.old) (A.Opens.seen m)))
+        result (A.Opens.seen value.old) (A.Opens.seen m))) }
+    ensures found { IsLent
         (λ i. AtNode left way.now.nodes.now (λ node. HasItem node (A.Opens.seen value.old) i))
         (AtNode left way.now.nodes.now (λ node. HasNoItem node (A.Opens.seen value.old)))
         (IfAtNode left way.now.nodes.now (λ node. IsClosedOf (kind_of node) (A.Opens.seen value.old)))
@@ -184,8 +188,10 @@ fn item_next<'a, 's, 'p>(
     ensures* back { sem 𝓛 (LendsSoOk value_row value_row value.entry result
         (λ m w. OfPart result (λ i. AtNode left way.now.nodes.now (λ node.
         IsItemPut node (form value.old) i (form w) (form m))))
-        (λ m. IsLeft result (form value.old) (form m))) }
-    ensures found { IsFound
+        (λ m. IsLeft (AtNode left way.now.nodes.now (λ node.
+        IsOpenedAlong (node ∷ []) (form value.old) (form m)))
+        result (form value.old) (form m))) }
+    ensures found { IsLent
         (λ i. AtNode left way.now.nodes.now (λ node. HasItem node (form value.old) i))
         (AtNode left way.now.nodes.now (λ node. HasNoItem node (form value.old)))
         (IfAtNode left way.now.nodes.now (λ node. IsClosedOf (kind_of node) (form value.old)))
@@ -208,9 +214,9 @@ trait Walks {
         ensures* back { sem 𝓛 (LendsSoOk Self.row value_row self.entry result
             (λ m w. OfPart result (λ i.
             IsPut (last_nodes left way.now.nodes.now) (seen self.old) i (form w) (seen m)))
-            (λ m. MeansStill (seen self.old) (seen m))) }
-        ensures found { IsFound
-            (IsPart (last_nodes left way.now.nodes.now) (seen self.old))
+            (λ m. IsOpenedAlong (last_nodes left way.now.nodes.now) (seen self.old) (seen m))) }
+        ensures found { IsLent
+            (IsPartOf (last_nodes left way.now.nodes.now) (seen self.old))
             (LeadsNowhere (last_nodes left way.now.nodes.now) (seen self.old))
             (left ≤ length way.now.nodes.now
             → IsOpenedOn (last_nodes left way.now.nodes.now) (seen self.old))
@@ -256,7 +262,7 @@ fn lend_part<'a, A: Walks>(
 
 // What is answered of what is lent.
 pub(super) fn answer<'a, L>(lent: std::result::Result<&'a mut L, Stop>) -> Result<Option<&'a mut L>>
-    ensures { IsAnswer lent.entry result }
+    ensures { IsLoanAnswer lent.entry result }
 {
     match lent {
         Ok(part) => Ok(Some(part)),
@@ -272,7 +278,7 @@ impl OwnedLazyValue {
     ///
     /// The first level of the value is opened where its kind fits the node, and once the loan ends the
     /// value is that level with what was left in the item's place. Where nothing is lent it means what
-    /// it meant. The only error is `ErrorCode::NoMemory`, of a container that isn't opened and whose
+    /// it meant, and no other level is opened. The only error is `ErrorCode::NoMemory`, of a container that isn't opened and whose
     /// kind fits, and the value is unchanged then.
     ///
     /// ```text
@@ -290,9 +296,10 @@ impl OwnedLazyValue {
         ensures* back { sem 𝓛 (follows_so value_row value_row self.entry.ghost_name (answer_name result)
             (λ w m. OfAnswer result (λ i.
             IsPut (node_of node.entry ∷ []) (form self.old) i (form w) (form m)))
-            (λ m. MeansStill (form self.old) (form m) × OnErr result (form m ≡ form self.old))) }
+            (λ m. IsKeptAlong (node_of node.entry ∷ []) (form self.old) (form m)
+            × OnErr result (form m ≡ form self.old))) }
         ensures some { IfOk result (λ found. IfSome found (λ part.
-            IsPart (node_of node.entry ∷ []) (form self.old) (form part.now))) }
+            IsPartOf (node_of node.entry ∷ []) (form self.old) (form part.now))) }
         ensures none { IfOk result (λ found. found ≡ None
             → LeadsNowhere (node_of node.entry ∷ []) (form self.old)) }
         ensures err { IfErr result (λ error. IsPlainError error ErrorCode.NoMemory) }
@@ -305,8 +312,8 @@ impl OwnedLazyValue {
     /// `None` where it leads to none.
     ///
     /// Each level on the way is opened whose kind fits its node, and once the loan ends the value has
-    /// what was left in the part's place. Where nothing is lent the value means what it meant. The
-    /// errors are `ErrorCode::RecursionLimitExceeded` of a path of more than 255 nodes, before all
+    /// what was left in the part's place. Where nothing is lent the value means what it meant, and no
+    /// other level is opened. The errors are `ErrorCode::RecursionLimitExceeded` of a path of more than 255 nodes, before all
     /// else, and then the value is unchanged, and `ErrorCode::NoMemory`, where a level is to be opened.
     ///
     /// ```text
@@ -326,7 +333,7 @@ impl OwnedLazyValue {
             IsPut (path_of path.now) (form self.old) i (form w) (form m)))
             (λ m. IsLeftBehind path.now (form self.old) (form m))) }
         ensures some { IfOk result (λ found. IfSome found (λ part.
-            IsPart (path_of path.now) (form self.old) (form part.now))) }
+            IsPartOf (path_of path.now) (form self.old) (form part.now))) }
         ensures none { IfOk result (λ found. found ≡ None
             → LeadsNowhere (path_of path.now) (form self.old)) }
         ensures err { IfErr result (IsUnreached (path_of path.now)) }

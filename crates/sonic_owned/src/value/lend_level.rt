@@ -4,7 +4,8 @@ ghost use Rattle.std.specs.Borrow.{sem, follows_so, LendsSoOk};
 ghost use Rattle.sonic_error.specs.Errors.{IsPlainError};
 ghost use Rattle.sonic_lazy.specs.Scalars.{container};
 ghost use Rattle.sonic_owned.specs.Forms.{level, unnamed, named, scalar_of_form};
-ghost use Rattle.sonic_owned.specs.Lends.{answer_name, IsLevelFound};
+ghost use Rattle.sonic_owned.specs.Lends.{answer_name};
+ghost use Rattle.sonic_owned.specs.Internal.Lends.{IsLevelFound};
 ghost use Rattle.sonic_owned.specs.Opened.{IsOpened, IsClosedOf};
 ghost use Rattle.sonic_owned.specs.Views.{form, elements, members};
 ghost use Rattle.sonic_owned.specs.contracts.value.OwnedLazyValue.{the_row as value_row};
@@ -36,8 +37,8 @@ fn lend_array<'a>(
     };
     match value.array_level() {
         Some(array) => Ok(array),
-        // An array that is opened is a level, so this never comes.
-        None => Err(Stop::NoMemory),
+        // An array that is opened is a level.
+        None => unreachable!(),
     }
 }
 
@@ -59,8 +60,8 @@ fn lend_object<'a>(
     };
     match value.object_level() {
         Some(object) => Ok(object),
-        // An object that is opened is a level, so this never comes.
-        None => Err(Stop::NoMemory),
+        // An object that is opened is a level.
+        None => unreachable!(),
     }
 }
 

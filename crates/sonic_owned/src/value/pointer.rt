@@ -3,7 +3,8 @@ ghost use Rattle.std.specs.Prelude.{◌≡◌, ◌∷◌, [], option_map, IfSome
 ghost use Rattle.sonic_owned.specs.Forms.{Form, named};
 ghost use Rattle.sonic_owned.specs.Leading.{item_in, item_of, LeadsTo};
 ghost use Rattle.sonic_owned.specs.Views.{form, members};
-ghost use Rattle.sonic_owned.specs.Seen.{view_form, IsStep};
+ghost use Rattle.sonic_owned.specs.Seen.{view_form};
+ghost use Rattle.sonic_owned.specs.Internal.Seen.{IsStep};
 ghost use Rattle.sonic_pointer.specs.Nodes.{node_of, path_of};
 
 use super::{LazyObject, Node, OwnedLazyValue};

@@ -2,7 +2,7 @@
 ghost use Rattle.std.specs.Prelude.{◌≡◌, ◌<◌, ◌≤◌, IsErr, IfOk, IfErr, IfSome, OnErr, None, length};
 ghost use Rattle.std.specs.Fn.{FnOnceReturnsAtMut};
 ghost use Rattle.sonic_error.specs.Errors.{IsPlainError};
-ghost use Rattle.sonic_owned.specs.Reached.{IsChangedAt, IsOpenedOn, IsUnreached, LeadsNowhere, MeansStill};
+ghost use Rattle.sonic_owned.specs.Reached.{IsChangedAt, IsKeptAlong, IsOpenedOn, IsUnreached, LeadsNowhere};
 ghost use Rattle.sonic_owned.specs.Views.{form};
 ghost use Rattle.sonic_pointer.specs.Nodes.{path_of};
 
@@ -17,7 +17,7 @@ impl OwnedLazyValue {
     ///
     /// The levels on the way are opened. All else stays as it was: whatever `f` leaves, the other
     /// items mean what they meant, and those that weren't opened keep their texts. After `None` and
-    /// after an error the value means what it meant.
+    /// after an error the value means what it meant, and levels on the way are all that may be opened.
     ///
     /// The first error is `ErrorCode::RecursionLimitExceeded`, of a path of more than 255 nodes, and
     /// the value is unchanged then. The other is `ErrorCode::NoMemory`.
@@ -38,9 +38,10 @@ impl OwnedLazyValue {
             IsChangedAt (path_of path.now) self.old self.new
             (λ part left. FnOnceReturnsAtMut F.FnOnce f part given left))) }
         ensures none { IfOk result (λ found. found ≡ None → LeadsNowhere (path_of path.now) (form self.old)) }
-        ensures same { IfOk result (λ found. found ≡ None → MeansStill (form self.old) (form self.new)) }
+        ensures same { IfOk result (λ found. found ≡ None
+            → IsKeptAlong (path_of path.now) (form self.old) (form self.new)) }
         ensures err { IfErr result (IsUnreached (path_of path.now)) }
-        ensures kept { OnErr result (MeansStill (form self.old) (form self.new)) }
+        ensures kept { OnErr result (IsKeptAlong (path_of path.now) (form self.old) (form self.new)) }
         ensures limit { 255 < length path.now → IsErr result × (self.new ≡ self.old) }
         ensures memory { OnErr result (length path.now ≤ 255
             → IsOpenedOn (path_of path.now) (form self.old)) }
@@ -63,9 +64,10 @@ impl OwnedLazyValue {
             IsChangedAt (path_of path.now) self.old self.new
             (λ part left. FnOnceReturnsAtMut F.FnOnce f part given left))) }
         ensures none { IfOk result (λ found. found ≡ None → LeadsNowhere (path_of path.now) (form self.old)) }
-        ensures same { IfOk result (λ found. found ≡ None → MeansStill (form self.old) (form self.new)) }
+        ensures same { IfOk result (λ found. found ≡ None
+            → IsKeptAlong (path_of path.now) (form self.old) (form self.new)) }
         ensures err { IfErr result (λ error. IsPlainError error ErrorCode.NoMemory) }
-        ensures kept { OnErr result (MeansStill (form self.old) (form self.new)) }
+        ensures kept { OnErr result (IsKeptAlong (path_of path.now) (form self.old) (form self.new)) }
         ensures memory { OnErr result (IsOpenedOn (path_of path.now) (form self.old)) }
     {
         let [node, rest @ ..] = path else {
@@ -85,8 +87,8 @@ impl OwnedLazyValue {
             return element.reach(alloc, rest, f);
         }
         let PointerNode::Key(key) = *node else {
-            // A node is an index or a key, so this never comes.
-            return Ok(None);
+            // A node is an index or a key.
+            unreachable!();
         };
         let Some(object) = self.object_level() else {
             return Ok(None);

@@ -43,6 +43,12 @@ impl fmt::Display for OwnedLazyValue {
 
 /// The text of the value.
 impl fmt::Debug for OwnedLazyValue {
+    ghost use Rattle.std.specs.Prelude.{Some};
+    ghost use Rattle.sonic_owned.specs.Forms.{text};
+    ghost use Rattle.sonic_owned.specs.Views.{form};
+
+    ghost debug_output = { λ value. Some (text (form value)) };
+
     fn fmt<W: Write>(&self, f: &mut fmt::Formatter<W>) -> fmt::Result {
         show(self, f)
     }
@@ -50,6 +56,13 @@ impl fmt::Debug for OwnedLazyValue {
 
 /// The text of the array.
 impl fmt::Debug for LazyArray {
+    ghost use Rattle.std.specs.Prelude.{Some};
+    ghost use Rattle.sonic_owned.specs.Forms.{level, text, unnamed};
+    ghost use Rattle.sonic_owned.specs.Views.{elements};
+    ghost use Rattle.sonic_text.specs.declared.kind.Kind.TheVariants.{Array};
+
+    ghost debug_output = { λ array. Some (text (level Array (unnamed (elements array)))) };
+
     fn fmt<W: Write>(&self, f: &mut fmt::Formatter<W>) -> fmt::Result {
         show_elements(self, f)
     }
@@ -57,6 +70,13 @@ impl fmt::Debug for LazyArray {
 
 /// The text of the object.
 impl fmt::Debug for LazyObject {
+    ghost use Rattle.std.specs.Prelude.{Some};
+    ghost use Rattle.sonic_owned.specs.Forms.{level, named, text};
+    ghost use Rattle.sonic_owned.specs.Views.{members};
+    ghost use Rattle.sonic_text.specs.declared.kind.Kind.TheVariants.{Object};
+
+    ghost debug_output = { λ object. Some (text (level Object (named (members object)))) };
+
     fn fmt<W: Write>(&self, f: &mut fmt::Formatter<W>) -> fmt::Result {
         show_members(self, f)
     }

@@ -9,7 +9,7 @@ ghost use Rattle.sonic_text.specs.Places.{byte};
 ghost use Rattle.sonic_text.specs.Strings.{strict, IsString};
 ghost use Rattle.sonic_parser.specs.Parsers.{IsStopped};
 ghost use Rattle.sonic_parser.specs.Rows.{bytes_row};
-ghost use Rattle.sonic_parser.specs.StringsAhead.{IsAhead};
+ghost use Rattle.sonic_parser.specs.Internal.StringsAhead.{IsAhead};
 ghost use Rattle.sonic_parser.specs.Texts.{reference_text, IsBorrowed, text_of, IsTextThere, IsNextKnown, IsTextRead, IsNoText, IsShortOfText, IsBufferAfter};
 
 use super::Parser;
@@ -193,7 +193,8 @@ impl<'de> Parser<'de> {
     /// UTF-8. Else it is written to `buf`, in place of what that held. A strict parser has the error
     /// `ErrorCode::InvalidUTF8` at the first place where the contents aren't UTF-8; a lossy one puts
     /// U+FFFD there, and then knows of the next broken place after the string. A fault, and contents
-    /// that are broken, leave `buf` as it was; only where memory runs out it is empty.
+    /// that are broken, leave `buf` as it was; only where memory runs out it is empty. Memory is taken
+    /// for a text alone that isn't borrowed: of a strict parser, that of a string with a backslash.
     ///
     /// ```text
     /// let mut parser = Parser::new(Read::from(r#""a\n""#));

@@ -9,7 +9,7 @@ use Rattle.sonic_find.specs.Answers.{Span, Answer, spans, error, IsAnswerBy}
 use Rattle.sonic_find.specs.Causes.{IsAnswerableBy}
 use Rattle.sonic_pointer.specs.declared.rule.KeyRule.{KeyRule}
 use Rattle.sonic_pointer.specs.declared.rule.KeyRule.TheVariants.{First}
-use Rattle.sonic_io.specs.declared.reading.TheConstants.{LIMIT}
+use Rattle.sonic_io.specs.Outside.{input_limit}
 use Rattle.sonic_reports.specs.declared.status.Status.{Status}
 use Rattle.sonic_reports.specs.declared.status.Status.TheVariants.{Done, DocumentError, BadLines}
 use Rattle.sonic_reports.specs.ErrorLines.{line_of_error}
@@ -54,7 +54,7 @@ IsGetReport rule = IsPathsReport (ReportsPathsBy rule)
 
 -- the input is within the limit, each line of its head says a path, and in the document after it each path finds a value or lacks its key under the rule, as far as the text is needed for that
 pub record IsAnswerableInput (rule : KeyRule) (input : List ℕ) : Type 0 where
-  pub within : length input ≤ LIMIT
+  pub within : length input ≤ input_limit
   pub lines : List (List ℕ)
   pub document : ℕ
   pub head : IsHead input 0 lines document

@@ -2,20 +2,19 @@
 use Rattle.std.specs.Prelude.{◌≡◌, ℕ, ◌+◌, ◌≤◌, List, length, codes}
 use Rattle.std.specs.Io.KnownBytes.{IsAtEnd}
 use Rattle.std.specs.declared.option.Option.{Option}
-use Rattle.sonic_io.specs.declared.reading.TheConstants.{LIMIT}
 use Rattle.sonic_reports.specs.declared.runs.Request.{Request}
 use Rattle.sonic_reports.specs.declared.runs.Request.TheVariants.{Usage, Large, Input}
 use Rattle.sonic_reports.specs.declared.status.Status.{Status}
 use Rattle.sonic_reports.specs.declared.status.Status.TheVariants.{BadUsage, TooLarge}
 use Rattle.sonic_reports.specs.Commands.{Asks, IsListed, Reads, IsReading}
-use Rattle.sonic_io.specs.Outside.{Gave}
+use Rattle.sonic_io.specs.Outside.{Gave, input_limit}
 use Rattle.sonic_reports.specs.Reports.{Writes}
 
 -- what is to be answered, by the words and by what the source had left and has
 abbrev pub IsAsked : List (List ℕ) → Option (List ℕ) → Option (List ℕ) → Request → Type 0
 IsAsked words before now Usage = ¬ IsListed words
-IsAsked words before now Large = (bytes : List ℕ) × IsReading words × (length bytes ≡ LIMIT + 1) × Gave before now bytes
-IsAsked words before now (Input command bytes) = Asks words command × (Reads command → Gave before now bytes.items × IsAtEnd now × (length bytes.items ≤ LIMIT))
+IsAsked words before now Large = (bytes : List ℕ) × IsReading words × (length bytes ≡ input_limit + 1) × Gave before now bytes
+IsAsked words before now (Input command bytes) = Asks words command × (Reads command → Gave before now bytes.items × IsAtEnd now × (length bytes.items ≤ input_limit))
 
 -- the text and the status that answer it
 abbrev pub IsAnswered : Request → List ℕ → Status → Type 0

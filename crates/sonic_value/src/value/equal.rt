@@ -8,7 +8,7 @@ use super::Value;
 impl PartialEq for Value {
     ghost use Rattle.std.specs.Cmp.{partial_equiv_from_equiv};
     ghost use Rattle.std.proofs.lemmas.Cmp.{on_equiv};
-    ghost use Rattle.sonic_value.specs.EqualityLaws.{tree_equivalence};
+    ghost use Rattle.sonic_value.specs.Internal.EqualityLaws.{tree_equivalence};
     ghost use Rattle.sonic_value.specs.Equality.{same_tree};
     ghost use Rattle.sonic_value.specs.Views.{tree};
 
@@ -26,7 +26,7 @@ impl PartialEq for Value {
 
 impl Eq for Value {
     ghost use Rattle.std.proofs.lemmas.Cmp.{on_equiv};
-    ghost use Rattle.sonic_value.specs.EqualityLaws.{tree_equivalence};
+    ghost use Rattle.sonic_value.specs.Internal.EqualityLaws.{tree_equivalence};
     ghost use Rattle.sonic_value.specs.Views.{tree};
 
     ghost laws = { on_equiv tree tree_equivalence };

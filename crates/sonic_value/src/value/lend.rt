@@ -7,8 +7,8 @@ ghost use Rattle.sonic_text.specs.TreePaths.{child, leads, element_at, member_of
 ghost use Rattle.sonic_text.specs.Trees.{Items, Tree};
 ghost use Rattle.sonic_text.specs.Trees.Tree.{container};
 ghost use Rattle.sonic_text.specs.declared.kind.Kind.TheVariants.{Array as KArray, Object as KObject};
-ghost use Rattle.sonic_value.specs.Keys.{seen};
-ghost use Rattle.sonic_value.specs.Loans.{AtFirst};
+ghost use Rattle.sonic_value.specs.Internal.Keys.{seen};
+ghost use Rattle.sonic_value.specs.Internal.Loans.{AtFirst};
 ghost use Rattle.sonic_value.specs.Rows.{array_row, object_row};
 ghost use Rattle.sonic_value.specs.Views.{tree, elements_of, members_of, array_in, object_in};
 ghost use Rattle.sonic_value.specs.contracts.value.Value.{the_row as value_row};

@@ -2,7 +2,7 @@
 ghost use Rattle.std.specs.Prelude.{◌≡◌, ◌≢◌, ℕ, option_map, slice_get, IfSome, Some, None};
 ghost use Rattle.sonic_pointer.specs.Nodes.{node_of, path_of};
 ghost use Rattle.sonic_text.specs.TreePaths.{child, leads};
-ghost use Rattle.sonic_value.specs.Keys.{seen, keys, IsFirst};
+ghost use Rattle.sonic_value.specs.Internal.Keys.{seen, keys, IsFirstKey};
 ghost use Rattle.sonic_value.specs.Views.{tree};
 
 use super::Value;
@@ -56,7 +56,7 @@ impl Value {
 
 // The position of the first member with a key, and `None` where no member has it.
 pub(super) fn first_of_key(members: &[(String, Value)], key: &str) -> Option<usize>
-    ensures some { IfSome result (IsFirst key.now (keys (seen members.now))) }
+    ensures some { IfSome result (IsFirstKey key.now (keys (seen members.now))) }
     ensures none { result ≡ None → (p : ℕ) → slice_get (keys (seen members.now)) p ≢ Some key.now }
 {
     let mut i = 0;

@@ -41,6 +41,12 @@ impl fmt::Display for Value {
 
 /// The text of the value.
 impl fmt::Debug for Value {
+    ghost use Rattle.std.specs.Prelude.{Some};
+    ghost use Rattle.sonic_value.specs.CompactTexts.{compact};
+    ghost use Rattle.sonic_value.specs.Views.{tree};
+
+    ghost debug_output = { λ value. Some (compact (tree value)) };
+
     fn fmt<W: Write>(&self, f: &mut fmt::Formatter<W>) -> fmt::Result {
         show(self, f)
     }

@@ -1,7 +1,7 @@
 // Copies of values whose strings and keys are spelled out.
 ghost use Rattle.std.specs.Prelude.{◌≡◌, false, map, IfOk};
-ghost use Rattle.sonic_value.specs.Keeping.{kept};
-ghost use Rattle.sonic_value.specs.SpelledViews.{spelled_tree, spelled_member};
+ghost use Rattle.sonic_value.specs.Internal.Keeping.{kept};
+ghost use Rattle.sonic_value.specs.Internal.SpelledViews.{spelled_tree, spelled_member};
 ghost use Rattle.sonic_value.specs.Views.{tree, key_and_tree};
 
 use super::Value;

@@ -1,6 +1,7 @@
 use Rattle.std.proofs.Common.{refl, arith}
 use Rattle.sonic_c.proofs.ManyLemmas.{at_end}
-use Rattle.sonic_c.specs.Told.{bad_path, blank_line, bad_lines, wrong_count}
+use Rattle.sonic_c.specs.Told.{bad_path, blank_line}
+use Rattle.sonic_c.specs.Internal.Told.{bad_lines, wrong_count}
 use Rattle.sonic_c.proofs.many.tree_of.Goals as goal
 
 pub returns-in-Bad-clause-refused : goal.returns-in-Bad-clause-refused

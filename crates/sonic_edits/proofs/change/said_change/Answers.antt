@@ -2,7 +2,7 @@ use Rattle.std.proofs.Common.{arith, refl, ap}
 use Rattle.sonic_edits.proofs.ReadingLemmas.{no_text, one_text, two_texts, ok_weaker, some_weaker}
 use Rattle.sonic_edits.proofs.SayingLemmas.{pair_key}
 use Rattle.sonic_edits.proofs.change.said_change.Goals as goal
-use Rattle.sonic_edits.specs.Reading.SaysChange.{sets, pushes, pairs, takes}
+use Rattle.sonic_edits.specs.Internal.Reading.SaysChange.{sets, pushes, pairs, takes}
 use Rattle.sonic_owned.specs.TreeEdits.{set, push}
 
 pub returns-in-take-clause-some : goal.returns-in-take-clause-some

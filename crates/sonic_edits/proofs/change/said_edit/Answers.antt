@@ -4,7 +4,7 @@ use Rattle.sonic_edits.proofs.ReadingLemmas.{more_texts}
 use Rattle.sonic_edits.proofs.SayingLemmas.{parts_of, says_change, denotes_one}
 use Rattle.sonic_edits.proofs.change.said_edit.Goals as goal
 use Rattle.sonic_edits.specs.Lines.{Denotes}
-use Rattle.sonic_edits.specs.Reading.{SaysChange}
+use Rattle.sonic_edits.specs.Internal.Reading.{SaysChange}
 use Rattle.sonic_lazy.specs.LazyValues.{raw_bytes}
 use Rattle.sonic_owned.specs.Changes.{change_of}
 use Rattle.sonic_paths.specs.Lines.{IsNodeLine}

@@ -4,7 +4,7 @@ use Rattle.sonic_edits.proofs.ReadingLemmas.{ok_weaker}
 use Rattle.sonic_edits.proofs.SayingLemmas.{line_elements, says_four}
 use Rattle.sonic_edits.proofs.line.edit_of_line.Goals as goal
 use Rattle.sonic_edits.specs.Lines.{SaysEdit}
-use Rattle.sonic_edits.specs.Reading.{HasElements}
+use Rattle.sonic_edits.specs.Internal.Reading.{HasElements}
 use Rattle.sonic_lazy.specs.LazyValues.{raw_bytes}
 
 pub returns-in_default-2-clause-none : goal.returns-in_default-2-clause-none

@@ -2,7 +2,7 @@ use Rattle.std.proofs.Common.{◌≡◌, ℕ, List, refl, arith}
 use Rattle.std.specs.Prelude.{Option, Some, None, slice_get, IfSome, IfNone}
 use Rattle.sonic_text.specs.Strings.{IsString, strict}
 use Rattle.sonic_text.specs.Paths.{key, index}
-use Rattle.sonic_pointer.specs.Paths.{HasNext}
+use Rattle.sonic_pointer.specs.Paths.{HasNextNode}
 use Rattle.sonic_find.specs.Internal.Walk.{Container, IsChildOf}
 use Rattle.std.proofs.lemmas.Result.{err_from_is_err_and}
 use Rattle.sonic_text.specs.Values.{no_head, key_head}
@@ -13,13 +13,13 @@ use Rattle.sonic_find.proofs.walk.head.Goals as goal
 -- of a key
 key_child : {t : List ℕ} {start end : ℕ} (a : Container) (o : Option ℕ) (b : List ℕ) → IsString strict t start end b
     → IfSome o (λ i. (b : List ℕ) → IsString strict t start end b → slice_get a.children i ≡ Some (key b))
-    → IfNone o ((b : List ℕ) → IsString strict t start end b → ¬ HasNext a.point.paths a.point.prefix (key b)) → IsChildOf a o (key b)
+    → IfNone o ((b : List ℕ) → IsString strict t start end b → ¬ HasNextNode a.point.paths a.point.prefix (key b)) → IsChildOf a o (key b)
 key_child a (Some c) b s some none = some b s
 key_child a None b s some none = none b s
 
 -- of an index
 index_child : (a : Container) (o : Option ℕ) (n : ℕ) → IfSome o (λ i. slice_get a.children i ≡ Some (index n))
-    → IfNone o (¬ HasNext a.point.paths a.point.prefix (index n)) → IsChildOf a o (index n)
+    → IfNone o (¬ HasNextNode a.point.paths a.point.prefix (index n)) → IsChildOf a o (index n)
 index_child a (Some c) n some none = some
 index_child a None n some none = none
 

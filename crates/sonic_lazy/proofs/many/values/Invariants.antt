@@ -1,7 +1,7 @@
 -- The values so far are shown.
 use Rattle.std.proofs.Common.{take}
 use Rattle.sonic_find.specs.Internal.Located.{spans_of}
-use Rattle.sonic_lazy.specs.Shown.{HaveTexts}
+use Rattle.sonic_lazy.specs.Internal.Shown.{HaveTexts}
 use Rattle.sonic_lazy.proofs.many.values.Given as goal
 
 abbrev pub invariant-loop-located : goal.invariant-loop-located

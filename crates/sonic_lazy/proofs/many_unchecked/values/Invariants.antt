@@ -1,6 +1,6 @@
 -- The values so far are shown.
 use Rattle.std.proofs.Common.{take}
-use Rattle.sonic_lazy.specs.Shown.{HaveTexts}
+use Rattle.sonic_lazy.specs.Internal.Shown.{HaveTexts}
 use Rattle.sonic_find.specs.Spans.{pairs_of}
 use Rattle.sonic_lazy.proofs.many_unchecked.values.Given as goal
 

@@ -1,12 +1,14 @@
 use Rattle.std.proofs.Common.{◌≡◌, ℕ, ◌-◌, ◌≤◌, true}
-use Rattle.sonic_blocks.specs.Outside.{is_inside_at, AreCarried}
-use Rattle.sonic_parser.specs.Unchecked.{IsInside}
+use Rattle.sonic_blocks.specs.Outside.{is_inside_at}
+use Rattle.sonic_blocks.specs.Internal.Carried.{AreCarried}
+use Rattle.sonic_parser.specs.Internal.Unchecked.{IsInsideString}
 use Rattle.sonic_parser.proofs.blocks.string_end.Given as goal
 
 abbrev pub invariant-loop-place : goal.invariant-loop-place
 invariant-loop-place g l = record {
-  carried : (s : ℕ) → IsInside l.tape s l.start → AreCarried l.tape s l.place l.in_escape l.in_string;
-  inside : (s : ℕ) → IsInside l.tape s l.start → (k : ℕ) → l.start ≤ k → k ≤ l.place → is_inside_at l.tape s k ≡ true;
+  text : l.tape.text ≡ l.fn.tape.text;
+  carried : (s : ℕ) → IsInsideString l.fn.tape.text s l.start → AreCarried l.fn.tape.text s l.place l.in_escape l.in_string;
+  inside : (s : ℕ) → IsInsideString l.fn.tape.text s l.start → (k : ℕ) → l.start ≤ k → k ≤ l.place → is_inside_at l.fn.tape.text s k ≡ true;
   later : l.start ≤ l.place;
 }
 

@@ -1,5 +1,5 @@
 use Rattle.std.proofs.Common.{ℕ, ◌≡◌, ◌-◌, ◌<◌, ◌≤◌, length, take}
-use Rattle.sonic_parser.specs.Skipping.{IsReached}
+use Rattle.sonic_parser.specs.Internal.Skipping.{IsReached}
 use Rattle.sonic_parser.specs.declared.skip.Reached.TheVariants.{Expected}
 use Rattle.sonic_parser.proofs.quick.pass_items.Given as goal
 

@@ -1,12 +1,12 @@
 use Rattle.std.proofs.Common.{◌≡◌, ◌-◌, ◌≤◌, length}
 use Rattle.sonic_text.specs.Places.{after_space}
-use Rattle.sonic_parser.specs.Spaces.{IsKept}
+use Rattle.sonic_parser.specs.Internal.Spaces.{IsKeptBlock}
 use Rattle.sonic_parser.proofs.space.words_from.Given as goal
 
 abbrev pub invariant-loop-block : goal.invariant-loop-block
 invariant-loop-block l = record {
   within : l.at ≤ length l.text;
-  kept : IsKept l.text l.kept;
+  kept : IsKeptBlock l.text l.kept;
   leads : after_space l.text l.place ≡ after_space l.text l.at;
 }
 

@@ -1,7 +1,7 @@
 use Rattle.std.proofs.Common.{◌≡◌, ◌∷◌, [], ℕ, ap, arith, length, length-append, refl}
 use Rattle.sonic_parser.specs.Parsers.{Parsing, moved}
 use Rattle.sonic_paths.proofs.LineNodes.{leads_comma, leads_bracket, none_after, none_here, none_shorter}
-use Rattle.sonic_paths.specs.Owned.{owned_node}
+use Rattle.sonic_pointer.specs.Nodes.{owned_node}
 use Rattle.sonic_paths.proofs.line.node_array.Goals as goal
 
 -- a parser that moved twice is at its last place
@@ -19,7 +19,7 @@ nodes-preserved c =
     let after = ap (λ p. p.text) c.in_ok-node.ensures.cursor in
     let x = rw text at (rw c.in-Some.is at c.in_ok-node.ensures.node) in
     let next = rw (after, text) at (c.in-Ok-true.ensures.item c.in-Ok-true.field-0-test) in
-    let all = c.in_ok-push.ensures in
+    let all = c.in_ok-push.ensures.ok in
     record {
       few = omega (arith, ap length all, length-append c.nodes.path (owned_node c.in-Some.node ∷ []), c.nodes-test.true);
       cursor = moved_twice c.args.parser.now _ _ (moved_twice c.args.parser.now _ _ c.nodes.invariant.cursor c.in_ok-node.ensures.cursor) c.in-Ok-true.ensures.cursor;
@@ -32,7 +32,7 @@ returns-in-Ok-false-clause-path c =
     let after = ap (λ p. p.text) c.in_ok-node.ensures.cursor in
     let x = rw text at (rw c.in-Some.is at c.in_ok-node.ensures.node) in
     let end = rw (after, text) at (c.in-Ok-false.ensures.end c.in-Ok-false.field-0-test) in
-    let all = c.in_ok-push.ensures in (
+    let all = c.in_ok-push.ensures.ok in (
       omega (arith, ap length all, length-append c.nodes.path (owned_node c.in-Some.node ∷ []), c.nodes-test.true),
       leads_bracket c.nodes.invariant.leads x all end.0 end.1,
     )

@@ -1,6 +1,6 @@
 use Rattle.std.proofs.Common.{◌/◌, refl, sym, ap, ◌∙◌, subst, length, arith}
 use Rattle.std.proofs.lemmas.List.{length-take-le, length-drop}
-use Rattle.sonic_pointer.specs.Pieces.{numbers_of, AreStarts}
+use Rattle.sonic_pointer.specs.Internal.Pieces.{numbers_of, AreStarts}
 use Rattle.sonic_pointer.proofs.PiecesLemmas.{length_at, starts_at, starts_halved, numbers_halved}
 use Rattle.sonic_pointer.proofs.pieces.halve.Goals as goal
 

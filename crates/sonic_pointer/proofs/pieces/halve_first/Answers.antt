@@ -1,5 +1,5 @@
 use Rattle.std.proofs.Common.{◌++◌, take, drop, map, refl, sym, ap, ◌∙◌, subst, length, arith}
-use Rattle.sonic_pointer.specs.Pieces.{numbers_of, raised, AreStarts}
+use Rattle.sonic_pointer.specs.Internal.Pieces.{numbers_of, raised, AreStarts}
 use Rattle.sonic_pointer.proofs.PiecesLemmas.{joined, numbers-raised, starts_raised, starts_fit}
 use Rattle.sonic_pointer.proofs.pieces.halve_first.Goals as goal
 

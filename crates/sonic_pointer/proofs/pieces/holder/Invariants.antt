@@ -1,5 +1,5 @@
 use Rattle.std.proofs.Common.{◌-◌, ◌<◌, ◌≤◌, length, take}
-use Rattle.sonic_pointer.specs.Pieces.{numbers_of}
+use Rattle.sonic_pointer.specs.Internal.Pieces.{numbers_of}
 use Rattle.sonic_pointer.proofs.pieces.holder.Given as goal
 
 abbrev pub invariant-loop-low : goal.invariant-loop-low

@@ -1,5 +1,5 @@
 use Rattle.std.proofs.Common.{arith}
-use Rattle.sonic_pointer.specs.Pieces.{raised}
+use Rattle.sonic_pointer.specs.Internal.Pieces.{raised}
 use Rattle.sonic_pointer.proofs.PiecesLemmas.{raised_more}
 use Rattle.sonic_pointer.proofs.pieces.raise.Goals as goal
 

@@ -1,5 +1,5 @@
 use Rattle.std.proofs.Common.{◌≡◌, ◌-◌, ◌++◌, take, drop, map}
-use Rattle.sonic_pointer.specs.Pieces.{raised}
+use Rattle.sonic_pointer.specs.Internal.Pieces.{raised}
 use Rattle.sonic_pointer.proofs.pieces.raise.Given as goal
 
 abbrev pub invariant-loop-k : goal.invariant-loop-k

@@ -1,5 +1,5 @@
 use Rattle.std.proofs.Common.{◌+◌, ◌-◌, ◌≡◌, arith, subst}
-use Rattle.sonic_text.specs.Reading.{IsInString}
+use Rattle.sonic_text.specs.Internal.Reading.{IsInString}
 use Rattle.sonic_text.proofs.ReadingLemmas.{past_plain, past_special, past_char, closed, plain_to_end}
 use Rattle.sonic_text.proofs.string.pass_block.Goals as goal
 

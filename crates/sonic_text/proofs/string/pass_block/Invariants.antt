@@ -1,5 +1,5 @@
 use Rattle.std.proofs.Common.{◌-◌, ◌+◌, ◌<◌, ◌≤◌, ℕ, length}
-use Rattle.sonic_text.specs.Reading.{IsInString}
+use Rattle.sonic_text.specs.Internal.Reading.{IsInString}
 use Rattle.sonic_text.proofs.string.pass_block.Given as goal
 
 abbrev pub invariant-chars : goal.invariant-chars

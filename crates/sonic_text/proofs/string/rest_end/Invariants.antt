@@ -1,5 +1,5 @@
 use Rattle.std.proofs.Common.{◌-◌, ◌≤◌, ℕ, length}
-use Rattle.sonic_text.specs.Reading.{IsInString}
+use Rattle.sonic_text.specs.Internal.Reading.{IsInString}
 use Rattle.sonic_text.proofs.string.rest_end.Given as goal
 
 abbrev pub invariant-blocks-2 : goal.invariant-blocks-2

@@ -10,7 +10,7 @@ use Rattle.sonic_value.proofs.IndexLemmas.{on_ok}
 use Rattle.sonic_value.proofs.PassedLemmas.{object_starts, object_goes_on, less_to_fill, key_stopped, member_stopped, separator_stopped, member_skipped, member_unskipped, member_read, member_unread, replaced_read, replaced_stopped, object_read, object_stopped, lacks_members}
 use Rattle.sonic_value.proofs.ReaderLemmas.{same_source}
 use Rattle.sonic_value.proofs.fill.+fill.Goals as goal
-use Rattle.sonic_value.specs.Fillers.{items_of, IsLastWith}
+use Rattle.sonic_value.specs.Internal.Fillers.{items_of, IsLastWith}
 use Rattle.sonic_value.specs.Schemas.{HasMembers, no_object_met, no_members}
 use Rattle.sonic_value.specs.Views.{tree}
 

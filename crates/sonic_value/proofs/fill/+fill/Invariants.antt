@@ -1,7 +1,7 @@
 -- The members that were filled so far, and the text that is left.
 use Rattle.std.proofs.Common.{◌≡◌, ◌+◌, ◌-◌, ◌*◌, length}
 use Rattle.sonic_value.proofs.fill.+fill.Given as goal
-use Rattle.sonic_value.specs.Fillers.{items_of, IsObjectPassed}
+use Rattle.sonic_value.specs.Internal.Fillers.{items_of, IsObjectPassed}
 
 abbrev pub decreases-fill_value : goal.decreases-fill_value
 decreases-fill_value l = 3 * (length l.reader.now.source.text - l.reader.now.place) + 1

@@ -1,7 +1,7 @@
 -- The members that were passed lack the key.
 use Rattle.std.proofs.Common.{◌≡◌, ◌≤◌, false, length, drop}
 use Rattle.sonic_value.proofs.fill.last_of_key.Given as goal
-use Rattle.sonic_value.specs.Fillers.{items_of}
+use Rattle.sonic_value.specs.Internal.Fillers.{items_of}
 use Rattle.sonic_value.specs.Filling.{has_key}
 
 abbrev pub invariant-loop-index : goal.invariant-loop-index

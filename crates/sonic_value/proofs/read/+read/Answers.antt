@@ -6,7 +6,7 @@ use Rattle.sonic_text.specs.declared.kind.Kind.TheVariants.{Array, Object}
 use Rattle.sonic_value.proofs.DepthLemmas.{too_deep_here}
 use Rattle.sonic_value.proofs.Folds.{element, member, array_items, object_items}
 use Rattle.sonic_value.proofs.ReaderLemmas.{no_label, container_begins, key_stops, value_stops, separator_stops, item_kept, item_goes_on, item_leaves_less}
-use Rattle.sonic_value.specs.Readers.{too_deep}
+use Rattle.sonic_value.specs.Internal.Readers.{too_deep}
 use Rattle.sonic_value.proofs.read.+read.Goals as goal
 
 pub read_array-loop-more-init : goal.read_array-loop-more-init

@@ -3,7 +3,7 @@ use Rattle.std.proofs.Common.{◌≡◌, ◌+◌, ◌-◌, ◌*◌, length, map}
 use Rattle.sonic_text.specs.declared.kind.Kind.TheVariants.{Array, Object}
 use Rattle.sonic_value.proofs.Folds.{element, member}
 use Rattle.sonic_value.proofs.read.+read.Given as goal
-use Rattle.sonic_value.specs.Readers.{IsContainerRead}
+use Rattle.sonic_value.specs.Internal.Readers.{IsContainerRead}
 
 abbrev pub decreases-read_value : goal.decreases-read_value
 decreases-read_value l = 2 * l.room

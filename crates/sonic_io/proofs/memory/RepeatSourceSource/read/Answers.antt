@@ -5,6 +5,6 @@ use Rattle.sonic_io.proofs.memory.RepeatSourceSource.read.Goals as goal
 
 pub returns-clause-all : goal.returns-clause-all
 returns-clause-all c =
-    let copied : take c.min-count.result (c.fill.new.self ++ drop c.min-count.result c.args.room.now) ≡ replicate c.min-count.result c.args.self.now.byte
+    let copied : take c.min-count.result (c.fill.new.self ++ drop c.min-count.result c.args.room.now) ≡ replicate c.min-count.result c.self.inside.byte
     = grind (arith, common_steps) in
-    given_again _ _ _ _ (omega arith) copied
+    rw (← c.self.view_is) (given_again _ _ _ _ (omega arith) copied)

@@ -33,7 +33,7 @@ returns-in-Ok-Some-clause-found c =
     let count = found_count f in
     let utf8 = looked_at c.self.inside.is_bytes c.in-Ok-Some.ensures.utf8 c.self.invariant.utf8 in
     let part = found_part c.self.inside.steps.checks utf8 (λ e. (c.self.invariant.sure e).0) f in
-    rw (← c.self.view_is, c.in-Ok-Some.ensures.moved) record { going = c.if-self.false; shown = part; within = omega arith; moved = refl }
+    rw (← c.self.view_is, c.in-Ok-Some.ensures.moved) record { going = c.if-self.false; utf8 = c.in-Ok-Some.ensures.utf8; shown = part; within = omega arith; moved = refl }
 
 pub returns-in-Ok-None-clause-none : goal.returns-in-Ok-None-clause-none
 returns-in-Ok-None-clause-none c =

@@ -15,7 +15,8 @@ use Rattle.sonic_owned.proofs.value.OwnedLazyValue.as_array_mut.Statement.{state
 use Rattle.sonic_owned.proofs.value.lend.answer.Met as answers
 use Rattle.sonic_owned.proofs.value.lend_level.lend_array.Met.{met}
 use Rattle.sonic_owned.specs.Forms.{level, Members, unnamed, scalar_of_form}
-use Rattle.sonic_owned.specs.Lends.{answer_name, Answer, IsAnswer, IsLevelFound}
+use Rattle.sonic_owned.specs.Lends.{answer_name, LoanAnswer}
+use Rattle.sonic_owned.specs.Internal.Lends.{IsLoanAnswer, IsLevelFound}
 use Rattle.sonic_owned.specs.Opened.{IsClosedOf, IsOpened}
 use Rattle.sonic_owned.specs.Views.{form, elements}
 use Rattle.sonic_owned.specs.contracts.value.LazyArray.{the_row as S}
@@ -90,7 +91,7 @@ items l = unnamed (elements l)
 abbrev Lent : MutBor D → Lending → Fml
 Lent r o = LendsSoOk R S r o (λ m w. form m ≡ level Array (items w)) (λ m. form m ≡ form r.now)
 
-abbrev Left : MutBor D → Answer B → Fml
+abbrev Left : MutBor D → LoanAnswer B → Fml
 Left r a = follows_so R S r.ghost_name (answer_name a) (λ w m. IfOk a (λ found. OnSome found (form m ≡ level Array (items w))))
     (λ m. form m ≡ form r.now)
 
@@ -139,7 +140,7 @@ module _ {M : Type 1} (𝓤 : Ura M) (𝓛 : Logic 𝓤) (𝓜 : Model 𝓤 𝓛
     abbrev y : W.Ghost
     y = ((κs, qs, bounds, (r, (al, tt)), (mut_vals r, (gv al, tt))), tt)
 
-    out : (a : Answer B) (v : Val) → SaysOfLevel Array items (form r.now) a
+    out : (a : LoanAnswer B) (v : Val) → SaysOfLevel Array items (form r.now) a
         → ent 𝓤 (sep 𝓤 (sem 𝓛 (O.own_val a (v ∷ []))) (sep 𝓤 toks (sem 𝓛 (Left r a)))) (W.post y v)
     out a v says =
         qed 𝓛 (‵ (O.own_val a (v ∷ [])) ∷ Toks ∷ ‵ (Left r a) ∷ []) ∵ suffices ! _ (ends_at 𝓛 f.ended stayed c y v a (tt, (tt, tt)) (tt, (tt, tt))) $
@@ -176,9 +177,9 @@ module _ {M : Type 1} (𝓤 : Ura M) (𝓛 : Logic 𝓤) (𝓜 : Model 𝓤 𝓛
         use2 𝓛 (raw (K.pre z')) (id⊢ 𝓤 _) $
         calls_at ! (framed 𝓤 H 𝓜 (tables 𝓤 H 𝓜 𝓡 𝓡.env)) K (answers.met 𝓤 𝓛 𝓜 𝓡 (code.calls-sonic_owned::value::lend::answer 𝓡.env wired) A L) z'
         (and_then ! (get ! refl) (no_more !)) (λ v'.
-        use1 𝓛 (later (some (λ (a : Answer B). ((‵ (flft κs.0 qs.0) ⊛ ‵ (flft [] full_share) ⊛ ‵ ftrue) ⊛ ‵ (O.own_val a (v' ∷ []))) ⊛
-        some (λ (ws : Lasts (h.ended A) z'.0.0 z'.0.3). ‵ (lasts (h.ended A) z'.0.0 z'.0.3 ws) ⊛ raw (fact 𝓤 (IsAnswer o a)))))) (id⊢ 𝓤 _) $
-        await ! tt $ pick ! (λ a. split ! $ split ! $ move ! (2 ∷ []) $ pick ! (λ ws'. split ! $ drop ! $ heard ! (IsAnswer o a) (λ is_a.
+        use1 𝓛 (later (some (λ (a : LoanAnswer B). ((‵ (flft κs.0 qs.0) ⊛ ‵ (flft [] full_share) ⊛ ‵ ftrue) ⊛ ‵ (O.own_val a (v' ∷ []))) ⊛
+        some (λ (ws : Lasts (h.ended A) z'.0.0 z'.0.3). ‵ (lasts (h.ended A) z'.0.0 z'.0.3 ws) ⊛ raw (fact 𝓤 (IsLoanAnswer o a)))))) (id⊢ 𝓤 _) $
+        await ! tt $ pick ! (λ a. split ! $ split ! $ move ! (2 ∷ []) $ pick ! (λ ws'. split ! $ drop ! $ heard ! (IsLoanAnswer o a) (λ is_a.
         split ! $ move ! (1 ∷ []) $ drop ! $ nothing ! $ move ! (1 ∷ 0 ∷ []) $ join ! $ move ! (1 ∷ []) $
         -- [the answer; the tokens; the rest]
         peeks ! O (Is O) (shows 𝓛 O) a (v' ∷ []) (λ isa. lands_as ! refl refl (answer_typed κs.0 S 𝓛 a v' isa) $ returns ! (look_at ! 0 refl) $

@@ -1,6 +1,6 @@
 use Rattle.std.proofs.Common.{refl}
 use Rattle.sonic_owned.specs.Edits.{is_set, is_taken}
-use Rattle.sonic_owned.specs.Reached.{change_made}
+use Rattle.sonic_owned.specs.Internal.Changed.{change_made}
 use Rattle.sonic_owned.proofs.value.OwnedLazyValue.change.Goals as goal
 
 pub returns-in-Set : goal.returns-in-Set

@@ -15,9 +15,10 @@ use Rattle.sonic_owned.proofs.value.OwnedLazyValue.get_mut.Statement.{statement}
 use Rattle.sonic_owned.proofs.value.lend.OwnedLazyValueOpens.TheImpl.Met.{passed}
 use Rattle.sonic_owned.proofs.value.lend.answer.Met as answers
 use Rattle.sonic_owned.proofs.value.lend.lend_opened.Met.{met}
-use Rattle.sonic_owned.specs.Lends.{answer_name, Answer, HasItem, HasNoItem, IsFound, IsItemPut, IsLeft, IsAnswer, Lending, OfAnswer, OfPart}
-use Rattle.sonic_owned.specs.Puts.{IsPart, IsPut}
-use Rattle.sonic_owned.specs.Reached.{LeadsNowhere, MeansStill}
+use Rattle.sonic_owned.specs.Lends.{answer_name, LoanAnswer, OfAnswer}
+use Rattle.sonic_owned.specs.Internal.Lends.{HasItem, HasNoItem, IsLent, IsItemPut, IsLeft, IsLoanAnswer, Lending, OfPart}
+use Rattle.sonic_owned.specs.Puts.{IsPartOf, IsPut}
+use Rattle.sonic_owned.specs.Reached.{IsOpenedAlong, IsKeptAlong, LeadsNowhere}
 use Rattle.sonic_find.specs.Paths.{kind_of}
 use Rattle.sonic_owned.specs.Opened.{IsClosedOf}
 use Rattle.sonic_owned.specs.Views.{form}
@@ -96,15 +97,15 @@ stayed = (
 
 -- what the generic call leaves and says
 abbrev Given : PointerNode → MutBor D → Lending → Fml
-Given node r o = LendsSoOk R R r o (λ m w. OfPart o (λ i. IsItemPut (node_of node) (form r.now) i (form w) (form m))) (λ m. IsLeft o (form r.now) (form m))
+Given node r o = LendsSoOk R R r o (λ m w. OfPart o (λ i. IsItemPut (node_of node) (form r.now) i (form w) (form m))) (λ m. IsLeft (IsOpenedAlong (node_of node ∷ []) (form r.now) (form m)) o (form r.now) (form m))
 
 abbrev GivenV : PointerNode → MutBor D → Lending → Type 0
-GivenV node r o = IsFound (HasItem (node_of node) (form r.now)) (HasNoItem (node_of node) (form r.now)) (IsClosedOf (kind_of (node_of node)) (form r.now)) o
+GivenV node r o = IsLent (HasItem (node_of node) (form r.now)) (HasNoItem (node_of node) (form r.now)) (IsClosedOf (kind_of (node_of node)) (form r.now)) o
 
 -- what is left at the end of the loan
-abbrev Left : PointerNode → MutBor D → Answer D → Fml
+abbrev Left : PointerNode → MutBor D → LoanAnswer D → Fml
 Left node r a = follows_so R R r.ghost_name (answer_name a) (λ w m. OfAnswer a (λ i. IsPut (node_of node ∷ []) (form r.now) i (form w) (form m)))
-    (λ m. MeansStill (form r.now) (form m) × OnErr a (form m ≡ form r.now))
+    (λ m. IsKeptAlong (node_of node ∷ []) (form r.now) (form m) × OnErr a (form m ≡ form r.now))
 
 module _ {M : Type 1} (𝓤 : Ura M) (𝓛 : Logic 𝓤) (𝓜 : Model 𝓤 𝓛.H) (𝓡 : Running 𝓤 𝓛.H 𝓜) (wired : Wired 𝓡.env code.code) where
   open 𝓛 use {H}
@@ -150,7 +151,7 @@ module _ {M : Type 1} (𝓤 : Ura M) (𝓛 : Logic 𝓤) (𝓜 : Model 𝓤 𝓛
     abbrev y : W.Ghost
     y = ((κs, qs, bounds, (r, (al, (p, tt))), (mut_vals r, (gv al, (nv p, tt)))), tt)
 
-    out : (a : Answer D) (v : Val) → SaysOfNode (node_of p) (form r.now) a
+    out : (a : LoanAnswer D) (v : Val) → SaysOfNode (node_of p) (form r.now) a
         → ent 𝓤 (sep 𝓤 (sem 𝓛 (O.own_val a (v ∷ []))) (sep 𝓤 toks (sem 𝓛 (Left p r a)))) (W.post y v)
     out a v says =
         qed 𝓛 (‵ (O.own_val a (v ∷ [])) ∷ Toks ∷ ‵ (Left p r a) ∷ []) ∵
@@ -159,7 +160,7 @@ module _ {M : Type 1} (𝓤 : Ura M) (𝓛 : Logic 𝓤) (𝓜 : Model 𝓤 𝓛
         use0 𝓛 (raw (fact 𝓤 (OnErr a (IsClosedOf (kind_of (node_of p)) (form r.now))))) (fact_i 𝓤 _ (emp 𝓤) says.memory) $
         use0 𝓛 (raw (fact 𝓤 (IfErr a (λ e. IsPlainError e NoMemory)))) (fact_i 𝓤 _ (emp 𝓤) says.err) $ join ! $
         use0 𝓛 (raw (fact 𝓤 (IfOk a (λ found. found ≡ None → LeadsNowhere (node_of p ∷ []) (form r.now))))) (fact_i 𝓤 _ (emp 𝓤) says.says.none) $ join ! $
-        use0 𝓛 (raw (fact 𝓤 (IfOk a (λ found. IfSome found (λ part. IsPart (node_of p ∷ []) (form r.now) (form part.now))))))
+        use0 𝓛 (raw (fact 𝓤 (IfOk a (λ found. IfSome found (λ part. IsPartOf (node_of p ∷ []) (form r.now) (form part.now))))))
         (fact_i 𝓤 _ (emp 𝓤) says.says.some) $
         join ! $ done !
 
@@ -209,9 +210,9 @@ module _ {M : Type 1} (𝓤 : Ura M) (𝓛 : Logic 𝓤) (𝓜 : Model 𝓤 𝓛
         use2 𝓛 (raw (K.pre z')) (id⊢ 𝓤 _) $
         calls_at ! (framed 𝓤 H 𝓜 (tables 𝓤 H 𝓜 𝓡 𝓡.env)) K (answers.met 𝓤 𝓛 𝓜 𝓡 (code.calls-sonic_owned::value::lend::answer 𝓡.env wired) A L) z'
         (and_then ! (get ! refl) (no_more !)) (λ v'.
-        use1 𝓛 (later (some (λ (a : Answer D). ((‵ (flft κs.0 qs.0) ⊛ ‵ (flft [] full_share) ⊛ ‵ ftrue) ⊛ ‵ (O.own_val a (v' ∷ []))) ⊛
-        some (λ (ws : Lasts (h.ended A) z'.0.0 z'.0.3). ‵ (lasts (h.ended A) z'.0.0 z'.0.3 ws) ⊛ raw (fact 𝓤 (IsAnswer o a)))))) (id⊢ 𝓤 _) $
-        await ! tt $ pick ! (λ a. split ! $ split ! $ move ! (2 ∷ []) $ pick ! (λ ws'. split ! $ drop ! $ heard ! (IsAnswer o a) (λ is_a.
+        use1 𝓛 (later (some (λ (a : LoanAnswer D). ((‵ (flft κs.0 qs.0) ⊛ ‵ (flft [] full_share) ⊛ ‵ ftrue) ⊛ ‵ (O.own_val a (v' ∷ []))) ⊛
+        some (λ (ws : Lasts (h.ended A) z'.0.0 z'.0.3). ‵ (lasts (h.ended A) z'.0.0 z'.0.3 ws) ⊛ raw (fact 𝓤 (IsLoanAnswer o a)))))) (id⊢ 𝓤 _) $
+        await ! tt $ pick ! (λ a. split ! $ split ! $ move ! (2 ∷ []) $ pick ! (λ ws'. split ! $ drop ! $ heard ! (IsLoanAnswer o a) (λ is_a.
         split ! $ move ! (1 ∷ []) $ drop ! $ nothing ! $ move ! (3 ∷ 0 ∷ []) $ join ! $ move ! (1 ∷ 0 ∷ []) $ join ! $ move ! (1 ∷ []) $
         -- [the answer; the tokens; the rest]
         peeks ! O (Is O) (shows 𝓛 O) a (v' ∷ []) (λ isa. lands_as ! refl refl (answer_typed κs.0 R 𝓛 a v' isa) $ returns ! (look_at ! 0 refl) $

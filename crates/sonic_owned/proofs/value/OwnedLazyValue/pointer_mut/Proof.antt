@@ -13,8 +13,9 @@ use Rattle.sonic_owned.proofs.value.OwnedLazyValue.pointer_mut.Statement.{statem
 use Rattle.sonic_owned.proofs.value.lend.OwnedLazyValueWalks.TheImpl.Met.{passed}
 use Rattle.sonic_owned.proofs.value.lend.answer.Met as answers
 use Rattle.sonic_owned.proofs.value.lend.lend_part.Met.{met}
-use Rattle.sonic_owned.specs.Lends.{answer_name, Answer, IsLeftBehind, IsPathFound, IsAnswer, Lending, OfAnswer, OfPart}
-use Rattle.sonic_owned.specs.Puts.{IsPart, IsPut}
+use Rattle.sonic_owned.specs.Lends.{answer_name, LoanAnswer, IsLeftBehind, OfAnswer}
+use Rattle.sonic_owned.specs.Internal.Lends.{IsPathFound, IsLoanAnswer, Lending, OfPart}
+use Rattle.sonic_owned.specs.Puts.{IsPartOf, IsPut}
 use Rattle.sonic_owned.specs.Reached.{IsOpenedOn, IsUnreached, LeadsNowhere}
 use Rattle.sonic_owned.specs.Views.{form}
 use Rattle.sonic_owned.specs.contracts.value.OwnedLazyValue.pointer_mut as f
@@ -96,7 +97,7 @@ abbrev GivenV : List PointerNode → MutBor D → Lending → Type 0
 GivenV path r o = IsPathFound path (form r.now) o
 
 -- what is left at the end of the loan
-abbrev Left : List PointerNode → MutBor D → Answer D → Fml
+abbrev Left : List PointerNode → MutBor D → LoanAnswer D → Fml
 Left path r a = follows_so R R r.ghost_name (answer_name a) (λ w m. OfAnswer a (λ i. IsPut (path_of path) (form r.now) i (form w) (form m)))
     (λ m. IsLeftBehind path (form r.now) (form m))
 
@@ -145,7 +146,7 @@ module _ {M : Type 1} (𝓤 : Ura M) (𝓛 : Logic 𝓤) (𝓜 : Model 𝓤 𝓛
     abbrev y : W.Ghost
     y = ((κs, qs, bounds, (r, (al, (p, tt))), (mut_vals r, (gv al, (shr_slice_vals p, tt)))), tt)
 
-    out : (a : Answer D) (v : Val) → SaysOfPath p.now (form r.now) a
+    out : (a : LoanAnswer D) (v : Val) → SaysOfPath p.now (form r.now) a
         → ent 𝓤 (sep 𝓤 (sem 𝓛 (O.own_val a (v ∷ []))) (sep 𝓤 toks (sem 𝓛 (Left p.now r a)))) (W.post y v)
     out a v says =
         qed 𝓛 (‵ (O.own_val a (v ∷ [])) ∷ Toks ∷ ‵ (Left p.now r a) ∷ []) ∵
@@ -155,7 +156,7 @@ module _ {M : Type 1} (𝓤 : Ura M) (𝓛 : Logic 𝓤) (𝓜 : Model 𝓤 𝓛
         use0 𝓛 (raw (fact 𝓤 (255 < length p.now → IsErr a))) (fact_i 𝓤 _ (emp 𝓤) says.limit) $ join ! $
         use0 𝓛 (raw (fact 𝓤 (IfErr a (IsUnreached (path_of p.now))))) (fact_i 𝓤 _ (emp 𝓤) says.err) $ join ! $
         use0 𝓛 (raw (fact 𝓤 (IfOk a (λ found. found ≡ None → LeadsNowhere (path_of p.now) (form r.now))))) (fact_i 𝓤 _ (emp 𝓤) says.says.none) $ join ! $
-        use0 𝓛 (raw (fact 𝓤 (IfOk a (λ found. IfSome found (λ part. IsPart (path_of p.now) (form r.now) (form part.now))))))
+        use0 𝓛 (raw (fact 𝓤 (IfOk a (λ found. IfSome found (λ part. IsPartOf (path_of p.now) (form r.now) (form part.now))))))
         (fact_i 𝓤 _ (emp 𝓤) says.says.some) $
         join ! $ done !
 
@@ -205,9 +206,9 @@ module _ {M : Type 1} (𝓤 : Ura M) (𝓛 : Logic 𝓤) (𝓜 : Model 𝓤 𝓛
         use2 𝓛 (raw (K.pre z')) (id⊢ 𝓤 _) $
         calls_at ! (framed 𝓤 H 𝓜 (tables 𝓤 H 𝓜 𝓡 𝓡.env)) K (answers.met 𝓤 𝓛 𝓜 𝓡 (code.calls-sonic_owned::value::lend::answer 𝓡.env wired) A L) z'
         (and_then ! (get ! refl) (no_more !)) (λ v'.
-        use1 𝓛 (later (some (λ (a : Answer D). ((‵ (flft κs.0 qs.0) ⊛ ‵ (flft [] full_share) ⊛ ‵ ftrue) ⊛ ‵ (O.own_val a (v' ∷ []))) ⊛
-        some (λ (ws : Lasts (h.ended A) z'.0.0 z'.0.3). ‵ (lasts (h.ended A) z'.0.0 z'.0.3 ws) ⊛ raw (fact 𝓤 (IsAnswer o a)))))) (id⊢ 𝓤 _) $
-        await ! tt $ pick ! (λ a. split ! $ split ! $ move ! (2 ∷ []) $ pick ! (λ ws'. split ! $ drop ! $ heard ! (IsAnswer o a) (λ is_a.
+        use1 𝓛 (later (some (λ (a : LoanAnswer D). ((‵ (flft κs.0 qs.0) ⊛ ‵ (flft [] full_share) ⊛ ‵ ftrue) ⊛ ‵ (O.own_val a (v' ∷ []))) ⊛
+        some (λ (ws : Lasts (h.ended A) z'.0.0 z'.0.3). ‵ (lasts (h.ended A) z'.0.0 z'.0.3 ws) ⊛ raw (fact 𝓤 (IsLoanAnswer o a)))))) (id⊢ 𝓤 _) $
+        await ! tt $ pick ! (λ a. split ! $ split ! $ move ! (2 ∷ []) $ pick ! (λ ws'. split ! $ drop ! $ heard ! (IsLoanAnswer o a) (λ is_a.
         split ! $ move ! (1 ∷ []) $ drop ! $ nothing ! $ move ! (3 ∷ 0 ∷ []) $ join ! $ move ! (3 ∷ 0 ∷ []) $ join ! $ move ! (1 ∷ 0 ∷ []) $ join ! $
         move ! (1 ∷ []) $
         -- [the answer; the tokens; the rest]

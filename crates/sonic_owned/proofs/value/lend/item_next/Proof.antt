@@ -9,9 +9,10 @@ use Rattle.sonic_owned.proofs.value.lend.Stop.TheLaws.{the_row_laws as stop_laws
 use Rattle.sonic_owned.proofs.value.lend.item_next.Code as code
 use Rattle.sonic_owned.proofs.value.lend.item_next.Statement.{statement}
 use Rattle.sonic_owned.proofs.value.lend.lend_next.Met.{met}
-use Rattle.sonic_owned.specs.Lends.{AtNode, HasItem, HasNoItem, IfAtNode, IsFound, IsItemPut, IsLeft, Lending, OfPart}
+use Rattle.sonic_owned.specs.Internal.Lends.{AtNode, HasItem, HasNoItem, IfAtNode, IsLent, IsItemPut, IsLeft, Lending, OfPart}
 use Rattle.sonic_owned.specs.Opened.{IsClosedOf}
 use Rattle.sonic_find.specs.Paths.{kind_of}
+use Rattle.sonic_owned.specs.Reached.{IsOpenedAlong}
 use Rattle.sonic_owned.specs.Views.{form}
 use Rattle.sonic_owned.specs.contracts.value.OwnedLazyValue.{the_row as R}
 use Rattle.sonic_owned.specs.contracts.value.lend.OwnedLazyValueOpens.TheImpl.{ghosts, dict}
@@ -101,8 +102,8 @@ item_next_spec {M} 𝓤 𝓛 𝓜 𝓡 wired =
     let E : RattleType = RS.the_row Lent StopRow in
     let path = p.now.nodes.now in
     let F : Lending → Fml = λ o. LendsSoOk R R r o (λ m w. OfPart o (λ i. AtNode n path (λ node. IsItemPut node (form r.now) i (form w) (form m))))
-    (λ m. IsLeft o (form r.now) (form m)) in
-    let V : Lending → Type 0 = λ o. IsFound (λ i. AtNode n path (λ node. HasItem node (form r.now) i))
+    (λ m. IsLeft (AtNode n path (λ node. IsOpenedAlong (node ∷ []) (form r.now) (form m))) o (form r.now) (form m)) in
+    let V : Lending → Type 0 = λ o. IsLent (λ i. AtNode n path (λ node. HasItem node (form r.now) i))
     (AtNode n path (λ node. HasNoItem node (form r.now))) (IfAtNode n path (λ node. IsClosedOf (kind_of node) (form r.now))) o in
     let fits = are.1.1.0.1 in
     qed 𝓛 (((‵ (flft κ q) ⊛ ‵ (flft λ₁ q₁) ⊛ ‵ (flft κs' qs') ⊛ ‵ (flft κp qp) ⊛ ‵ ftrue) ⊛ ‵ (Lent.own_val r (mut_vals r)) ⊛ ‵ (Shown.own_val p (shr_vals p)) ⊛

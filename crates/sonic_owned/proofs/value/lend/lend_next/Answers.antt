@@ -1,7 +1,7 @@
 use Rattle.std.proofs.Common.{refl, []}
-use Rattle.sonic_owned.proofs.Lent.{next_is, of_part, found_by}
+use Rattle.sonic_owned.proofs.Lent.{next_is, of_part, found_by, left_next}
 use Rattle.sonic_owned.proofs.value.lend.lend_next.Goals as goal
-use Rattle.sonic_owned.specs.Lends.{IsItemPut, HasItem, HasNoItem}
+use Rattle.sonic_owned.specs.Internal.Lends.{IsItemPut, HasItem, HasNoItem}
 use Rattle.sonic_owned.specs.Opened.{IsClosedOf}
 use Rattle.sonic_find.specs.Paths.{kind_of}
 use Rattle.sonic_owned.specs.Views.{form}
@@ -20,7 +20,7 @@ returns g c =
         refl,
         (λ w is. of_part r _ _ (λ i. next_is path c.args.left d
             (λ node. IsItemPut node f i (form w) (g.A.Opens.seen (c.lend_opened.follows.lender w))) fits less) (c.lend_opened.follows.holds w is)),
-        c.lend_opened.follows.holds-at-none,
+        left_next r path c.args.left d _ _ fits less c.lend_opened.follows.holds-at-none,
       ),
       record {
         back = tt;

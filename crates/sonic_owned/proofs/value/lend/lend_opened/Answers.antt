@@ -1,8 +1,9 @@
 use Rattle.std.proofs.Common.{refl}
 use Rattle.sonic_owned.proofs.Lent.{item_put}
-use Rattle.sonic_owned.proofs.OpeningLemmas.{opened_means}
+use Rattle.sonic_owned.proofs.ReachLemmas.{level_along}
 use Rattle.sonic_owned.proofs.value.lend.lend_opened.Goals as goal
-use Rattle.sonic_owned.specs.Lends.{lacks_item}
+use Rattle.sonic_owned.specs.Reached.{as_before}
+use Rattle.sonic_owned.specs.Internal.Lends.{lacks_item, other_kind}
 
 pub returns-in-Some : goal.returns-in-Some
 returns-in-Some g c =
@@ -14,6 +15,10 @@ returns-in-Some g c =
 pub returns-in-None : goal.returns-in-None
 returns-in-None g c =
     let opened = c.if-not-open_level.ensures.opened refl in (
-      (refl, (λ w _. tt), λ x m. rw c.lend_item.follows.holds-at-none (opened_means opened m)),
+      (refl, (λ w _. tt), level_along (c.if-not-is_for.ensures.0 refl) opened c.lend_item.follows.holds-at-none),
       record { back = tt; found = lacks_item opened (c.in-None.ensures.none refl) },
     )
+
+pub returns-then-not-is_for : goal.returns-then-not-is_for
+returns-then-not-is_for g c =
+    ((refl, (λ w e. tt), as_before refl), record { back = tt; found = other_kind (λ k. let b = c.if-not-is_for.ensures.1 k in absurd cc) })

@@ -1,5 +1,6 @@
-use Rattle.std.proofs.Common.{refl}
+use Rattle.std.proofs.Common.{refl, arith}
 use Rattle.sonic_owned.proofs.Lent.{all_nodes, path_found, left_behind}
+use Rattle.sonic_owned.proofs.ReachLemmas.{kept_as_before}
 use Rattle.sonic_owned.proofs.value.lend.lend_part.Goals as goal
 
 pub returns : goal.returns
@@ -14,3 +15,7 @@ returns g c =
       ),
       record { back = tt; found = path_found path f r c.if-path-gt-MAX_NODES.false c.walk.ensures.found },
     )
+
+pub returns-then-path-gt-MAX_NODES : goal.returns-then-path-gt-MAX_NODES
+returns-then-path-gt-MAX_NODES g c =
+    ((refl, (λ w e. tt), (kept_as_before refl, λ long. refl)), record { back = tt; found = omega (arith, c.if-path-gt-MAX_NODES.true) })

@@ -2,8 +2,8 @@ use Rattle.std.proofs.Common.{refl}
 use Rattle.sonic_owned.proofs.ReachLemmas.{on_some}
 use Rattle.sonic_owned.proofs.value.lend_level.lend_array.Goals as goal
 
-pub returns-in-Some : goal.returns-in-Some
-returns-in-Some c = (
+pub returns : goal.returns
+returns c = (
   (refl, (λ w _. on_some c.in-Some.is (c.array_level.follows.holds w)), tt),
   record { back = tt; found = rw c.in-Some.ensures.some at c.in-Ok.ensures.ok },
 )

@@ -29,6 +29,7 @@ returns-in-Err-write_text-clause-err c =
       end = c.in-Ok.string.end;
       bytes = ahead.bytes;
       string = ahead.string;
+      utf8 = ahead.utf8;
       copied = λ there. let direct = ahead.direct.1 there in absurd cc;
       error = record { code = c.plain.ensures.code; offset = c.plain.ensures.offset; line = c.plain.ensures.line; column = c.plain.ensures.column; text = c.plain.ensures.text };
       cursor = λ i. c.args.self.now;

@@ -1,6 +1,6 @@
 use Rattle.std.proofs.Common.{◌-◌, slice_get, sym, ap, ◌∙◌, subst, length, arith}
 use Rattle.std.proofs.lemmas.List.{length-append}
-use Rattle.sonic_pointer.specs.Pieces.{numbers_of, IsHolder}
+use Rattle.sonic_pointer.specs.Internal.Pieces.{numbers_of, IsHolder}
 use Rattle.sonic_pointer.proofs.PiecesLemmas.{from_start, before_end, slice_get_at}
 use Rattle.sonic_pointer.proofs.pieces.Pieces.get.Goals as goal
 

@@ -1,7 +1,7 @@
 use Rattle.std.proofs.Common.{◌++◌, sym, ap, ◌∙◌, insert, arith}
 use Rattle.std.proofs.lemmas.Result.{IfOk-weaker}
 use Rattle.std.proofs.lemmas.List.Edits.{insert-append_right}
-use Rattle.sonic_pointer.specs.Pieces.{numbers_of}
+use Rattle.sonic_pointer.specs.Internal.Pieces.{numbers_of}
 use Rattle.sonic_pointer.proofs.pieces.Pieces.insert.Goals as goal
 
 pub returns-clause-ok : goal.returns-clause-ok

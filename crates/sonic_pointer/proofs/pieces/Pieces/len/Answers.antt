@@ -1,6 +1,6 @@
 use Rattle.std.proofs.Common.{length, sym, ap, subst, arith}
 use Rattle.std.proofs.lemmas.List.{length-append}
-use Rattle.sonic_pointer.specs.Pieces.{numbers_of, AreStarts}
+use Rattle.sonic_pointer.specs.Internal.Pieces.{numbers_of, AreStarts}
 use Rattle.sonic_pointer.proofs.PiecesLemmas.{end_of}
 use Rattle.sonic_pointer.proofs.pieces.Pieces.len.Goals as goal
 

@@ -7,4 +7,4 @@ use Rattle.sonic_pointer.proofs.view.TreeView.count.Goals as goal
 pub returns-clause-children : goal.returns-clause-children
 returns-clause-children c =
     let view = c.self.inside in
-    subst (λ (v : View). IsChildren v.paths v.prefix v.children) c.self.view_is (children_of view.shape view.at c.self.invariant.shape c.self.invariant.inside)
+    subst (λ (v : View). IsChildren v.paths v.prefix v.children) c.self.view_is (children_of view.trie view.at c.self.invariant.trie c.self.invariant.inside)

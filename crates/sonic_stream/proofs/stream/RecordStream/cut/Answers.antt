@@ -1,5 +1,5 @@
 use Rattle.std.proofs.Common.{◌≡◌, true, inl, refl}
-use Rattle.sonic_stream.specs.Streams.IsNext.{needs_more, cut, end}
+use Rattle.sonic_stream.specs.Streams.IsNextRecord.{needs_more, cut, end}
 use Rattle.sonic_stream.proofs.stream.RecordStream.cut.Goals as goal
 
 pub returns-then-not-self : goal.returns-then-not-self

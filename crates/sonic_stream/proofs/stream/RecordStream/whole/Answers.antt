@@ -2,7 +2,7 @@ use Rattle.std.proofs.Common.{inr, refl, arith, ◌≡◌}
 use Rattle.sonic_error.specs.declared.code.ErrorCode.TheVariants.{TrailingCharacters}
 use Rattle.sonic_text.proofs.Within.{value_within}
 use Rattle.sonic_stream.specs.Streams.{IsRecord}
-use Rattle.sonic_stream.specs.Streams.IsNext.{whole, needs_more}
+use Rattle.sonic_stream.specs.Streams.IsNextRecord.{whole, needs_more}
 use Rattle.sonic_stream.proofs.StreamLemmas.{more_to_come, unsettled_none, unsettled_never}
 use Rattle.sonic_stream.proofs.stream.RecordStream.whole.Goals as goal
 

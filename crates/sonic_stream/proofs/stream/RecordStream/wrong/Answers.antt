@@ -1,5 +1,5 @@
 use Rattle.std.proofs.Common.{◌≡◌, refl}
-use Rattle.sonic_stream.specs.Streams.IsNext.{wrong}
+use Rattle.sonic_stream.specs.Streams.IsNextRecord.{wrong}
 use Rattle.sonic_stream.proofs.stream.RecordStream.wrong.Goals as goal
 
 pub returns : goal.returns

@@ -13,7 +13,7 @@ use Rattle.sonic_value.proofs.IndexLemmas.{missing, past_array, inserted, new_me
 use Rattle.sonic_value.proofs.index.ValueInserts.insert.Goals as goal
 use Rattle.sonic_value.proofs.index.ValueInserts.insert.Goals.{In-Key, In-Some}
 use Rattle.sonic_value.specs.Indexing.{refused}
-use Rattle.sonic_value.specs.Keys.{seen}
+use Rattle.sonic_value.specs.Internal.Keys.{seen}
 use Rattle.sonic_value.specs.Views.{tree, elements_of, members_of}
 
 -- no member has the key

@@ -7,7 +7,7 @@ use Rattle.sonic_text.specs.Values.{IsValue}
 use Rattle.sonic_value.proofs.ScalarLemmas.{scalar_read, scalar_unread}
 use Rattle.sonic_value.proofs.StringLemmas.{scalar_token}
 use Rattle.sonic_value.proofs.reader.Reader.scalar.Goals as goal
-use Rattle.sonic_value.specs.Readers.{BeginsNoContainer}
+use Rattle.sonic_value.specs.Internal.Readers.{BeginsNoContainer}
 
 pub returns-in_err-skip_value-clause-err : goal.returns-in_err-skip_value-clause-err
 returns-in_err-skip_value-clause-err c =

@@ -21,7 +21,7 @@ use Rattle.sonic_value.proofs.value.lend.ValueHolds.TheImpl.Met.{passed}
 use Rattle.sonic_value.proofs.value.lend.after_first.Met as after
 use Rattle.sonic_value.proofs.value.lend.ends.Met as ending
 use Rattle.sonic_value.proofs.value.lend.lend_first.Met.{met}
-use Rattle.sonic_value.specs.Loans.{AtFirst}
+use Rattle.sonic_value.specs.Internal.Loans.{AtFirst}
 use Rattle.sonic_value.specs.Views.{tree}
 use Rattle.sonic_value.specs.contracts.value.Value.pointer_mut as f
 use Rattle.sonic_value.specs.contracts.value.Value.{the_row as R}

@@ -4,7 +4,7 @@ use Rattle.sonic_text.specs.declared.kind.Kind.TheVariants.{Array, Object}
 use Rattle.sonic_value.proofs.Folds.{tree_array, tree_object}
 use Rattle.sonic_value.proofs.ItemLemmas.{element_there, element_past, key_within, seen_at, member_first, member_none}
 use Rattle.sonic_value.proofs.value.Value.get.Goals as goal
-use Rattle.sonic_value.specs.Keys.{seen}
+use Rattle.sonic_value.specs.Internal.Keys.{seen}
 use Rattle.sonic_value.specs.Views.{tree, elements_of, members_of, key_and_tree}
 
 pub returns-in-Array-Index : goal.returns-in-Array-Index

@@ -6,7 +6,7 @@ use Rattle.sonic_text.specs.Trees.Tree.{container}
 use Rattle.sonic_text.specs.declared.kind.Kind.TheVariants.{Array, Object}
 use Rattle.sonic_value.proofs.HeldLemmas.{of_lent, both_lent}
 use Rattle.sonic_value.proofs.value.lend.lend_item.Goals as goal
-use Rattle.sonic_value.specs.Keys.{seen}
+use Rattle.sonic_value.specs.Internal.Keys.{seen}
 use Rattle.sonic_value.specs.Views.{tree, elements_of, members_of}
 use Rattle.sonic_value.specs.declared.value.Value.{Value}
 

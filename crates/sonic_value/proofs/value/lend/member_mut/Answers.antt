@@ -3,7 +3,7 @@ use Rattle.std.proofs.lemmas.Bool.{false≢true}
 use Rattle.std.specs.Vec.{vec_len}
 use Rattle.sonic_value.proofs.ItemLemmas.{key_within, seen_at, member_first, member_none, member_put, same_list}
 use Rattle.sonic_value.proofs.value.lend.member_mut.Goals as goal
-use Rattle.sonic_value.specs.Keys.{seen}
+use Rattle.sonic_value.specs.Internal.Keys.{seen}
 use Rattle.sonic_value.specs.Views.{key_and_tree}
 
 pub returns-in-Some-get_mut : goal.returns-in-Some-get_mut

@@ -4,8 +4,8 @@ use Rattle.sonic_text.specs.declared.kind.Kind.TheVariants.{Array, Object}
 use Rattle.sonic_value.proofs.Folds.{tree_array, tree_object}
 use Rattle.sonic_value.proofs.SpelledLemmas.{kept_elements, kept_members}
 use Rattle.sonic_value.proofs.value.spell.+spell.Goals as goal
-use Rattle.sonic_value.specs.Keeping.{kept}
-use Rattle.sonic_value.specs.SpelledViews.{spelled_tree, spelled_member}
+use Rattle.sonic_value.specs.Internal.Keeping.{kept}
+use Rattle.sonic_value.specs.Internal.SpelledViews.{spelled_tree, spelled_member}
 use Rattle.sonic_value.specs.Views.{tree, elements_of, members_of}
 
 pub spelled_value-returns-in_ok-spelled_elements-in-Array : goal.spelled_value-returns-in_ok-spelled_elements-in-Array

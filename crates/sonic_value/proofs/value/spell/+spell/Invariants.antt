@@ -1,6 +1,6 @@
 -- The copies are those of the items that were passed.
 use Rattle.std.proofs.Common.{◌≡◌, map, take}
-use Rattle.sonic_value.specs.SpelledViews.{spelled_tree, spelled_member}
+use Rattle.sonic_value.specs.Internal.SpelledViews.{spelled_tree, spelled_member}
 use Rattle.sonic_value.specs.Views.{tree, key_and_tree}
 use Rattle.sonic_value.proofs.value.spell.+spell.Given as goal
 

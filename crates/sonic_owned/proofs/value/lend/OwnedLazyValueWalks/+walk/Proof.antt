@@ -7,16 +7,16 @@ use Rattle.std.specs.contracts.result.Result as RS
 use Rattle.sonic_owned.proofs.Loans.{is_zero, is_suc, so_self, so_none, so_then, by_result}
 use Rattle.sonic_owned.proofs.Lent.{of_part}
 use Rattle.sonic_owned.proofs.ValueLemmas.{value_sound}
-use Rattle.sonic_owned.proofs.WalkLemmas.{put_none, put_further, found_further, found_stop, IsWalked, left_means, means_further}
+use Rattle.sonic_owned.proofs.WalkLemmas.{put_none, put_further, found_further, found_stop, IsWalked, left_along, along_further}
 use Rattle.sonic_owned.proofs.value.lend.OwnedLazyValueWalks.+walk.{statement, functions}
 use Rattle.sonic_owned.proofs.value.lend.OwnedLazyValueWalks.+walk.Code as code
 use Rattle.sonic_owned.proofs.value.lend.OwnedLazyValueWalks.+walk.Code.+walk as the_mir
 use Rattle.sonic_owned.proofs.value.lend.Stop.TheLaws.{the_row_laws as stop_laws, the_told as stop_told}
 use Rattle.sonic_owned.proofs.value.lend.Way.TheLaws.{the_row_laws as way_laws}
 use Rattle.sonic_owned.proofs.value.lend.item_next.Met.{met}
-use Rattle.sonic_owned.specs.Lends.{AtNode, HasItem, HasNoItem, IfAtNode, IsFound, IsItemPut, IsLeft, Lending, OfPart, last_nodes}
-use Rattle.sonic_owned.specs.Puts.{IsPart, IsPut}
-use Rattle.sonic_owned.specs.Reached.{LeadsNowhere, MeansStill}
+use Rattle.sonic_owned.specs.Internal.Lends.{AtNode, HasItem, HasNoItem, IfAtNode, IsLent, IsItemPut, IsLeft, Lending, OfPart, last_nodes}
+use Rattle.sonic_owned.specs.Puts.{IsPartOf, IsPut}
+use Rattle.sonic_owned.specs.Reached.{IsOpenedAlong}
 use Rattle.sonic_owned.specs.Opened.{IsClosedOf}
 use Rattle.sonic_find.specs.Paths.{kind_of}
 use Rattle.sonic_owned.specs.Views.{form}
@@ -94,15 +94,15 @@ KidP p n r o w m = IsOk o → OfPart o (λ i. AtNode n p.now.nodes.now (λ node.
 abbrev DownP : PathRef → ℕ → MutBor D → Lending → D → D → Type 0
 DownP p n r o w m = IsOk o → OfPart o (λ i. IsPut (last_nodes n p.now.nodes.now) (form r.now) i (form w) (form m))
 
-abbrev KidN : MutBor D → Lending → D → Type 0
-KidN r o m = OnErr o (IsLeft o (form r.now) (form m))
+abbrev KidN : PathRef → ℕ → MutBor D → Lending → D → Type 0
+KidN p n r o m = OnErr o (IsLeft (AtNode n p.now.nodes.now (λ node. IsOpenedAlong (node ∷ []) (form r.now) (form m))) o (form r.now) (form m))
 
-abbrev DownN : MutBor D → Lending → D → Type 0
-DownN r o m = OnErr o (MeansStill (form r.now) (form m))
+abbrev DownN : PathRef → ℕ → MutBor D → Lending → D → Type 0
+DownN p n r o m = OnErr o (IsOpenedAlong (last_nodes n p.now.nodes.now) (form r.now) (form m))
 
 -- what each says of its result
 abbrev KidV : PathRef → ℕ → MutBor D → Lending → Type 0
-KidV p n r o = IsFound (λ i. AtNode n p.now.nodes.now (λ node. HasItem node (form r.now) i)) (AtNode n p.now.nodes.now (λ node. HasNoItem node (form r.now)))
+KidV p n r o = IsLent (λ i. AtNode n p.now.nodes.now (λ node. HasItem node (form r.now) i)) (AtNode n p.now.nodes.now (λ node. HasNoItem node (form r.now)))
     (IfAtNode n p.now.nodes.now (λ node. IsClosedOf (kind_of node) (form r.now))) o
 
 abbrev DownV : PathRef → ℕ → MutBor D → Lending → Type 0
@@ -110,19 +110,19 @@ DownV p n r o = IsWalked n p.now.nodes.now (form r.now) o
 
 abbrev Kid : PathRef → ℕ → MutBor D → Lending → Fml
 Kid p n r o = LendsSoOk R R r o (λ m w. OfPart o (λ i. AtNode n p.now.nodes.now (λ node. IsItemPut node (form r.now) i (form w) (form m))))
-    (λ m. IsLeft o (form r.now) (form m))
+    (λ m. IsLeft (AtNode n p.now.nodes.now (λ node. IsOpenedAlong (node ∷ []) (form r.now) (form m))) o (form r.now) (form m))
 
 abbrev Down : PathRef → ℕ → MutBor D → Lending → Fml
 Down p n r o = LendsSoOk R R r o (λ m w. OfPart o (λ i. IsPut (last_nodes n p.now.nodes.now) (form r.now) i (form w) (form m)))
-    (λ m. MeansStill (form r.now) (form m))
+    (λ m. IsOpenedAlong (last_nodes n p.now.nodes.now) (form r.now) (form m))
 
 -- the part of an item
 down_put : (p : PathRef) (n : ℕ) (r x : MutBor D) (o : Lending) (w k m : D) → DownP p (n - 1) x o w k → KidP p n r (Ok x) k m → DownP p n r o w m
 down_put p n r x o w k m d e ok = of_part o _ _ (λ i u. put_further (e refl) u) (d ok)
 
-down_left : (p : PathRef) (n : ℕ) (r x : MutBor D) (o : Lending) (k m : D) → DownN x o k → KidP p n r (Ok x) k m → DownN r o m
+down_left : (p : PathRef) (n : ℕ) (r x : MutBor D) (o : Lending) (k m : D) → DownN p (n - 1) x o k → KidP p n r (Ok x) k m → DownN p n r o m
 down_left p n r x (Ok y) k m d e = tt
-down_left p n r x (Err stop) k m d e = means_further (e refl) d
+down_left p n r x (Err stop) k m d e = along_further (e refl) d
 
 module _ {M : Type 1} (𝓤 : Ura M) (𝓛 : Logic 𝓤) (𝓜 : Model 𝓤 𝓛.H) (𝓡 : Running 𝓤 𝓛.H 𝓜) (wired : Wired 𝓡.env code.code) where
   open 𝓛 use {H}
@@ -218,10 +218,10 @@ module _ {M : Type 1} (𝓤 : Ura M) (𝓛 : Logic 𝓤) (𝓜 : Model 𝓤 𝓛
         sets ! (agg ! (and_then ! (lit ! tt) (and_then ! (get ! refl) (no_more !)))) refl (tt, (record { fits = lit< tt }, (tt, tt))) $
         returns_within ! (W.post (at r n)) refl (look_at ! 0 refl) $ free_all ! refl $
         use1 𝓛 (‵ (E.own_val (Ok r) (live 0 (of_list (mut_vals r)) ∷ []))) (ok_of 𝓛 Lent StopRow r _) $
-        use0 𝓛 (‵ (Down p n r (Ok r))) (so_self 𝓛 R r.ghost_name (λ w m. DownP p n r (Ok r) w m) (λ m. DownN r (Ok r) m)
+        use0 𝓛 (‵ (Down p n r (Ok r))) (so_self 𝓛 R r.ghost_name (λ w m. DownP p n r (Ok r) w m) (λ m. DownN p n r (Ok r) m)
         (λ w _. subst (λ k. IsPut (last_nodes k path) old old (form w) (form w)) (sym (is_zero n zero)) (put_none path old (form w))) r.now tt) $
         keep ! (1 ∷ 3 ∷ 0 ∷ []) $ by ! (out r n (Ok r) (live 0 (of_list (mut_vals r)))
-        (subst (λ k. IsPart (last_nodes k path) old old) (sym (is_zero n zero)) (old, put_none path old old))))
+        (subst (λ k. IsPartOf (last_nodes k path) old old) (sym (is_zero n zero)) (old, put_none path old old))))
         (λ more. skips ! $ exec ! C Λ En the_mir.t-3 (at_ret En (W.post (at r n))) $
         let less : n ≡ suc (n - 1) = is_suc n more in
         sets ! (addr ! (through ! refl (stop !))) refl (tt, tt) $
@@ -263,8 +263,8 @@ module _ {M : Type 1} (𝓤 : Ura M) (𝓛 : Logic 𝓤) (𝓜 : Model 𝓤 𝓛
         pick ! (λ ws'. split ! $ drop ! $ split ! $ move ! (1 ∷ []) $ heard ! (KidV p n r o) (λ was.
         rewrite ! 0 (λ (u : Lending). ‵ (Kid p n r u)) ex refl $
         use2 𝓛 (‵ (Down p n r o')) (so_then 𝓛 R r.ghost_name x.ghost_name (name_if_ok (λ (z : MutBor D). z.ghost_name) o') (λ w m. KidP p n r (Ok x) w m)
-        (λ m. KidN r (Ok x) m) (λ w m. DownP p (n - 1) x o' w m) (λ m. DownN x o' m)
-        (λ w m. DownP p n r o' w m) (λ m. DownN r o' m) (λ w k m d e. down_put p n r x o' w k m d e) (λ k m d e. down_left p n r x o' k m d e)) $
+        (λ m. KidN p n r (Ok x) m) (λ w m. DownP p (n - 1) x o' w m) (λ m. DownN p (n - 1) x o' m)
+        (λ w m. DownP p n r o' w m) (λ m. DownN p n r o' m) (λ w k m d e. down_put p n r x o' w k m d e) (λ k m d e. down_left p n r x o' k m d e)) $
         keep ! (1 ∷ 2 ∷ 0 ∷ []) $ by ! (out r n o' v' (found_further o' (subst (λ u. KidV p n r u) ex was) found))))))))))
         -- none
         (λ e en ev. peeks ! StopRow (Is StopRow) (shows 𝓛 StopRow) e (stop_told.val e ∷ [])
@@ -280,8 +280,8 @@ module _ {M : Type 1} (𝓤 : Ura M) (𝓛 : Logic 𝓤) (𝓜 : Model 𝓤 𝓛
         returns ! (look_at ! 0 refl) $ free_all ! refl $
         move ! (2 ∷ []) $ pick ! (λ ws. split ! $ drop ! $ split ! $ move ! (1 ∷ []) $
         heard ! (KidV p n r o) (λ was. rewrite ! 0 (λ (u : Lending). ‵ (Kid p n r u)) en refl $
-        use1 𝓛 (‵ (Down p n r (Err e))) (so_none 𝓛 R R r.ghost_name (λ w m. KidP p n r (Err e) w m) (λ m. KidN r (Err e) m) (λ w m. DownP p n r (Err e) w m)
-        (λ m. DownN r (Err e) m) (λ w m _. tt) (λ m left. left_means e old (form m) left)) $
+        use1 𝓛 (‵ (Down p n r (Err e))) (so_none 𝓛 R R r.ghost_name (λ w m. KidP p n r (Err e) w m) (λ m. KidN p n r (Err e) m) (λ w m. DownP p n r (Err e) w m)
+        (λ m. DownN p n r (Err e) m) (λ w m _. tt) (λ m left. left_along n path e old (form m) left)) $
         move ! (1 ∷ []) $ use1 𝓛 (‵ (E.own_val (Err e) (live 1 (of_list (stop_told.val e ∷ [])) ∷ []))) (err_of 𝓛 Lent StopRow e (stop_told.val e)) $
         keep ! (0 ∷ 2 ∷ 1 ∷ []) $ by ! (out r n (Err e) (live 1 (of_list (stop_told.val e ∷ [])))
         (found_stop n path e (λ i. AtNode n path (λ node. HasItem node old i)) (value_sound r.now) (omega (arith, less)) (subst (λ u. KidV p n r u) en was)))))))))))

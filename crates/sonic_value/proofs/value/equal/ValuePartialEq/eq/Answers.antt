@@ -1,6 +1,6 @@
 use Rattle.std.proofs.lemmas.Bool.Decides.{same_from_decides}
 use Rattle.sonic_value.specs.Equality.{same_tree}
-use Rattle.sonic_value.specs.EqualityLaws.{tree_same}
+use Rattle.sonic_value.specs.Internal.EqualityLaws.{tree_same}
 use Rattle.sonic_value.specs.Views.{tree}
 use Rattle.sonic_value.proofs.value.equal.ValuePartialEq.eq.Goals as goal
 

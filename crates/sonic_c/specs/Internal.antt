@@ -1,0 +1,3 @@
+-- What serves private clauses and invariants alone.
+pub mod Numbers
+pub mod Told

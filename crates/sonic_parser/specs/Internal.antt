@@ -1,0 +1,8 @@
+-- What serves private clauses and invariants alone.
+pub mod Blocks
+pub mod Containers
+pub mod Skipping
+pub mod Spaces
+pub mod StringsAhead
+pub mod Unchecked
+pub mod Views

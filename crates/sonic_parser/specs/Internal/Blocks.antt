@@ -1,0 +1,11 @@
+-- What is known before a block of a container: no public clause rests on it.
+use Rattle.std.specs.Prelude.{◌≡◌, ℕ, ◌+◌, List}
+use Rattle.sonic_blocks.specs.Internal.Carried.{AreCarried}
+use Rattle.sonic_parser.specs.declared.blocks.Known.{Known}
+use Rattle.sonic_text.specs.declared.kind.Kind.{Kind}
+use Rattle.sonic_text.specs.Brackets.{opened, closed}
+
+-- before p, counted from s on, so many brackets of the kind are opened and not closed, and a string and an escape are open or not
+pub record AreKnown (kind : Kind) (t : List ℕ) (s p : ℕ) (known : Known) : Type 0 where
+  pub level : known.depth + closed kind t s p ≡ opened kind t s p
+  pub carried : AreCarried t s p known.in_escape known.in_string

@@ -1,0 +1,2 @@
+-- What serves private clauses and invariants alone.
+pub mod Reading

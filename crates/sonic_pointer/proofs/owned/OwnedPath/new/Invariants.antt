@@ -1,7 +1,0 @@
-use Rattle.std.proofs.Common.{◌≡◌, map, take}
-use Rattle.sonic_pointer.specs.Nodes.{node_of}
-use Rattle.sonic_pointer.specs.Owned.{owned_node}
-use Rattle.sonic_pointer.proofs.owned.OwnedPath.new.Given as goal
-
-abbrev pub invariant-loop-node : goal.invariant-loop-node
-invariant-loop-node l = map owned_node l.nodes.items ≡ map node_of (take l.node-index l.path)

@@ -1,0 +1,169 @@
+// A tree as its calls read it.
+ghost use Rattle.std.specs.Prelude.{◌≡◌, ◌<◌, ◌↔◌, IsTrue, IfOk, IfErr, IfSome, IfNone, Some, length, slice_get};
+ghost use Rattle.sonic_text.specs.Paths.{Node, Path};
+ghost use Rattle.sonic_pointer.specs.Nodes.{node_of};
+ghost use Rattle.sonic_pointer.specs.Paths.{HasNextNode, IsMixed};
+ghost use Rattle.sonic_pointer.specs.Internal.Tries.{entry_at, prefix_at, label_at, IsChildVertex, IsGap};
+
+use crate::fault::PathError;
+use crate::node::PointerNode;
+use crate::owned::{OwnedPath, Steps};
+use crate::pieces::Pieces;
+use crate::target::Target;
+use crate::vertex::Vertex;
+use std::cmp::Ordering;
+
+// The parts of a tree, borrowed.
+#[derive(Clone, Copy)]
+pub(crate) struct Trie<'t> {
+    pub(crate) paths: &'t [OwnedPath],
+    pub(crate) root: &'t Vertex,
+    pub(crate) vertices: &'t [Vertex],
+}
+
+// Where a path leaves a tree: after the vertex `at`, whose prefix is the first `depth` nodes of
+// the path, and whose children would have the next node at `position`.
+#[derive(Clone, Copy)]
+pub(crate) struct InsertionPoint {
+    pub(crate) at: usize,
+    pub(crate) depth: usize,
+    pub(crate) position: usize,
+}
+
+impl<'t> Trie<'t> {
+    ghost use Rattle.sonic_pointer.specs.Internal.Owned.{steps_of};
+    ghost use Rattle.sonic_pointer.specs.Internal.Targets.{IsTarget};
+    ghost use Rattle.sonic_pointer.specs.Internal.TrieFields.{entries_of, HoldsTree, trie_spots, trie_labels, AreKids, HasOtherKind, IsInsertionPoint};
+
+    // The vertex with this number, 0 for the root.
+    pub(crate) fn vertex(&self, at: usize) -> &'t Vertex
+        requires { at < length (entries_of self.now) }
+        ensures { result.now ≡ entry_at (entries_of self.now) at }
+    {
+        if at == 0 {
+            return self.root;
+        }
+        let vertices: &'t [Vertex] = self.vertices;
+        &vertices[at - 1]
+    }
+
+    // The node by which a child follows its parent.
+    pub(crate) fn label(&self, at: usize) -> PointerNode<'t>
+        requires trie { HoldsTree self.now }
+        requires step { (prefix : Path) × IsChildVertex (trie_spots self.now) prefix at }
+        ensures { node_of result ≡ label_at (trie_spots self.now) at }
+    {
+        let vertex = self.vertex(at);
+        let paths: &'t [OwnedPath] = self.paths;
+        paths[vertex.path()].node(vertex.depth() - 1)
+    }
+
+    // The numbers of the children of the vertex with this number.
+    pub(crate) fn children(&self, at: usize) -> &'t Pieces
+        requires trie { HoldsTree self.now }
+        requires inside { at < length (entries_of self.now) }
+        ensures { AreKids self.now at result.now }
+    {
+        let vertex: &'t Vertex = self.vertex(at);
+        vertex.children()
+    }
+
+    // The node of the first child of the vertex with this number.
+    pub(crate) fn first(&self, at: usize) -> Option<PointerNode<'t>>
+        requires trie { HoldsTree self.now }
+        requires inside { at < length (entries_of self.now) }
+        ensures some { IfSome result (λ node.
+            HasNextNode self.now.paths.now (prefix_at (trie_spots self.now) at) (node_of node)) }
+        ensures none { IfNone result ((node : Node)
+            → ¬ HasNextNode self.now.paths.now (prefix_at (trie_spots self.now) at) node) }
+    {
+        match self.children(at).first() {
+            None => None,
+            Some(child) => Some(self.label(child)),
+        }
+    }
+
+    // The number of the child with this node, or where it would go.
+    pub(crate) fn find(&self, at: usize, target: &Target<'_>) -> Result<usize, usize>
+        requires trie { HoldsTree self.now }
+        requires inside { at < length (entries_of self.now) }
+        requires known { (node : Node) × IsTarget target.now node }
+        ensures found { IfOk result (λ i. (node : Node) → IsTarget target.now node
+            → slice_get (trie_labels self.now at) i ≡ Some node) }
+        ensures absent { IfErr result (λ i. (node : Node) → IsTarget target.now node
+            → IsGap (trie_labels self.now at) node i) }
+    {
+        let children = self.children(at);
+        let mut low = 0;
+        let mut high = children.len();
+        while low < high {
+            let middle = low + (high - low) / 2;
+            match target.compare(self.label(children.get(middle))) {
+                Ordering::Less => high = middle,
+                Ordering::Equal => return Ok(middle),
+                Ordering::Greater => low = middle + 1,
+            }
+        }
+        Err(low)
+    }
+
+    // Whether some node of the other kind follows the vertex.
+    fn mixes(&self, at: usize, node: PointerNode<'_>) -> bool
+        requires trie { HoldsTree self.now }
+        requires inside { at < length (entries_of self.now) }
+        ensures { IsTrue result ↔ HasOtherKind self.now at (node_of node.entry) }
+    {
+        match self.first(at) {
+            None => false,
+            Some(first) => first.is_key() != node.is_key(),
+        }
+    }
+
+    // The path leaves the tree here, unless its next node is of another kind than those that follow.
+    fn point_at(
+        &self,
+        at: usize,
+        depth: usize,
+        position: usize,
+        node: PointerNode<'_>,
+    ) -> Result<InsertionPoint, PathError>
+        requires trie { HoldsTree self.now }
+        requires inside { at < length (entries_of self.now) }
+        ensures ok { IfOk result (λ point. (point ≡ record { at = at; depth = depth; position = position })
+            × ¬ HasOtherKind self.now at (node_of node.entry)) }
+        ensures err { IfErr result (λ error.
+            (error ≡ PathError.Mixed) × HasOtherKind self.now at (node_of node.entry)) }
+    {
+        if self.mixes(at, node) {
+            return Err(PathError::Mixed);
+        }
+        Ok(InsertionPoint {
+            at,
+            depth,
+            position,
+        })
+    }
+
+    // Where the path leaves the tree, unless it mixes with a path of it.
+    pub(crate) fn walk(&self, path: &Steps<'_>) -> Result<InsertionPoint, PathError>
+        requires { HoldsTree self.now }
+        ensures ok { IfOk result (λ point.
+            IsInsertionPoint self.now.paths.now (entries_of self.now) (steps_of path.now) point) }
+        ensures err { IfErr result (λ error.
+            (error ≡ PathError.Mixed) × IsMixed self.now.paths.now (steps_of path.now)) }
+    {
+        let mut at = 0;
+        for depth in 0..path.len() {
+            let node = path.node(depth);
+            match self.find(at, &Target::Node(node)) {
+                Ok(i) => at = self.children(at).get(i),
+                Err(position) => return self.point_at(at, depth, position, node),
+            }
+        }
+        Ok(InsertionPoint {
+            at,
+            depth: path.len(),
+            position: 0,
+        })
+    }
+}

@@ -1,0 +1,10 @@
+-- What serves private clauses and invariants alone.
+pub mod EqualityLaws
+pub mod Fillers
+pub mod Inserted
+pub mod Keeping
+pub mod Keys
+pub mod Loans
+pub mod ReaderViews
+pub mod Readers
+pub mod SpelledViews

@@ -1,0 +1,145 @@
+/* That each number means in C what the library means by it, read by the names of sonic.h: the statuses,
+   the codes with their words, and the fields of an error and of a span. The line, the column and the
+   offset that are wanted are reckoned here, from the place of the fault in the text. It prints a line for
+   each status and each code, which `run` compares with `expected_numbers`, and what is wrong. */
+#include "sonic.h"
+
+#include <stdio.h>
+#include <string.h>
+
+static int wrong;
+
+static const uint8_t *bytes(const char *text) { return (const uint8_t *)text; }
+
+static void check(int holds, const char *what, const char *text) {
+  if (!holds) {
+    printf("WRONG: %s of %s\n", what, text);
+    wrong = 1;
+  }
+}
+
+/* A code by its name, its words (those of sonic-rs, but of a key that comes twice), a text with this fault, the path that comes to it or none, and where. */
+typedef struct row {
+  const char *name;
+  uint32_t code;
+  const char *words;
+  const char *json;
+  const char *path;
+  size_t place;
+} row;
+
+#define CODE(name) #name, SONIC_CODE_##name
+#define MISMATCH(found, wanted) "MISMATCH", SONIC_CODE_MISMATCH + 10 * (found) + (wanted)
+
+static const row rows[] = {
+    {CODE(EOF_WHILE_PARSING), "EOF while parsing", "\n\n  [1,", NULL, 6},
+    {CODE(EXPECTED_COLON), "Expected this character to be a ':' while parsing", "\n {\"a\" 1}", NULL, 7},
+    {CODE(EXPECTED_ARRAY_COMMA_OR_END), "Expected this character to be either a ',' or a ']' while parsing", "\n [1 2]", NULL, 5},
+    {CODE(EXPECTED_OBJECT_COMMA_OR_END), "Expected this character to be either a ',' or a '}' while parsing", "\n {\"a\":1 2}", NULL, 9},
+    {CODE(INVALID_LITERAL), "Invalid literal (`true`, `false`, or a `null`) while parsing", "\n [nil]", NULL, 4},
+    {CODE(INVALID_JSON_VALUE), "Invalid JSON value", "\n [1,]", NULL, 5},
+    {CODE(INVALID_ESCAPE), "Invalid escape chars", "\n \"\\x\"", NULL, 4},
+    {CODE(INVALID_NUMBER), "Invalid number", "\n [1.x]", NULL, 5},
+    {CODE(INVALID_UNICODE_CODE_POINT), "Invalid unicode code point", "\n \"\\u12g4\"", NULL, 7},
+    {CODE(INVALID_UTF8), "Invalid UTF-8 characters in json", "\n \"\xff\"", NULL, 3},
+    {CODE(CONTROL_CHARACTER_WHILE_PARSING_STRING), "Control character found while parsing a string", "\n \"a\tb\"", NULL, 4},
+    {CODE(EXPECT_OBJECT_KEY_OR_END), "Expected this character to be '\"' or '}'", "\n {\"a\":1,}", NULL, 9},
+    {CODE(TRAILING_CHARACTERS), "JSON has non-whitespace trailing characters after the value", "\n [1] 2", NULL, 6},
+    {CODE(GET_IN_EMPTY_OBJECT), "Get value from an empty object", "\n {}", "[\"a\"]", 3},
+    {CODE(GET_UNKNOWN_KEY_IN_OBJECT), "Get unknown key from the object", "\n {\"a\":1}", "[\"b\"]", 8},
+    {CODE(GET_IN_EMPTY_ARRAY), "Get value from an empty array", "\n []", "[0]", 3},
+    {CODE(GET_INDEX_OUT_OF_ARRAY), "Get index out of the array", "\n [1]", "[1]", 4},
+    {CODE(INVALID_SURROGATE_UNICODE_CODE_POINT), "Invalid surrogate Unicode code point", "\n \"\\ud800x\"", NULL, 9},
+    /* No call refuses a key that comes twice, so there is no text for this one. */
+    {CODE(DUPLICATE_KEY), "Duplicate key in the object", NULL, NULL, 0},
+    {MISMATCH(0, 0), "invalid type: null, expected a JSON object", "\n null", "[\"a\"]", 5},
+    {MISMATCH(0, 1), "invalid type: null, expected a JSON array", "\n null", "[0]", 5},
+    {MISMATCH(1, 0), "invalid type: boolean, expected a JSON object", "\n true", "[\"a\"]", 5},
+    {MISMATCH(1, 1), "invalid type: boolean, expected a JSON array", "\n true", "[0]", 5},
+    {MISMATCH(2, 0), "invalid type: number, expected a JSON object", "\n 12", "[\"a\"]", 3},
+    {MISMATCH(2, 1), "invalid type: number, expected a JSON array", "\n 12", "[0]", 3},
+    {MISMATCH(3, 0), "invalid type: string, expected a JSON object", "\n \"a\"", "[\"a\"]", 4},
+    {MISMATCH(3, 1), "invalid type: string, expected a JSON array", "\n \"a\"", "[0]", 4},
+    {MISMATCH(4, 1), "invalid type: map, expected a JSON array", "\n {}", "[0]", 3},
+    {MISMATCH(5, 0), "invalid type: sequence, expected a JSON object", "\n []", "[\"a\"]", 3},
+};
+
+/* The fields are those of the fault at the place: its line and column from 1, its offset from 0. */
+static void check_error(const row *r, const sonic_error *error) {
+  size_t line = 1, start = 0;
+  for (size_t i = 0; i < r->place; i++) {
+    if (r->json[i] == '\n') line++, start = i + 1;
+  }
+  check(error->code == r->code, "the code", r->name);
+  check(error->line == line, "the line", r->name);
+  check(error->column == r->place - start + 1, "the column", r->name);
+  check(error->offset == r->place, "the offset", r->name);
+}
+
+static void check_row(const row *r) {
+  uint8_t room[80] = {0};
+  sonic_span span = {91, 92};
+  sonic_error error = {93, 94, 95, 96};
+  size_t length = sonic_code_text(r->code, room, sizeof room);
+  check(length == strlen(r->words) && memcmp(room, r->words, length) == 0, "the words", r->name);
+  printf("code %u: %.*s\n", r->code, (int)length, (const char *)room);
+  if (r->json == NULL) return;
+  uint32_t status = r->path == NULL ? sonic_validate(bytes(r->json), strlen(r->json), &error)
+                                    : sonic_get(bytes(r->json), strlen(r->json), bytes(r->path), strlen(r->path), &span, &error);
+  check(status == SONIC_DOCUMENT_ERROR, "the status", r->name);
+  check(span.start == 91 && span.end == 92, "the span", r->name);
+  check_error(r, &error);
+}
+
+/* A number has words exactly where a code has it, as memory is ample. */
+static void check_texts(void) {
+  unsigned with = 0;
+  for (uint32_t number = 0; number < 1000; number++) {
+    int has = (number >= 1 && number <= 32) || (number >= 100 && number <= 152 && number % 10 <= 2);
+    uint8_t room[1] = {0};
+    int told = sonic_code_text(number, room, sizeof room) > 0;
+    check(told == has, "the words", "a number");
+    with += told;
+  }
+  printf("%u numbers have words\n", with);
+}
+
+static int is_error(const sonic_error *error, uint32_t code, size_t line, size_t column, size_t offset) {
+  return error->code == code && error->line == line && error->column == column && error->offset == offset;
+}
+
+/* Each status but that for want of memory, which `refused` comes to. */
+static void check_statuses(void) {
+  static const char json[] = "{\"a\": [10, 200], \"b\": \"x\"}";
+  const size_t length = strlen(json);
+  sonic_span span = {91, 92}, spans[2] = {{91, 92}, {91, 92}};
+  sonic_error error = {93, 94, 95, 96};
+  uint32_t status = sonic_get(bytes(json), length, bytes("[\"a\",1]"), 7, &span, &error);
+  check(status == SONIC_OK && span.start == 11 && span.end == 14 && is_error(&error, 93, 94, 95, 96), "OK", "sonic_get");
+  printf("status %u: the value from %zu to %zu\n", status, span.start, span.end);
+  status = sonic_get_many(bytes(json), length, bytes("[\"b\"]\n[\"c\"]\n"), 12, spans, 2, &error);
+  check(status == SONIC_OK && spans[0].start == 22 && spans[0].end == 25 && spans[1].start == 0 && spans[1].end == 0,
+        "OK", "sonic_get_many");
+  status = sonic_validate(bytes(json), length, &error);
+  check(status == SONIC_OK && is_error(&error, 93, 94, 95, 96), "OK", "sonic_validate");
+  status = sonic_validate(bytes(json), length - 1, &error);
+  check(status == SONIC_DOCUMENT_ERROR && error.code == SONIC_CODE_EOF_WHILE_PARSING, "DOCUMENT_ERROR", "sonic_validate");
+  printf("status %u: code %u, line %zu, column %zu, offset %zu\n", status, error.code, error.line, error.column, error.offset);
+  spans[0].start = spans[1].end = 90;
+  status = sonic_get_many(bytes(json), length, bytes("[]\n[]\n[]\n"), 9, spans, 2, &error);
+  check(status == SONIC_WRONG_COUNT && is_error(&error, 0, 3, 0, 0) && spans[0].start == 90 && spans[1].end == 90,
+        "WRONG_COUNT", "sonic_get_many");
+  printf("status %u: line %zu\n", status, error.line);
+  status = sonic_get_many(bytes(json), length, bytes("[]\n[0"), 5, spans, 2, &error);
+  check(status == SONIC_BAD_LINES && is_error(&error, 0, 2, 0, 0), "BAD_LINES", "sonic_get_many");
+  printf("status %u: line %zu\n", status, error.line);
+  status = sonic_get(bytes(json), length, bytes("[0"), 2, &span, &error);
+  check(status == SONIC_BAD_LINES && is_error(&error, 0, 2, 0, 0) && span.start == 11, "BAD_LINES", "sonic_get");
+}
+
+int main(void) {
+  check_statuses();
+  for (size_t i = 0; i < sizeof rows / sizeof *rows; i++) check_row(&rows[i]);
+  check_texts();
+  return wrong;
+}
