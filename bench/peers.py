@@ -35,6 +35,14 @@ def simdjson(folder):
     return out
 
 
+def iterate_many(folder):
+    """No reader of documents: it reads a stream of them."""
+    out = os.path.join(folder, "iterate_many")
+    source = os.path.join(HERE, "peers", "iterate_many.cpp")
+    compiled([tool("c++", "g++", "clang++"), "-std=c++17", *OPTIMIZED, source, "-lsimdjson", "-o", out])
+    return out
+
+
 def map(folder):
     out = os.path.join(folder, "map")
     compiled([tool("c++", "g++", "clang++"), "-std=c++17", *OPTIMIZED, os.path.join(HERE, "peers", "map.cpp"), "-o", out])

@@ -3,7 +3,8 @@
    repository has their contracts.
 
    What C has to uphold, as no call can check it:
-   - No pointer is null, even where its length is 0: give "" then.
+   - A pointer is null only where its length is 0, which is taken as "": that is tested, as what is
+     proved speaks of memory that is there. span and error are never null.
    - A length is that of memory that is there, and is below 2^63.
    - What is written to, spans, *error and room, is initialised, and overlaps nothing else that is given.
    - Nobody writes to the text, or to the paths, while a call runs.

@@ -137,9 +137,29 @@ static void check_statuses(void) {
   check(status == SONIC_BAD_LINES && is_error(&error, 0, 2, 0, 0) && span.start == 11, "BAD_LINES", "sonic_get");
 }
 
+/* Where a length is 0, null is as good as "". */
+static void check_null(void) {
+  sonic_span span = {91, 92};
+  sonic_error error = {93, 94, 95, 96};
+  check(sonic_validate(NULL, 0, &error) == SONIC_DOCUMENT_ERROR && is_error(&error, SONIC_CODE_EOF_WHILE_PARSING, 1, 1, 0),
+        "null", "sonic_validate");
+  error.code = 93;
+  check(sonic_get(NULL, 0, bytes("[]"), 2, &span, &error) == SONIC_DOCUMENT_ERROR
+            && is_error(&error, SONIC_CODE_EOF_WHILE_PARSING, 1, 1, 0),
+        "null", "sonic_get");
+  check(sonic_get(bytes("1"), 1, NULL, 0, &span, &error) == SONIC_BAD_LINES, "null", "the path of sonic_get");
+  check(sonic_get_unchecked(bytes("1"), 1, NULL, 0, &span, &error) == SONIC_BAD_LINES, "null", "the path of sonic_get_unchecked");
+  check(span.start == 91 && span.end == 92, "null", "the span");
+  check(sonic_get_many(NULL, 0, NULL, 0, NULL, 0, &error) == SONIC_OK, "null", "sonic_get_many");
+  check(sonic_get_many_unchecked(bytes("1"), 1, NULL, 0, NULL, 0, &error) == SONIC_OK, "null", "sonic_get_many_unchecked");
+  check(sonic_code_text(SONIC_CODE_INVALID_NUMBER, NULL, 0) == strlen("Invalid number"), "null", "sonic_code_text");
+  printf("null with length 0 is taken as \"\"\n");
+}
+
 int main(void) {
   check_statuses();
   for (size_t i = 0; i < sizeof rows / sizeof *rows; i++) check_row(&rows[i]);
   check_texts();
+  check_null();
   return wrong;
 }

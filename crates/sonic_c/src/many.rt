@@ -5,7 +5,7 @@ ghost use Rattle.sonic_c.specs.Told.{IsManyCall, Say};
 ghost use Rattle.sonic_c.specs.Internal.Told.{RefusesLines, TellsAll};
 
 use crate::fault::{Fault, tell};
-use crate::span::{Span, fill};
+use crate::span::{Span, fill_spans};
 use crate::status::{BAD_LINES, NO_MEMORY, OK, WRONG_COUNT};
 use sonic_error::Error;
 use sonic_find::{find_many, find_many_unchecked};
@@ -142,7 +142,7 @@ fn tell_all(
 {
     match found {
         Ok(()) => {
-            fill(spans, slots);
+            fill_spans(spans, slots);
             OK
         }
         Err(reason) => tell(error, &reason),

@@ -38,7 +38,7 @@ fn shown(entry: Option<sonic_find::Span>) -> Span
 }
 
 // Writes the entries to the caller's array.
-pub(crate) fn fill(spans: &mut [Span], entries: &[Option<sonic_find::Span>])
+pub(crate) fn fill_spans(spans: &mut [Span], entries: &[Option<sonic_find::Span>])
     requires { length entries.now ≡ length spans.old }
     ensures { spans.new ≡ map shown_span (pairs_of entries.now) }
 {

@@ -1,11 +1,11 @@
 -- Edits that are made one after another.
-use Rattle.std.proofs.Common.{Result, Ok, Err, OnErr, ◌⊎◌, inr, ap, ◌≡◌, ◌+◌, ◌≤◌, ℕ, List, [], ◌∷◌, ◌++◌, refl, length, map, drop, get_or, sym, ◌<◌, arith}
+use Rattle.std.proofs.Common.{Result, Ok, Err, OnErr, ◌⊎◌, inr, ap, ◌≡◌, ◌+◌, ◌≤◌, ℕ, zero, suc, List, [], ◌∷◌, ◌++◌, refl, length, map, drop, get_or, sym, ◌<◌, arith}
 use Rattle.std.proofs.lemmas.List.{drop_more}
 use Rattle.std.specs.declared.alloc.Global.{Global}
 use Rattle.std.specs.declared.vec.Vec.{Vec}
 use Rattle.sonic_owned.specs.Edits.{IsEdit, IsRefused, AreEdits, no_edit, one_more_edit, IsFirstRefused, refused_here, refused_later}
 use Rattle.sonic_edits.specs.Edits.{edit_of, StopsAt, stops_here, stops_later, Fails, fails_here, fails_later}
-use Rattle.sonic_edits.specs.Internal.Parted.{joined, kind_of_change, nodes_of, place_of}
+use Rattle.sonic_edits.specs.Internal.Parted.{joined, kind_of_change, nodes_of, place_of, AreShort}
 use Rattle.sonic_edits.specs.declared.edit.Edit as declared
 use Rattle.sonic_owned.specs.Forms.{Form}
 use Rattle.sonic_owned.specs.Reached.{IsKeptAlong, NeedsMemory, way_to_appended}
@@ -55,7 +55,7 @@ comes_to_stop {h = h} {number} comes refused kept = comes.stopped 1 number h (st
 
 -- where there is no memory for the next one, all fail there
 pub comes_to_failure : {all rest : List (Edit Form)} {e : Edit Form} {f g h : Form} {number : ℕ} → ComesOfAll all f number (e ∷ rest) g
-    → (length e.path ≤ 255 → NeedsMemory e g) → IsKeptAlong (e.path ++ way_to_appended e.change) g h → Fails all f h
+    → NeedsMemory e g → IsKeptAlong (e.path ++ way_to_appended e.change) g h → Fails all f h
 comes_to_failure {h = h} comes memory kept = comes.failed h (fails_here memory kept)
 
 -- a list of no length
@@ -74,6 +74,18 @@ pub next_path : (lists : List (Vec PointerNode Global)) (n : ℕ) (nodes : Vec P
     → joined (map nodes_of (drop n lists)) (c ∷ cs) ≡ record { path = nodes_of nodes; change = c } ∷ joined (map nodes_of (drop (n + 1) lists)) cs
 next_path lists n nodes c cs within there =
     rw (drop_more lists n nodes within) (ap (λ x. record { path = nodes_of x; change = c } ∷ joined (map nodes_of (drop (n + 1) lists)) cs) (sym there))
+
+-- and it has at most 255 nodes where each of them has
+pub short_at : (lists : List (Vec PointerNode Global)) (n : ℕ) (nodes : Vec PointerNode Global) → AreShort (map nodes_of lists) → n < length lists
+    → nodes ≡ get_or lists n nodes → length (nodes_of nodes) ≤ 255
+short_at [] n nodes short within there = absurd (omega (arith, within))
+short_at (x ∷ xs) zero nodes short within there = rw there short.0
+short_at (x ∷ xs) (suc n) nodes short within there = short_at xs n nodes short.1 (omega (arith, within)) there
+
+-- as each path of an edit has
+pub edits_short : (es : List declared.Edit) → AreShort (map place_of es)
+edits_short [] = tt
+edits_short (e ∷ es) = (e.short, edits_short es)
 
 -- no edit is joined of no change
 pub joined_of_none : (ps : List Path) → joined ps [] ≡ []

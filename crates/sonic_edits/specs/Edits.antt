@@ -1,5 +1,5 @@
 -- What the edits of the program are, and what is left where not all of them are made.
-use Rattle.std.specs.Prelude.{◌≡◌, ◌+◌, ◌≤◌, ◌++◌, ℕ, List, ◌∷◌, length}
+use Rattle.std.specs.Prelude.{◌≡◌, ◌+◌, ◌++◌, ℕ, List, ◌∷◌}
 use Rattle.sonic_edits.specs.declared.edit.Edit as declared
 use Rattle.sonic_owned.specs.Changes.{change_of}
 use Rattle.sonic_owned.specs.Edits.{IsEdit, IsRefused}
@@ -16,8 +16,8 @@ pub data StopsAt : List (Edit Form) → (f h : Form) → ℕ → Type 0 where
   stops_here : {e : Edit Form} {es : List (Edit Form)} {f h : Form} {n : ℕ} → IsRefused e f → IsKeptAlong e.path f h → n ≡ 1 → StopsAt (e ∷ es) f h n
   stops_later : {e : Edit Form} {es : List (Edit Form)} {f g h : Form} {n m : ℕ} → IsEdit e f g → StopsAt es g h m → n ≡ m + 1 → StopsAt (e ∷ es) f h n
 
--- there is no memory for an edit that takes some, or its path has more than 255 nodes, and after it there is h: what the edits before it make of f, in which levels
--- along its path may be opened, and the one that it appends to
+-- there is no memory for an edit that takes some, and after it there is h: what the edits before it make of f, in which levels along its path may be opened, and
+-- the one that it appends to
 pub data Fails : List (Edit Form) → (f h : Form) → Type 0 where
-  fails_here : {e : Edit Form} {es : List (Edit Form)} {f h : Form} → (length e.path ≤ 255 → NeedsMemory e f) → IsKeptAlong (e.path ++ way_to_appended e.change) f h → Fails (e ∷ es) f h
+  fails_here : {e : Edit Form} {es : List (Edit Form)} {f h : Form} → NeedsMemory e f → IsKeptAlong (e.path ++ way_to_appended e.change) f h → Fails (e ∷ es) f h
   fails_later : {e : Edit Form} {es : List (Edit Form)} {f g h : Form} → IsEdit e f g → Fails es g h → Fails (e ∷ es) f h

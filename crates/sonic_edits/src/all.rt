@@ -1,7 +1,7 @@
 // Edits made one after another.
 ghost use Rattle.std.specs.Prelude.{◌≡◌, ◌⊎◌, ◌+◌, None, IfOk, IfSome, OnErr, length, map};
 ghost use Rattle.sonic_edits.specs.Edits.{edit_of, Fails, StopsAt};
-ghost use Rattle.sonic_edits.specs.Internal.Parted.{joined, kind_of_change, nodes_of, place_of};
+ghost use Rattle.sonic_edits.specs.Internal.Parted.{joined, kind_of_change, nodes_of, place_of, AreShort};
 ghost use Rattle.sonic_owned.specs.Changes.{change_of};
 ghost use Rattle.sonic_owned.specs.Edits.{AreEdits, IsFirstRefused};
 ghost use Rattle.sonic_owned.specs.Views.{form};
@@ -71,7 +71,8 @@ fn make_all(
     paths: &[Vec<PointerNode<'_>>],
     changes: Vec<Change>,
 ) -> Result<Option<usize>, AllocError>
-    requires { length paths.now ≡ length changes.items }
+    requires even { length paths.now ≡ length changes.items }
+    requires short { AreShort (map nodes_of paths.now) }
     ensures made { IfOk result (λ refused. refused ≡ None
         → AreEdits (joined (map nodes_of paths.now) (map change_of changes.items))
         (form value.old) (form value.new)) }

@@ -1,4 +1,6 @@
 // The edit that a line says.
+ghost use Rattle.std.specs.Prelude.{◌≤◌, length};
+
 use sonic_owned::Change;
 use sonic_pointer::OwnedPath;
 
@@ -8,8 +10,9 @@ use sonic_pointer::OwnedPath;
 /// `Change::Set` with the value `null`.
 #[derive(Drop)]
 pub struct Edit {
-    /// Where.
+    /// Where. A path that is followed in a value has at most 255 nodes.
     pub path: OwnedPath,
     /// And what.
     pub change: Change,
+    ghost short: { length path ≤ 255 },
 }

@@ -1,5 +1,6 @@
 ghost use Rattle.std.specs.Prelude.{◌≡◌, Some};
 ghost use Rattle.sonic_error.specs.Codes.{category_of};
+ghost use Rattle.sonic_error.specs.Names.{word_of_category, name_of_code};
 ghost use Rattle.sonic_error.specs.Texts.{code_text};
 
 use crate::json_type::Note;
@@ -21,6 +22,24 @@ pub enum Category {
     Eof,
     /// Memory ran out.
     Memory,
+}
+
+impl Category {
+    /// The family as one word in lower case, as the lines of a report begin with it.
+    ///
+    /// Of `Category::TypeUnmatched` it is `type`, of `Category::NotFound` `not-found`.
+    pub fn word(self) -> &'static str
+        ensures { result.now ≡ word_of_category self }
+    {
+        match self {
+            Self::Io => "io",
+            Self::Syntax => "syntax",
+            Self::TypeUnmatched => "type",
+            Self::NotFound => "not-found",
+            Self::Eof => "eof",
+            Self::Memory => "memory",
+        }
+    }
 }
 
 /// What is wrong. The place where it is wrong is beside the code, never in it.
@@ -97,6 +116,48 @@ pub enum ErrorCode {
 }
 
 impl ErrorCode {
+    /// The name of the code, which is that of the variant without what is inside.
+    ///
+    /// Of `ErrorCode::InvalidUTF8` it is `InvalidUTF8`, and of each `ErrorCode::Message` `Message`.
+    pub fn name(self) -> &'static str
+        ensures { result.now ≡ name_of_code self }
+    {
+        match self {
+            Self::Message(_) => "Message",
+            Self::Io(_) => "Io",
+            Self::EofWhileParsing => "EofWhileParsing",
+            Self::ExpectedColon => "ExpectedColon",
+            Self::ExpectedArrayCommaOrEnd => "ExpectedArrayCommaOrEnd",
+            Self::ExpectedObjectCommaOrEnd => "ExpectedObjectCommaOrEnd",
+            Self::InvalidLiteral => "InvalidLiteral",
+            Self::InvalidJsonValue => "InvalidJsonValue",
+            Self::ExpectedObjectStart => "ExpectedObjectStart",
+            Self::ExpectedArrayStart => "ExpectedArrayStart",
+            Self::InvalidEscape => "InvalidEscape",
+            Self::InvalidNumber => "InvalidNumber",
+            Self::NumberOutOfRange => "NumberOutOfRange",
+            Self::InvalidUnicodeCodePoint => "InvalidUnicodeCodePoint",
+            Self::InvalidUTF8 => "InvalidUTF8",
+            Self::ControlCharacterWhileParsingString => "ControlCharacterWhileParsingString",
+            Self::ExpectObjectKeyOrEnd => "ExpectObjectKeyOrEnd",
+            Self::TrailingComma => "TrailingComma",
+            Self::TrailingCharacters => "TrailingCharacters",
+            Self::RecursionLimitExceeded => "RecursionLimitExceeded",
+            Self::GetInEmptyObject => "GetInEmptyObject",
+            Self::GetUnknownKeyInObject => "GetUnknownKeyInObject",
+            Self::GetInEmptyArray => "GetInEmptyArray",
+            Self::GetIndexOutOfArray => "GetIndexOutOfArray",
+            Self::UnexpectedVisitType => "UnexpectedVisitType",
+            Self::InvalidSurrogateUnicodeCodePoint => "InvalidSurrogateUnicodeCodePoint",
+            Self::FloatMustBeFinite => "FloatMustBeFinite",
+            Self::ExpectedNumericKey => "ExpectedNumericKey",
+            Self::ExpectedQuote => "ExpectedQuote",
+            Self::SerExpectKeyIsStrOrNum => "SerExpectKeyIsStrOrNum",
+            Self::NoMemory => "NoMemory",
+            Self::DuplicateKey => "DuplicateKey",
+        }
+    }
+
     // The family that the error belongs to.
     pub(crate) fn category(self) -> Category
         ensures { result ≡ category_of self }

@@ -11,6 +11,8 @@ mod lookup;
 mod plain;
 // A log reader that takes three fields of each record.
 mod records;
+// A log reader that asks each line for the same fields.
+mod rows;
 // An editor that opens a file of settings.
 mod settings;
 // An editor that marks where the fields of a document are.
@@ -36,7 +38,8 @@ fn show(rt: &impl Print, alloc: Global) -> io::Result<()> {
     settings::show(rt, alloc)?;
     stream::show(rt, alloc)?;
     spans::show(rt, alloc)?;
-    plain::show(rt, alloc)
+    plain::show(rt, alloc)?;
+    rows::show(rt, alloc)
 }
 
 fn main(rt: HostRuntime) -> ExitCode {

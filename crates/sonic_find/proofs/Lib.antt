@@ -22,5 +22,7 @@ pub mod SeparatorLemmas
 pub mod UncheckedLemmas
 -- Which parts of a text in UTF-8 are UTF-8.
 pub mod Utf8Lemmas
+-- Which children were visited, as the bits of a word say it.
+pub mod VisitLemmas
 -- The steps of a walk, a file for each.
 pub mod WalkLemmas

@@ -9,4 +9,5 @@ pub mod Roots
 pub mod StepViews
 pub mod Steps
 pub mod View
+pub mod Visits
 pub mod Walk

@@ -1,11 +1,18 @@
 -- Which spans of a text are values of their own, in UTF-8.
-use Rattle.std.specs.Prelude.{ℕ, ◌≤◌, List, length, slice_range}
+use Rattle.std.specs.Prelude.{◌≡◌, ℕ, ◌≤◌, List, length, slice_get, slice_range}
+use Rattle.std.specs.declared.option.Option.{Option}
+use Rattle.std.specs.declared.option.Option.TheVariants.{Some}
 use Rattle.std.specs.Str.{IsUtf8}
 use Rattle.sonic_text.specs.Strings.{strict}
 use Rattle.sonic_text.specs.Values.{IsValue}
+use Rattle.sonic_find.specs.declared.span.Span.{Span}
 
 -- from i to j is a value, and its bytes are UTF-8
 pub record IsPart (t : List ℕ) (i j : ℕ) : Type 0 where
   pub value : IsValue strict t i j
   pub inside : j ≤ length t
   pub utf8 : IsUtf8 (slice_range t i j)
+
+-- and each of these spans is one, where there is one
+abbrev pub AreSpans : List ℕ → List (Option Span) → Type 0
+AreSpans t xs = (k : ℕ) (x : Span) → slice_get xs k ≡ Some (Some x) → IsPart t x.start x.end

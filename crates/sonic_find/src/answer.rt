@@ -1,5 +1,5 @@
 // The answer of a list of paths.
-ghost use Rattle.std.specs.Prelude.{◌≡◌, ◌≢◌, ◌⊎◌, ◌<◌, ◌≤◌, ℕ, List, [], true, false, length, option_map, take, IfOk, IfErr, IfSome, OnOk};
+ghost use Rattle.std.specs.Prelude.{◌≡◌, ◌≢◌, ◌⊎◌, ◌<◌, ◌≤◌, ℕ, List, [], None, true, false, length, option_map, replicate, take, IfOk, IfErr, IfSome, OnOk, OnErr};
 ghost use Rattle.std.specs.Option.{IsSomeAnd};
 ghost use Rattle.std.specs.Str.{IsUtf8};
 ghost use Rattle.sonic_error.specs.declared.code.ErrorCode.TheVariants.{InvalidUTF8};
@@ -20,15 +20,16 @@ use sonic_error::{Error, ErrorCode};
 use sonic_input::{JsonInput, Read};
 use sonic_parser::Fault;
 use sonic_pointer::{KeyRule, PointerTree};
-use sonic_text::Stop;
-use std::alloc::Global;
+use sonic_text::{Kind, Stop};
+use std::alloc::{AllocError, Global};
 
-// What the paths of a tree found in a text, and how far the text is needed for it.
+// What a walk takes of memory, and the next one uses again.
 #[derive(Drop)]
-struct Reached<'de> {
-    text: &'de [u8],
-    found: Vec<Option<Located>>,
-    reach: usize,
+pub(crate) struct Memory {
+    // What each path found.
+    pub(crate) found: Vec<Option<Located>>,
+    // The kinds of the containers that were open while a value was skipped.
+    pub(crate) opened: Option<Vec<Kind>>,
 }
 
 /// Where the values are that the paths of a tree find in an input under a rule, in the order of the
@@ -57,65 +58,107 @@ pub fn locate_many<'de, I: JsonInput<'de>>(
         → IfErr result (λ error. IsPlainError error ErrorCode.NoMemory) }
     ensures honest { IfErr result (IsHonest strict (I.JsonInput.content json) 0) }
 {
+    let mut memory = Memory {
+        found: Vec::new(alloc),
+        opened: None,
+    };
+    locate_in(alloc, &mut memory, json, tree, rule)?;
+    Ok(memory.found)
+}
+
+// The same in memory that is used again, in which nothing is found after an error.
+pub(crate) fn locate_in<'de, I: JsonInput<'de>>(
+    alloc: Global,
+    memory: &mut Memory,
+    json: I,
+    tree: &PointerTree,
+    rule: KeyRule,
+) -> Result<(), Error>
+    ensures ok { OnOk result (IsAnswerBy rule (I.JsonInput.content json) I.JsonInput.is_bytes
+        tree.now (Answer.spans (spans_of memory.new.found.items))) }
+    ensures statuses { OnOk result (HaveStatuses (I.JsonInput.content json) memory.new.found.items) }
+    ensures parts { OnOk result (AreParts (I.JsonInput.content json) memory.new.found.items) }
+    ensures err { IfErr result (λ error. IsRefusalBy rule (I.JsonInput.content json) I.JsonInput.is_bytes
+        tree.now error) }
+    ensures cleared { OnErr result (memory.new.found.items ≡ []) }
+    ensures complete { IsAnswerableBy rule (I.JsonInput.content json) I.JsonInput.is_bytes tree.now
+        → IfErr result (λ error. IsPlainError error ErrorCode.NoMemory) }
+    ensures honest { IfErr result (IsHonest strict (I.JsonInput.content json) 0) }
+{
     let text = json.to_u8_slice();
-    let read = Read::unscanned(json.to_json_slice());
-    match answer(alloc, read, json.need_utf8_valid(), tree, rule) {
-        Ok(found) => Ok(found),
-        Err(fault) => Err(fault.error(text)),
+    match answer(alloc, memory, &json, tree, rule) {
+        Ok(()) => Ok(()),
+        Err(fault) => {
+            memory.found.clear();
+            Err(fault.error(text))
+        }
     }
 }
 
 // The values that the paths of a tree are answered with under a rule, in their order, or the one error.
 //
 // What follows the last byte that is needed plays no part.
-fn answer(
+fn answer<'de, I: JsonInput<'de>>(
     alloc: Global,
-    read: Read<'_>,
-    is_bytes: bool,
+    memory: &mut Memory,
+    json: &I,
     tree: &PointerTree,
     rule: KeyRule,
-) -> Result<Vec<Option<Located>>, Fault>
-    requires { read.place ≡ 0 }
-    ensures ok { IfOk result (λ found.
-        IsAnswerBy rule read.entry.text is_bytes tree.now (Answer.spans (spans_of found.items))) }
-    ensures statuses { IfOk result (λ found. HaveStatuses read.entry.text found.items) }
-    ensures err { IfErr result (IsStopFor (IsError rule read.entry.text is_bytes tree.now)) }
+) -> Result<(), Fault>
+    ensures ok { OnOk result (IsAnswerBy rule (I.JsonInput.content json.now) I.JsonInput.is_bytes
+        tree.now (Answer.spans (spans_of memory.new.found.items))) }
+    ensures statuses { OnOk result (HaveStatuses (I.JsonInput.content json.now) memory.new.found.items) }
+    ensures err { IfErr result (IsStopFor (IsError rule (I.JsonInput.content json.now)
+        I.JsonInput.is_bytes tree.now)) }
 {
-    let size = tree.size();
-    if size == 0 {
-        return Ok(Vec::new(alloc));
+    empty_slots(&mut memory.found, tree.size())?;
+    if tree.size() == 0 {
+        return Ok(());
     }
-    let Reached { text, found, reach } = reach(alloc, read, tree, size, rule)?;
-    if is_bytes {
-        check(text, reach)?;
+    let read = Read::unscanned(json.to_json_slice());
+    let reach = reach(alloc, memory, read, tree, rule)?;
+    if json.need_utf8_valid() {
+        check(json.to_u8_slice(), reach)?;
     }
-    Ok(found)
+    Ok(())
 }
 
-// Follows the paths of a tree that has some.
-fn reach<'de>(
+// Makes a slot for each path, in which nothing is found yet.
+fn empty_slots(found: &mut Vec<Option<Located>>, size: usize) -> Result<(), AllocError>
+    ensures { OnOk result (found.new.items ≡ replicate size None) }
+{
+    found.clear();
+    found.resize(size, None)?;
+    Ok(())
+}
+
+// Follows the paths of a tree that has some, from the start of a text, and fills their slots: how far
+// the text is needed.
+fn reach(
     alloc: Global,
-    read: Read<'de>,
+    memory: &mut Memory,
+    read: Read<'_>,
     tree: &PointerTree,
-    size: usize,
     rule: KeyRule,
-) -> Result<Reached<'de>, Fault>
+) -> Result<usize, Fault>
     requires start { read.place ≡ 0 }
-    requires size { size ≡ length tree.now }
     requires some { tree.now ≢ [] }
-    ensures text { IfOk result (λ x. x.text.now ≡ read.entry.text) }
-    ensures reached { IfOk result (λ x.
-        AllReached rule read.entry.text tree.now (spans_of x.found.items) x.reach) }
-    ensures statuses { IfOk result (λ x. HaveStatuses read.entry.text x.found.items) }
+    requires slots { memory.old.found.items ≡ replicate (length tree.now) None }
+    ensures reached { IfOk result (λ reach.
+        AllReached rule read.entry.text tree.now (spans_of memory.new.found.items) reach) }
+    ensures statuses { OnOk result (HaveStatuses read.entry.text memory.new.found.items) }
     ensures err { IfErr result (IsStopFor (IsStop (root_point rule read.entry.text tree.now) false)) }
 {
     let view = tree.view();
-    let mut walk = Walk::new(alloc, read, size, rule, view.prefixes())?;
-    follow(&mut walk, &view, false)?;
-    let (text, end, lacking) = (walk.text(), walk.place(), walk.lacks_key());
-    let found = walk.into_spans();
-    let reach = reach_of(&found, lacking, end);
-    Ok(Reached { text, found, reach })
+    let slots = std::mem::replace(&mut memory.found, Vec::new(alloc));
+    let mut walk = Walk::new(alloc, read, slots, rule, view.prefixes())?;
+    walk.swap_memory(&mut memory.opened);
+    let followed = follow(&mut walk, &view, false);
+    let (end, lacking) = (walk.place(), walk.lacks_key());
+    walk.swap_memory(&mut memory.opened);
+    memory.found = walk.into_spans();
+    followed?;
+    Ok(reach_of(&memory.found, lacking, end))
 }
 
 // How far the text is needed: to the end of the root where some path lacks its key.

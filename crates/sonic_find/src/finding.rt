@@ -100,7 +100,7 @@ fn fill(out: &mut [Option<Span>], found: &[Option<Located>])
 }
 
 // The span of a value, where one was found.
-fn span_of(located: Option<Located>) -> Option<Span>
+pub(crate) fn span_of(located: Option<Located>) -> Option<Span>
     ensures { result ≡ option_map slot_at located }
 {
     match located {

@@ -20,6 +20,8 @@ mod many_unchecked;
 mod marks;
 // Where one path leads in a text.
 mod path;
+// What many paths find in many texts, in room that is used again.
+mod room;
 // A part of an input.
 mod span;
 // What a walk has come to.
@@ -43,5 +45,6 @@ pub use law::{
 pub use located::Located;
 pub use many_unchecked::{find_many_unchecked, with_status};
 pub use path::{locate, locate_from};
+pub use room::{Room, find_many_in};
 pub use span::Span;
 pub use steps::Steps;

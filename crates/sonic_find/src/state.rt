@@ -50,27 +50,28 @@ impl<'de> Model for Walk<'de> {
 }
 
 impl<'de> Walk<'de> {
-    // A walk that begins at the root of the reader's text, for this many paths, which have so many
-    // prefixes.
+    // A walk that begins at the root of the reader's text, for paths with so many prefixes, in their
+    // slots.
+    #[inline(always)]
     pub(crate) fn new(
         alloc: Global,
         read: Read<'de>,
-        size: usize,
+        spans: Vec<Option<Located>>,
         rule: KeyRule,
         prefixes: usize,
     ) -> Result<Walk<'de>, AllocError>
-        requires { read.place ≡ 0 }
+        requires start { read.place ≡ 0 }
+        requires statuses { HaveStatuses read.text spans.items }
         ensures text { IfOk result (λ walk. walk.text ≡ read.entry.text) }
         ensures place { IfOk result (λ walk. walk.place ≡ after_space read.entry.text 0) }
         ensures findings { IfOk result (λ walk.
-            walk.findings ≡ record { spans = replicate size None; lacking = false }) }
+            walk.findings ≡ record { spans = spans_of spans.items; lacking = false }) }
         ensures rule { IfOk result (λ walk. walk.rule ≡ rule) }
         ensures marked { IfOk result (λ walk. rule ≢ First → length walk.marks ≡ prefixes) }
         ensures unmarked { IfOk result (λ walk. (n : ℕ) (m : Mark)
             → slice_get walk.marks n ≡ Some m → m.value.start ≡ 0) }
     {
         let steps = Steps::checked(alloc, read);
-        let spans = vec![in alloc; None; size]?;
         let lacking = false;
         let marks = marks(alloc, rule, prefixes)?;
         Ok(Walk {
@@ -81,6 +82,13 @@ impl<'de> Walk<'de> {
             rule,
             marks,
         })
+    }
+
+    // Exchanges the memory in which values are skipped with that of another walk.
+    pub(crate) fn swap_memory(&mut self, opened: &mut Option<Vec<Kind>>)
+        ensures { self.new ≡ self.old }
+    {
+        self.steps.swap_memory(opened);
     }
 
     // Whether a container of this kind has to be whole before a node leads on in it.
@@ -149,6 +157,7 @@ impl<'de> Walk<'de> {
     }
 
     // Skips the value at the cursor.
+    #[inline(always)]
     pub(crate) fn skip(&mut self) -> Result<ParseStatus, Fault>
         ensures value { OnOk result (IsValue strict self.old.text self.old.place self.new.place) }
         ensures status { IfOk result (λ status.
@@ -160,6 +169,7 @@ impl<'de> Walk<'de> {
     }
 
     // Enters the container of this kind at the cursor, up to its first item.
+    #[inline(always)]
     pub(crate) fn enter(&mut self, kind: Kind) -> Result<(), Fault>
         ensures ok { OnOk result (ItemsFit strict self.old.text kind self.old.place 0 self.new.place) }
         ensures moved { OnOk result (self.new ≡ record self.old { place = self.new.place }) }
@@ -170,6 +180,7 @@ impl<'de> Walk<'de> {
 
     // Goes past the bracket of the container of this kind at the cursor: whether an item is expected,
     // at which the cursor then is, or after the closing bracket.
+    #[inline(always)]
     pub(crate) fn open(&mut self, kind: Kind) -> bool
         requires { byte self.old.text self.old.place ≡ opening kind }
         ensures item { result ≡ true
@@ -182,6 +193,7 @@ impl<'de> Walk<'de> {
     }
 
     // Goes on after an item of a container of this kind: whether another one comes.
+    #[inline(always)]
     pub(crate) fn next_item(&mut self, kind: Kind) -> Result<bool, Stop>
         ensures item { IfOk result (λ more. more ≡ true
             → IsSeparated self.old.text self.old.place self.new.place) }
@@ -196,6 +208,7 @@ impl<'de> Walk<'de> {
 
     // Passes the key at the cursor, up to the member's value, and gives where the key ends and
     // whether it has a backslash.
+    #[inline(always)]
     pub(crate) fn key(&mut self) -> Result<StringEnd, Stop>
         ensures ok { IfOk result (λ key. (b : List ℕ)
             × IsString strict self.old.text self.old.place key.end b
@@ -207,6 +220,7 @@ impl<'de> Walk<'de> {
     }
 
     // Keeps the value that was read from `start` up to here for the paths of these numbers.
+    #[inline(always)]
     pub(crate) fn keep(&mut self, orders: &[usize], start: usize, status: ParseStatus)
         requires known { (k : ℕ) → Contains orders.now k → k < length self.old.findings.spans }
         requires status { IsStatus self.old.text start self.old.place status }

@@ -14,7 +14,7 @@ ghost use Rattle.sonic_find.specs.Paths.{empty_code, wanted_of};
 use sonic_error::{ErrorCode, Note, Wanted};
 use sonic_input::Read;
 use sonic_parser::{Fault, ParseStatus, Parser};
-use sonic_text::{Kind, Stop, StringEnd, byte_at, type_of};
+use sonic_text::{Kind, Stop, StringEnd, byte_at, skip_space, type_of};
 use std::alloc::Global;
 use std::marker::Model;
 
@@ -65,6 +65,7 @@ impl<'de> Steps<'de> {
         Steps::new(read, None)
     }
 
+    // White space is passed before there is a parser, as one that was used would have to be copied.
     fn new(read: Read<'de>, memory: Option<Global>) -> Steps<'de>
         ensures { result ≡ record {
           text = read.entry.text;
@@ -72,9 +73,17 @@ impl<'de> Steps<'de> {
           checks = is_some memory;
         } }
     {
-        let mut parser = Parser::new(read);
-        parser.skip_space_peek();
+        let mut read = read;
+        read.set_index(skip_space(read.as_u8_slice(), read.index()));
+        let parser = Parser::new(read);
         Steps { parser, memory }
+    }
+
+    // Exchanges the memory in which values are skipped with that of another walk.
+    pub(crate) fn swap_memory(&mut self, opened: &mut Option<Vec<Kind>>)
+        ensures { self.new ≡ self.old }
+    {
+        self.parser.swap_memory(opened);
     }
 
     /// The place that the steps have come to: the index of a byte.
@@ -93,6 +102,7 @@ impl<'de> Steps<'de> {
     }
 
     /// Skips the value at the cursor.
+    #[inline(always)]
     pub fn skip(&mut self) -> Result<ParseStatus, Fault>
         requires { IsSkippable self.old }
         ensures value { OnOk result (IsValue strict self.old.text self.old.place self.new.place) }
@@ -109,6 +119,7 @@ impl<'de> Steps<'de> {
     }
 
     // Enters the container of this kind at the cursor, up to its first item.
+    #[inline(always)]
     pub(crate) fn enter(&mut self, kind: Kind) -> Result<(), Fault>
         requires { IsSkippable self.old }
         ensures ok { OnOk result (ItemsFit strict self.old.text kind self.old.place 0 self.new.place) }
@@ -133,6 +144,7 @@ impl<'de> Steps<'de> {
 
     /// Goes past the bracket of the container of this kind at the cursor: whether an item is expected,
     /// at which the cursor then is, or after the closing bracket.
+    #[inline(always)]
     pub fn open(&mut self, kind: Kind) -> bool
         requires { byte self.old.text self.old.place ≡ opening kind }
         ensures item { result ≡ true
@@ -163,6 +175,7 @@ impl<'de> Steps<'de> {
     }
 
     /// Goes on after an item of a container of this kind: whether another one comes.
+    #[inline(always)]
     pub fn next_item(&mut self, kind: Kind) -> Result<bool, Stop>
         requires { IsAfterItem kind self.old }
         ensures item { IfOk result (λ more. more ≡ true
@@ -181,6 +194,7 @@ impl<'de> Steps<'de> {
 
     /// Passes the key at the cursor, up to the member's value, and gives where the key ends and
     /// whether it has a backslash.
+    #[inline(always)]
     pub fn key(&mut self) -> Result<StringEnd, Stop>
         requires { IsAtKey self.old }
         ensures ok { IfOk result (λ key. (b : List ℕ)

@@ -7,12 +7,11 @@ use Rattle.std.proofs.Math.Seq.{take-length}
 use Rattle.std.proofs.lemmas.Bool.{cases_eq}
 use Rattle.std.proofs.lemmas.Bool.Decides.{nat_tests}
 use Rattle.sonic_error.specs.declared.code.ErrorCode.{ErrorCode}
-use Rattle.sonic_lazy.specs.Internal.Items.{IsAfterItems, before_all, after_last, IsKeyAt, IsFoundHead, no_key, a_key, IsFound, IsFoundPart, IsKeyOf}
-use Rattle.sonic_lazy.specs.Internal.StringSpans.{IsStringSpan}
+use Rattle.sonic_lazy.specs.Internal.Items.{IsAfterItems, before_all, after_last, IsKeyAt, IsFoundHead, no_key, a_key, IsFound, IsFoundPart, IsKeyOf, IsTextSpan}
 use Rattle.sonic_find.specs.Internal.Steps.{HasWhole}
 use Rattle.sonic_lazy.specs.Items.{ItemsReach, IsItemAt, AreClosed, closed_after, BeginsNoItem, no_quote, text_ends, stop_at, AreStopped, no_container, no_item, no_separator, no_key as key_stops, no_value}
 use Rattle.sonic_lazy.specs.declared.items.Found.{Found}
-use Rattle.sonic_lazy.specs.declared.unescaped.StringSpan.{StringSpan}
+use Rattle.sonic_parser.specs.declared.string_span.StringSpan.{StringSpan}
 use Rattle.sonic_find.specs.Parts.{IsPart}
 use Rattle.sonic_find.proofs.PathLemmas.Lead.{count_below}
 use Rattle.sonic_find.proofs.Utf8Lemmas.{utf8_of_span}
@@ -22,6 +21,7 @@ use Rattle.sonic_text.proofs.Insides.{item_whole, item_before_end}
 use Rattle.sonic_text.proofs.Stops.{fault_within}
 use Rattle.sonic_text.proofs.Parts.{part_is, part_length}
 use Rattle.sonic_text.proofs.StringTexts.{string_utf8}
+use Rattle.sonic_text.proofs.Strings.{string_one}
 use Rattle.sonic_text.proofs.SameValues.{key_same}
 use Rattle.sonic_text.proofs.ValueParts.{item_agrees}
 use Rattle.sonic_text.proofs.Values.{value-longer, head-later}
@@ -167,14 +167,17 @@ key_utf8 {t} {h} {v} {b = b} u x l =
     string_utf8 text own.string
 
 -- so it is a string that can be read
-key_is_part : {t : List ℕ} {h v e : ℕ} {key : StringSpan} → IsUtf8To t e → IsKeyAt t h v key → v ≤ e → IsStringSpan t key
+key_is_part : {t : List ℕ} {h v e : ℕ} {key : StringSpan} → IsUtf8To t e → IsKeyAt t h v key → v ≤ e → IsTextSpan t key
 key_is_part {t} {h} {v} {key = key} u x l =
     let own : IsString strict t key.start key.end x.bytes = rw x.start x.string in
     let escaped : IsTrue key.escaped ↔ IsEscapedString t key.start key.end = rw x.start x.escaped in
-    record { bytes = x.bytes; is = own; within = value_within (string own); utf8 = key_utf8 u x.colon l; escaped = escaped }
+    record {
+      span = record { bytes = x.bytes; is = own; escaped = escaped };
+      utf8 = λ b s. rw (string_one s own).1 (key_utf8 u x.colon l);
+    }
 
 -- where there is one
-head_is_part : {t : List ℕ} {kind : Kind} {h v e : ℕ} {key : Option StringSpan} → IsUtf8To t e → IsFoundHead t kind h v key → v ≤ e → IfSome key (IsStringSpan t)
+head_is_part : {t : List ℕ} {kind : Kind} {h v e : ℕ} {key : Option StringSpan} → IsUtf8To t e → IsFoundHead t kind h v key → v ≤ e → IfSome key (IsTextSpan t)
 head_is_part u (no_key e) l = tt
 head_is_part u (a_key x) l = key_is_part u x l
 
@@ -197,7 +200,7 @@ err_weaker (Ok x) f h = tt
 err_weaker (Err e) f h = f e h
 
 -- a member has a key
-pub member_key : {t : List ℕ} {kind : Kind} {h v : ℕ} (key : Option StringSpan) → kind ≡ Object → IsFoundHead t kind h v key → IfSome key (IsStringSpan t)
+pub member_key : {t : List ℕ} {kind : Kind} {h v : ℕ} (key : Option StringSpan) → kind ≡ Object → IsFoundHead t kind h v key → IfSome key (IsTextSpan t)
     → IsKeyOf t key
 member_key None k (no_key e) s = absurd cc
 member_key (Some key) k h s = s

@@ -14,7 +14,7 @@ use Rattle.sonic_lazy.specs.Items.{Item, ItemsReach, IsItemAt, AreClosed, closed
 use Rattle.sonic_lazy.specs.Iterators.{Iterating, IsEscapedKey, ShowsElement, ShowsMember, HasNext, IsNextError, out_of_memory, no_next_item, IsGiven, IsStuck, IsOver, IsNext}
 use Rattle.sonic_lazy.specs.LazyValues.{raw_bytes}
 use Rattle.sonic_lazy.specs.declared.items.Found.{Found}
-use Rattle.sonic_lazy.specs.declared.unescaped.StringSpan.{StringSpan}
+use Rattle.sonic_parser.specs.declared.string_span.StringSpan.{StringSpan}
 use Rattle.sonic_lazy.specs.declared.lazyvalue.LazyValue.{LazyValue}
 use Rattle.sonic_parser.specs.Faults.{IsStopFor, IsErrorOf}
 use Rattle.sonic_parser.specs.declared.fault.Fault.{Fault}

@@ -17,7 +17,7 @@ use Rattle.sonic_text.proofs.TreeLemmas.{tree_of}
 use Rattle.sonic_text.proofs.Values.{first_letter}
 use Rattle.sonic_lazy.proofs.WholeLemmas.{lazy_is_whole}
 use Rattle.sonic_lazy.specs.declared.lazyvalue.LazyValue.{LazyValue}
-use Rattle.sonic_lazy.specs.Internal.StringSpans.{IsStringSpan}
+use Rattle.sonic_lazy.specs.Internal.Items.{IsTextSpan}
 use Rattle.sonic_text.proofs.StringTexts.{string_utf8}
 use Rattle.sonic_lazy.specs.LazyValues.{raw_bytes}
 use Rattle.sonic_lazy.specs.Scalars.{numeral, text, container, scalar_of, scalar_of_tree, type_of}
@@ -81,8 +81,11 @@ lazy_string value e =
 
 -- from end to end, which denotes bytes in UTF-8
 pub lazy_span : (value : LazyValue) → scalar_of (raw_bytes value) ≡ text
-    → IsStringSpan (raw_bytes value) (record { start = 0; end = length (raw_bytes value); escaped = value.has_escaped })
+    → IsTextSpan (raw_bytes value) (record { start = 0; end = length (raw_bytes value); escaped = value.has_escaped })
 lazy_span value e =
     let string = lazy_string value e in
     let whole = lazy_is_whole value in
-    record { bytes = string.0; is = string.1; within = omega arith; utf8 = string_utf8 whole.utf8 string.1; escaped = whole.escapes }
+    record {
+      span = record { bytes = string.0; is = string.1; escaped = whole.escapes };
+      utf8 = λ b s. string_utf8 whole.utf8 s;
+    }

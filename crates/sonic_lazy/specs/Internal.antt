@@ -1,4 +1,3 @@
 -- What serves private clauses and loop invariants alone.
 pub mod Items
 pub mod Shown
-pub mod StringSpans

@@ -9,10 +9,9 @@ ghost use Rattle.sonic_lazy.specs.Internal.Items.{IsAfterItems, IsFound, IsFound
 ghost use Rattle.sonic_find.specs.Internal.Steps.{HasWhole, IsAtKey};
 ghost use Rattle.sonic_lazy.specs.Items.{ItemsReach, AreClosed, BeginsNoItem, AreStopped, code_of_start, code_before_item};
 
-use crate::unescaped::StringSpan;
 use sonic_error::ErrorCode;
 use sonic_find::{Located, Steps};
-use sonic_parser::Fault;
+use sonic_parser::{Fault, StringSpan};
 use sonic_text::{Kind, Stop, StringEnd, byte_at};
 
 // An item: the key of a member, and where its value was found.

@@ -99,7 +99,7 @@ impl<'de> Items<'de> {
         if self.ended {
             return None;
         }
-        match find(&mut self.steps, self.kind, self.given, self.is_bytes) {
+        match find_next(&mut self.steps, self.kind, self.given, self.is_bytes) {
             Ok(Some(found)) => {
                 self.given += 1;
                 Some(Ok(found))
@@ -130,7 +130,7 @@ impl<'de> Items<'de> {
     }
 
     // A value of the text.
-    pub(crate) fn value(&self, found: Located) -> LazyValue<'de>
+    pub(crate) fn lazy_value(&self, found: Located) -> LazyValue<'de>
         requires part { IsPart self.now.text found.start found.end }
         requires status { IsStatus self.now.text found.start found.end found.status }
         ensures { raw_bytes result ≡ slice_range self.now.text found.start found.end }
@@ -142,7 +142,7 @@ impl<'de> Items<'de> {
 
 // Passes the item that comes after those that were given, if there is one, in a text that came as
 // bytes, whose UTF-8 is looked at before the first item, or not.
-fn find(
+fn find_next(
     steps: &mut Steps<'_>,
     kind: Kind,
     given: usize,

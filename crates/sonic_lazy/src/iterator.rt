@@ -7,10 +7,10 @@ ghost use Rattle.sonic_lazy.specs.Iterators.{iterator_over};
 use crate::items::Found;
 use crate::iteration::Items;
 use crate::lazyvalue::LazyValue;
-use crate::unescaped::{StringSpan, string_text};
 use crate::value_trait::JsonValueTrait;
 use sonic_error::{ErrorCode, Result};
 use sonic_input::JsonInput;
+use sonic_parser::StringSpan;
 use sonic_text::Kind;
 use std::alloc::Global;
 use std::borrow::CowStr;
@@ -94,7 +94,7 @@ impl<'de> ObjectJsonIter<'de> {
             IsEscapedString self.old.text k.start k.end)) }
     {
         match self.text_of(found.key) {
-            Ok(text) => Ok((text, self.items.value(found.value))),
+            Ok(text) => Ok((text, self.items.lazy_value(found.value))),
             Err(error) => {
                 self.items.end();
                 Err(error)
@@ -110,7 +110,7 @@ impl<'de> ObjectJsonIter<'de> {
         ensures memory { OnErr result (IfSome key (λ k. IsEscapedString self.now.text k.start k.end)) }
     {
         match key {
-            Some(key) => string_text(self.alloc, self.items.text(), key),
+            Some(key) => Ok(key.text(self.alloc, self.items.text())?),
             None => unreachable!(),
         }
     }
@@ -164,7 +164,7 @@ impl<'de> ArrayJsonIter<'de> {
         ensures honest { IfSome result (λ r. IfErr r (IsHonestNext self.old)) }
     {
         match self.items.next() {
-            Some(Ok(Found { value, .. })) => Some(Ok(self.items.value(value))),
+            Some(Ok(Found { value, .. })) => Some(Ok(self.items.lazy_value(value))),
             Some(Err(fault)) => Some(Err(fault.error(self.items.text()))),
             None => None,
         }

@@ -4,10 +4,10 @@ ghost use Rattle.std.specs.Cmp.Rules.{comparing, hashing};
 ghost use Rattle.sonic_input.specs.Slices.{slice_bytes};
 ghost use Rattle.sonic_lazy.specs.Wholes.{IsWholeValue};
 
-use crate::unescaped::{StringSpan, string_text};
 use crate::value_trait::JsonValueTrait;
 use sonic_error::ErrorCode;
 use sonic_input::{FastStr, JsonSlice};
+use sonic_parser::StringSpan;
 use std::alloc::{AllocError, Global};
 use std::borrow::CowStr;
 use std::cmp::Ordering;
@@ -96,19 +96,12 @@ impl<'a> LazyValue<'a> {
             return Ok(None);
         }
         let text = self.raw.bytes();
-        let (start, end, escaped) = (0, text.len(), self.has_escaped);
-        match string_text(
-            alloc,
-            text,
-            StringSpan {
-                start,
-                end,
-                escaped,
-            },
-        ) {
-            Ok(text) => Ok(Some(text)),
-            Err(error) => Err(error),
-        }
+        let string = StringSpan {
+            start: 0,
+            end: text.len(),
+            escaped: self.has_escaped,
+        };
+        Ok(Some(string.text(alloc, text)?))
     }
 
     /// Whether the value is a string with a backslash, which denotes other bytes than those between

@@ -30,8 +30,6 @@ mod one;
 mod rawnumber;
 // What paths find in an input that is known to begin with a value.
 mod unchecked;
-// What a string denotes, as text.
-mod unescaped;
 // What a value is, as far as its own first level says.
 mod value_trait;
 // What paths find in a lazy value.

@@ -32,13 +32,13 @@ fn values<'de, I: JsonInput<'de>>(
 {
     let mut values = Vec::with_capacity(alloc, found.len())?;
     for located in found {
-        values.push(value(json, *located))?;
+        values.push(value_at(json, *located))?;
     }
     Ok(values)
 }
 
 // The lazy value in an input where one was found.
-fn value<'de, I: JsonInput<'de>>(json: I, located: Option<Located>) -> Option<LazyValue<'de>>
+fn value_at<'de, I: JsonInput<'de>>(json: I, located: Option<Located>) -> Option<LazyValue<'de>>
     requires part { IfSome located (λ x. IsPart (I.JsonInput.content json) x.start x.end) }
     requires statuses { IfSome located (λ x.
         IsStatus (I.JsonInput.content json) x.start x.end x.status) }

@@ -20,7 +20,7 @@ use sonic_pointer::PointerTree;
 use std::alloc::{AllocError, Global};
 
 // The lazy value in an input where the span of one was found.
-fn value<'de, I: JsonInput<'de>>(json: I, span: Option<Span>) -> Option<LazyValue<'de>>
+fn value_of_span<'de, I: JsonInput<'de>>(json: I, span: Option<Span>) -> Option<LazyValue<'de>>
     requires { IfSome span (λ s. IsPart (I.JsonInput.content json) s.start s.end) }
     ensures { option_map raw_bytes result
         ≡ option_map (span_text (I.JsonInput.content json)) (option_map pair_of span) }
@@ -43,7 +43,7 @@ fn values<'de, I: JsonInput<'de>>(
 {
     let mut values = Vec::with_capacity(alloc, spans.len())?;
     for span in spans {
-        values.push(value(json, *span))?;
+        values.push(value_of_span(json, *span))?;
     }
     Ok(values)
 }

@@ -32,6 +32,9 @@ mod rawnumbers;
 // A plain program beside the walk.
 #[cfg(test)]
 mod reference;
+// Many texts, one after the other.
+#[cfg(test)]
+mod room;
 // Equal keys, by each rule.
 #[cfg(test)]
 mod rules;

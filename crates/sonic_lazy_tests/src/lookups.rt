@@ -61,7 +61,7 @@ fn check_error<'de, I: JsonInput<'de>>(
     offset: usize,
 ) {
     match get_many(alloc, input, tree) {
-        Ok(_) => panic!(rt; "no error where {code} is value_start"),
+        Ok(_) => panic!(rt; "no error where {code} is expected"),
         Err(error) => {
             same(rt, error.code(), code);
             same_at(rt, error.offset(), offset, code);

@@ -1,5 +1,6 @@
 mod BeginningLemmas
 mod BlockLemmas
+pub mod DescentLemmas
 pub mod FaultLemmas
 pub mod HonestLemmas
 mod RefusalLemmas

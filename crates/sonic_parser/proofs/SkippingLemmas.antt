@@ -17,14 +17,15 @@ use Rattle.sonic_parser.specs.declared.container.Next.TheVariants.{Item, End}
 use Rattle.sonic_parser.specs.declared.skip.Reached.TheVariants.{Expected, Closed}
 use Rattle.sonic_parser.specs.Internal.Containers.{IsAfterValue}
 use Rattle.sonic_parser.specs.Containers.{IsSeparatorFault}
-use Rattle.sonic_parser.specs.Internal.Skipping.{IsComplete, IsBegun, IsItem, IsItemFault, IsOpen, here, inside, IsItemExpected, IsItemEnded, IsTop, IsReached, IsValueEnd}
+use Rattle.sonic_parser.specs.Internal.Skipping.{IsComplete, IsBegun, IsItem, IsItemFault, IsReached, IsValueEnd}
+use Rattle.sonic_parser.specs.OpenContainers.{IsOpen, here, inside, IsItemExpected, IsItemEnded, IsTop}
 
 -- a container whose first item is expected is open alone
 pub first_item_expected : {m : Bool} {t : List ℕ} {kind : Kind} {i h : ℕ} → h ≤ length t → ItemsFit m t kind i 0 h → IsReached m t i (kind ∷ []) (Expected h)
 first_item_expected {kind = kind} {i} l is = (l, record { kind = kind; p = i; n = 0; outer = []; around = here refl refl; fit = is; kinds_are = refl })
 
 -- the last of the kinds is the one that was added
-top : (kinds outer : List Kind) (k kind : Kind) → kinds ≡ outer ++ k ∷ [] → IsTop kinds kind → k ≡ kind
+pub top : (kinds outer : List Kind) (k kind : Kind) → kinds ≡ outer ++ k ∷ [] → IsTop kinds kind → k ≡ kind
 top kinds outer k kind e h =
     let n : length (outer ++ k ∷ []) - 1 ≡ length outer = omega (arith, length-append outer (k ∷ [])) in
     let last : get_or kinds (length kinds - 1) kind ≡ k = rw (e, n) (get_or-append_seam outer k [] kind) in
@@ -173,7 +174,7 @@ closed_more {kinds = kinds} c some = elim c.around [
 ]
 
 -- a fault inside open containers is the fault of the outermost
-fault_up : {m : Bool} {t : List ℕ} {i p : ℕ} {kinds : List Kind} {s : Stop} → IsOpen m t i p kinds → IsFault m t p s → IsFault m t i s
+pub fault_up : {m : Bool} {t : List ℕ} {i p : ℕ} {kinds : List Kind} {s : Stop} → IsOpen m t i p kinds → IsFault m t p s → IsFault m t i s
 fault_up (here e _) f = rw (sym e) f
 fault_up (inside o is y _) f = fault_up o (in_value is y f)
 

@@ -1,7 +1,10 @@
 pub mod Containers
+pub mod Descents
 pub mod Faults
 pub mod Honest
 pub mod Internal
+pub mod OpenContainers
 pub mod Parsers
 pub mod Rows
+pub mod StringSpans
 pub mod Texts

@@ -6,6 +6,7 @@ ghost use Rattle.sonic_text.specs.declared.stop.Stop.{Stop};
 ghost use Rattle.sonic_text.specs.Faults.{IsFault};
 ghost use Rattle.sonic_text.specs.Places.{after_space};
 ghost use Rattle.sonic_text.specs.Values.{IsValue};
+ghost use Rattle.sonic_parser.specs.Descents.{Descending, IsMoved, KeepsTo, FailsAs};
 ghost use Rattle.sonic_parser.specs.Honest.{IsHonest, IsOfValue, stop_of};
 
 /// The law of honest errors, for both ways of reading, every text and every place: whatever other
@@ -23,4 +24,16 @@ pub fn honest_error_shows_the_fault()
         → stop_of e ≡ s }
     ensures value { (m : Bool) (t : List ℕ) (p j : ℕ) (e : Error)
         → IsValue m t (after_space t p) j → IsHonest m t p e → ¬ IsOfValue (error_code e) }
+{}
+
+/// The law of walks, for every text and every value in it: what the steps of a `Descent` pass and
+/// enter is what belongs to the value, and where a step stops, that is the value's one fault.
+///
+/// A walk begins at the value's first byte with nothing open. Each step leads from a place in the
+/// value to the next: after `value` to an item or to the end of a value, after `head` to a value,
+/// after `next` to an item or to the end of a value. At an end with nothing open the whole value
+/// ends, as `IsValue` says. So whoever walks in this order needs no other proof of an end or a fault.
+pub fn a_walk_keeps_to_its_value()
+    ensures keeps { (i : ℕ) (before now : Descending) → IsMoved before now → KeepsTo i before now }
+    ensures fails { (i : ℕ) (walk : Descending) (s : Stop) → FailsAs i walk s }
 {}

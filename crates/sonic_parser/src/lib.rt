@@ -8,9 +8,11 @@ mod begin;
 mod blocks;
 // The syntax of containers: brackets, separators, keys with their colons.
 mod container;
+// A walk through a value, from part to part.
+mod descent;
 // Why a reader goes no further.
 mod fault;
-// The law of honest errors.
+// The law of honest errors, and the law of walks.
 mod law;
 // The calls, over a cursor.
 mod parser;
@@ -24,12 +26,16 @@ mod skip;
 mod space;
 // What a skipped value needs.
 mod status;
+// A string of a text, and what is made of it.
+mod string_span;
 // Where a value ends that is known to be there.
 mod unchecked;
 
 pub use blocks::container_end;
+pub use descent::{Descent, Step};
 pub use fault::Fault;
-pub use law::honest_error_shows_the_fault;
+pub use law::{a_walk_keeps_to_its_value, honest_error_shows_the_fault};
 pub use parser::Parser;
 pub use reference::Reference;
 pub use status::ParseStatus;
+pub use string_span::StringSpan;

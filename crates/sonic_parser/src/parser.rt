@@ -93,6 +93,16 @@ impl<'de> Parser<'de> {
         }
     }
 
+    /// Exchanges the memory in which values are skipped with that of another parser, whose texts may
+    /// be others: what one took is used again by the next.
+    ///
+    /// It begins without any. Nothing is read, and nothing else changes.
+    pub fn swap_memory(&mut self, opened: &mut Option<Vec<Kind>>)
+        ensures { self.new ≡ self.old }
+    {
+        std::mem::swap(&mut self.opened, opened);
+    }
+
     /// The cursor, as an index of the text's bytes.
     #[inline]
     pub fn offset(&self) -> usize
@@ -168,7 +178,7 @@ impl<'de> Parser<'de> {
     }
 
     // Moves to a place.
-    fn move_to(&mut self, place: usize)
+    pub(crate) fn move_to(&mut self, place: usize)
         requires { place ≤ length self.old.text }
         ensures { self.new ≡ moved self.old place }
     {

@@ -1,11 +1,11 @@
 // The loop over the items of a container that fit, in registers.
 //
 // It finds no fault: where an item doesn't fit, it says how far it came, and `skip` goes on there.
-ghost use Rattle.std.specs.Prelude.{◌≡◌, ◌≢◌, ◌+◌, ◌<◌, ◌≤◌, ℕ, Bool, true, length, take, vec_len, IfSome, MatchOption};
-ghost use Rattle.sonic_text.specs.declared.kind.Kind.{Kind};
+ghost use Rattle.std.specs.Prelude.{◌≡◌, ◌+◌, ◌<◌, ◌≤◌, ℕ, Bool, true, length, take, vec_len, IfSome, MatchOption};
 ghost use Rattle.sonic_text.specs.Places.{byte};
 ghost use Rattle.sonic_text.specs.Values.{opening};
-ghost use Rattle.sonic_parser.specs.Internal.Skipping.{IsItem, IsAhead, IsTop, IsValueEnd, IsReached, IsOngoing, place_of};
+ghost use Rattle.sonic_parser.specs.Internal.Skipping.{IsItem, IsAhead, IsValueEnd, IsReached, IsOngoing, place_of};
+ghost use Rattle.sonic_parser.specs.OpenContainers.{IsTop};
 
 use crate::container::{Next, first_item, skip_key};
 use crate::skip::{Extent, Reached, leave};
@@ -66,28 +66,12 @@ fn inside(text: &[u8], place: usize, kind: Kind) -> Ahead
 
 // The value that ends here, if there is one.
 #[inline(always)]
-fn value(end: Option<usize>) -> Ahead
+fn ahead_of_value(end: Option<usize>) -> Ahead
     ensures { MatchOption end (result ≡ Ahead.Other) (λ e. result ≡ Ahead.Value e) }
 {
     match end {
         Some(end) => Ahead::Value(end),
         None => Ahead::Other,
-    }
-}
-
-// The kind of container that a bracket opens.
-#[inline(always)]
-fn kind_of(byte: u8) -> Option<Kind>
-    ensures { MatchOption result ((kind : Kind) → byte ≢ opening kind) (λ kind. byte ≡ opening kind) }
-{
-    if byte == b'[' || byte == b'{' {
-        Some(if byte == b'{' {
-            Kind::Object
-        } else {
-            Kind::Array
-        })
-    } else {
-        None
     }
 }
 
@@ -99,12 +83,12 @@ fn look(text: &[u8], place: usize, lossy: bool) -> Ahead
 {
     let byte = byte_at(text, place);
     if byte == b'"' {
-        return value(skip_string(text, place, lossy));
+        return ahead_of_value(skip_string(text, place, lossy));
     }
-    if let Some(kind) = kind_of(byte) {
+    if let Some(kind) = Kind::opened_by(byte) {
         return inside(text, place, kind);
     }
-    value(scalar_end(text, place, lossy))
+    ahead_of_value(scalar_end(text, place, lossy))
 }
 
 // Whether an array is the first item of the array that is open, and has an array for its own.

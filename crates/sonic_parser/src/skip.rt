@@ -3,7 +3,8 @@ ghost use Rattle.std.specs.Prelude.{◌≡◌, ◌<◌, ◌≤◌, ℕ, Bool, le
 ghost use Rattle.sonic_text.specs.Values.{IsValue};
 ghost use Rattle.sonic_text.specs.Faults.{IsFault};
 ghost use Rattle.sonic_parser.specs.Faults.{IsStopFor};
-ghost use Rattle.sonic_parser.specs.Internal.Skipping.{IsItem, IsItemFault, IsItemEnded, IsReached, IsOngoing, place_of};
+ghost use Rattle.sonic_parser.specs.Internal.Skipping.{IsItem, IsItemFault, IsReached, IsOngoing, place_of};
+ghost use Rattle.sonic_parser.specs.OpenContainers.{IsItemEnded};
 
 use crate::begin::{Begun, begin};
 use crate::container::{Next, key_end, next_item};

@@ -7,10 +7,10 @@ use std::alloc::Global;
 use std::process::Abort;
 use std::test::Fail;
 
-const DEPTH: usize = 100_000;
+pub(crate) const DEPTH: usize = 100_000;
 
 // So many openings one after the other, then the middle, then so many endings.
-fn nested(
+pub(crate) fn nested(
     alloc: Global,
     open: &[u8],
     middle: &[u8],

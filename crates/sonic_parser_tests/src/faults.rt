@@ -22,9 +22,9 @@ const ELEMENT: ErrorCode = ErrorCode::ExpectedArrayCommaOrEnd;
 const HALF: ErrorCode = ErrorCode::InvalidSurrogateUnicodeCodePoint;
 
 // A text, the place of its fault, and the code.
-type Fault = (&'static [u8], usize, ErrorCode);
+pub(crate) type Fault = (&'static [u8], usize, ErrorCode);
 
-fn parser_of(text: &[u8], lossy: bool) -> Parser<'_> {
+pub(crate) fn parser_of(text: &[u8], lossy: bool) -> Parser<'_> {
     let parser = Parser::new(Read::from(text));
     if lossy { parser.utf8_lossy() } else { parser }
 }
@@ -46,7 +46,7 @@ fn check_faults(rt: &impl Abort, alloc: Global, faults: &[Fault]) {
     }
 }
 
-const BEGINNINGS: [Fault; 12] = [
+pub(crate) const BEGINNINGS: [Fault; 12] = [
     (b"", 0, END),
     (b" \n", 2, END),
     (b"}", 0, VALUE),
@@ -61,7 +61,7 @@ const BEGINNINGS: [Fault; 12] = [
     (b"{ ", 2, END),
 ];
 
-const KEYS: [Fault; 17] = [
+pub(crate) const KEYS: [Fault; 17] = [
     (b"{x", 1, KEY),
     (b"{ 1", 2, KEY),
     (b"{]", 1, KEY),
@@ -85,7 +85,7 @@ const KEYS: [Fault; 17] = [
     (b"{\"a\"[1}}", 4, COLON),
 ];
 
-const MEMBERS: [Fault; 20] = [
+pub(crate) const MEMBERS: [Fault; 20] = [
     (b"{\"a\":", 5, END),
     (b"{\"a\": ", 6, END),
     (b"{\"a\":}", 5, VALUE),
@@ -108,7 +108,7 @@ const MEMBERS: [Fault; 20] = [
     (b"{\"a\":1,\"b\"}", 10, COLON),
 ];
 
-const ELEMENTS: [Fault; 18] = [
+pub(crate) const ELEMENTS: [Fault; 18] = [
     (b"[1", 2, END),
     (b"[1 ", 3, END),
     (b"[1}", 2, ELEMENT),
@@ -139,7 +139,7 @@ fn stops_at_the_first_byte_that_does_not_fit(rt: HostRuntime) {
 }
 
 // Texts with surrogate escapes that aren't in pairs.
-const HALVES: [Fault; 6] = [
+pub(crate) const HALVES: [Fault; 6] = [
     (b"\"\\ud800\"", 7, HALF),
     (b"\"\\ude00\"", 4, HALF),
     (b"[\"\\ud800\"]", 8, HALF),

@@ -11,6 +11,9 @@ mod calls;
 // Values as deep as memory allows.
 #[cfg(test)]
 mod depth;
+// A walk through a value beside the skipper.
+#[cfg(test)]
+mod descent;
 // Each fault, with its place and its code.
 #[cfg(test)]
 mod faults;

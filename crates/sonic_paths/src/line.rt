@@ -8,9 +8,9 @@ ghost use Rattle.sonic_paths.specs.Lines.{IsNodeLine};
 ghost use Rattle.sonic_paths.specs.Internal.Reading.{IsNodeRead, IsArrayRead};
 
 use sonic_input::Read;
-use sonic_parser::{Fault, Parser};
+use sonic_parser::{Fault, Parser, StringSpan};
 use sonic_pointer::{MAX_NODES, OwnedNode, OwnedPath};
-use sonic_text::{Kind, byte_at, unescape_into, whole_u64};
+use sonic_text::{Kind, byte_at, whole_u64};
 use std::alloc::{AllocError, Global};
 
 /// The path that a line says, or `None` where it says none. A line ends before its line feed.
@@ -95,28 +95,18 @@ fn key(alloc: Global, parser: &mut Parser<'_>) -> Result<Option<OwnedNode>, Allo
     ensures cursor { parser.new ≡ moved parser.old parser.new.place }
 {
     let start = parser.offset();
-    match parser.skip_value(alloc) {
-        Ok(_) => {
-            let text = key_text(alloc, parser.text(), start, parser.offset())?;
-            Ok(Some(OwnedNode::Key(text)))
-        }
-        Err(Fault::OutOfMemory) => Err(AllocError),
-        Err(Fault::At(_)) => Ok(None),
-    }
-}
-
-// The text that the string from `start` to `end`, both quotes included, denotes.
-fn key_text(alloc: Global, line: &[u8], start: usize, end: usize) -> Result<String, AllocError>
-    requires utf8 { IsUtf8 line.now }
-    requires string { (b : List ℕ) × IsString strict line.now start end b }
-    ensures { IfOk result (λ key. IsString strict line.now start end (string_bytes key)) }
-{
-    let mut bytes = Vec::new(alloc);
-    match unescape_into(&mut bytes, line, start, end, false) {
-        // SAFETY: a string of a text in UTF-8 denotes bytes in UTF-8.
-        Ok(()) => Ok(unsafe { String::from_utf8_unchecked(bytes) }),
-        Err(_) => Err(AllocError),
-    }
+    let status = match parser.skip_value(alloc) {
+        Ok(status) => status,
+        Err(Fault::OutOfMemory) => return Err(AllocError),
+        Err(Fault::At(_)) => return Ok(None),
+    };
+    let string = StringSpan {
+        start,
+        end: parser.offset(),
+        escaped: status.has_escaped(),
+    };
+    let key = string.owned_text(alloc, parser.text())?;
+    Ok(Some(OwnedNode::Key(key)))
 }
 
 // Passes the number at the cursor, if one is there that is an index, and gives the index.

@@ -84,7 +84,7 @@ impl<'t> Trie<'t> {
     }
 
     // The number of the child with this node, or where it would go.
-    pub(crate) fn find(&self, at: usize, target: &Target<'_>) -> Result<usize, usize>
+    pub(crate) fn search(&self, at: usize, target: &Target<'_>) -> Result<usize, usize>
         requires trie { HoldsTree self.now }
         requires inside { at < length (entries_of self.now) }
         requires known { (node : Node) × IsTarget target.now node }
@@ -155,7 +155,7 @@ impl<'t> Trie<'t> {
         let mut at = 0;
         for depth in 0..path.len() {
             let node = path.node(depth);
-            match self.find(at, &Target::Node(node)) {
+            match self.search(at, &Target::Node(node)) {
                 Ok(i) => at = self.children(at).get(i),
                 Err(position) => return self.point_at(at, depth, position, node),
             }

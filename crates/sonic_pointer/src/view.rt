@@ -131,7 +131,7 @@ impl<'t> TreeView<'t> {
         ensures none { IfNone result ((node : Node) → IsTarget target.now node
             → ¬ HasNextNode self.now.paths self.now.prefix node) }
     {
-        match self.trie.find(self.at, target) {
+        match self.trie.search(self.at, target) {
             Ok(i) => Some(i),
             Err(_) => None,
         }

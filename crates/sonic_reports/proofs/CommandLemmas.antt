@@ -12,9 +12,9 @@ use Rattle.sonic_reports.specs.declared.commands.Command.{Command}
 use Rattle.std.proofs.lemmas.Slice.Eq.{bytes_eq-Decides}
 use Rattle.std.specs.Bool.{Decides}
 use Rattle.std.specs.Str.{bytes_eq}
-use Rattle.sonic_reports.specs.declared.commands.Command.TheVariants.{Get, List as Items, Edit, Fill, Fast, Gen}
-use Rattle.sonic_reports.specs.Commands.{IsListed, Reads, rule_word, most_objects}
-use Rattle.sonic_reports.specs.Commands.Asks.{no_word, get_word, list_word, edit_word, fill_word, fast_word, gen_words, keys_words}
+use Rattle.sonic_reports.specs.declared.commands.Command.TheVariants.{Get, List as Items, Edit, Fill, Fast, Lines, Gen}
+use Rattle.sonic_reports.specs.Commands.{Asks, IsListed, Reads, rule_word, most_objects}
+use Rattle.sonic_reports.specs.Commands.Asks.{no_word, get_word, list_word, edit_word, fill_word, fast_word, lines_word, gen_words, keys_words}
 
 -- no words are none
 pub no_words : {A : Type 0} (f : A → List ℕ) (words : List A) → length words < 1 → map f words ≡ []
@@ -46,14 +46,15 @@ three_words f (w ∷ v ∷ u ∷ []) word next last low high e d c = rw (e, d, c
 three_words f (w ∷ v ∷ u ∷ t ∷ ws) word next last low high e d c = absurd (omega arith)
 
 -- one word that asks for a command is its name
-pub only_named : {word : List ℕ} → IsListed (word ∷ []) → (word ≡ codes "get") ⊎ (word ≡ codes "list") ⊎ (word ≡ codes "edit") ⊎ (word ≡ codes "fill") ⊎ (word ≡ codes "fast")
+pub only_named : {word : List ℕ} → IsListed (word ∷ []) → (word ≡ codes "get") ⊎ (word ≡ codes "list") ⊎ (word ≡ codes "edit") ⊎ (word ≡ codes "fill") ⊎ (word ≡ codes "fast") ⊎ (word ≡ codes "lines")
 only_named (_, no_word e) = absurd cc
 only_named (_, get_word e) = inl cc
 only_named (_, keys_words e) = absurd cc
 only_named (_, list_word e) = inr (inl cc)
 only_named (_, edit_word e) = inr (inr (inl cc))
 only_named (_, fill_word e) = inr (inr (inr (inl cc)))
-only_named (_, fast_word e) = inr (inr (inr (inr cc)))
+only_named (_, fast_word e) = inr (inr (inr (inr (inl cc))))
+only_named (_, lines_word e) = inr (inr (inr (inr (inr cc))))
 only_named (_, gen_words e l h) = absurd cc
 
 -- a text is the decimal of this number, which is in the range of `gen`
@@ -71,6 +72,7 @@ only_counted (_, list_word e) = absurd cc
 only_counted (_, edit_word e) = absurd cc
 only_counted (_, fill_word e) = absurd cc
 only_counted (_, fast_word e) = absurd cc
+only_counted (_, lines_word e) = absurd cc
 only_counted (_, gen_words {n} e l h) = (cc, (n, record { is_decimal = cc; least = l; most = h }))
 
 -- three words that ask for a command are `get`, `--keys` and the name of a rule
@@ -83,6 +85,7 @@ only_ruled (_, list_word e) = absurd cc
 only_ruled (_, edit_word e) = absurd cc
 only_ruled (_, fill_word e) = absurd cc
 only_ruled (_, fast_word e) = absurd cc
+only_ruled (_, lines_word e) = absurd cc
 only_ruled (_, gen_words e l h) = absurd cc
 
 -- so they ask for none by another word
@@ -110,6 +113,7 @@ four_unlisted word next last more words (_, list_word e) = absurd cc
 four_unlisted word next last more words (_, edit_word e) = absurd cc
 four_unlisted word next last more words (_, fill_word e) = absurd cc
 four_unlisted word next last more words (_, fast_word e) = absurd cc
+four_unlisted word next last more words (_, lines_word e) = absurd cc
 four_unlisted word next last more words (_, gen_words e l h) = absurd cc
 
 -- so do words of such a number
@@ -140,30 +144,28 @@ texts_same {a} {b} e = (bytes_eq-Decides a b).0 (is_true (bytes_eq a b) e)
 pub texts_apart : {a b : List ℕ} → true ≡ not (bytes_eq a b) → a ≢ b
 texts_apart {a} {b} e same = let found = (bytes_eq-Decides a b).1 same in absurd cc
 
+-- a word is this name, which asks for a command, or asks for what it asks for otherwise
+or_name : {word : List ℕ} (name : List ℕ) (asked : Command) → (word ∷ [] ≡ name ∷ [] → Asks (word ∷ []) asked)
+    → (word ≢ name → IsListed (word ∷ []) ⊎ ¬ IsListed (word ∷ [])) → IsListed (word ∷ []) ⊎ ¬ IsListed (word ∷ [])
+or_name {word} name asked asks others = elim (is_name word name) [ inl e ↦ inl (asked, asks (ap (λ w. w ∷ []) e)) | inr other ↦ others other ]
+
 -- one word asks for a command or not
 word_listed : (word : List ℕ) → IsListed (word ∷ []) ⊎ ¬ IsListed (word ∷ [])
-word_listed word = elim (is_name word (codes "get")) [
-  | inl e ↦ inl (Get First, get_word (ap (λ w. w ∷ []) e))
-  | inr other ↦ elim (is_name word (codes "list")) [
-    | inl e ↦ inl (Items, list_word (ap (λ w. w ∷ []) e))
-    | inr never ↦ elim (is_name word (codes "edit")) [
-      | inl e ↦ inl (Edit, edit_word (ap (λ w. w ∷ []) e))
-      | inr unlike ↦ elim (is_name word (codes "fill")) [
-        | inl e ↦ inl (Fill, fill_word (ap (λ w. w ∷ []) e))
-        | inr apart ↦ elim (is_name word (codes "fast")) [
-          | inl e ↦ inl (Fast, fast_word (ap (λ w. w ∷ []) e))
-          | inr none ↦ inr (λ l. elim (only_named l) [
-            | inl e ↦ other e
-            | inr (inl e) ↦ never e
-            | inr (inr (inl e)) ↦ unlike e
-            | inr (inr (inr (inl e))) ↦ apart e
-            | inr (inr (inr (inr e))) ↦ none e
-          ])
-        ]
-      ]
-    ]
-  ]
-]
+word_listed word =
+    or_name (codes "get") (Get First) get_word (λ get.
+    or_name (codes "list") Items list_word (λ list.
+    or_name (codes "edit") Edit edit_word (λ edit.
+    or_name (codes "fill") Fill fill_word (λ fill.
+    or_name (codes "fast") Fast fast_word (λ fast.
+    or_name (codes "lines") Lines lines_word (λ lines.
+    inr (λ l. elim (only_named l) [
+      | inl e ↦ get e
+      | inr (inl e) ↦ list e
+      | inr (inr (inl e)) ↦ edit e
+      | inr (inr (inr (inl e))) ↦ fill e
+      | inr (inr (inr (inr (inl e)))) ↦ fast e
+      | inr (inr (inr (inr (inr e)))) ↦ lines e
+    ])))))))
 
 -- the number that digits write is the one whose decimal they are
 pub value_of_decimal : (n : ℕ) → n ≤ most_objects → digits_value 10 (decimal n) ≡ n
@@ -206,6 +208,7 @@ reads_or_gen Items = inl (λ n e. absurd cc)
 reads_or_gen Edit = inl (λ n e. absurd cc)
 reads_or_gen Fill = inl (λ n e. absurd cc)
 reads_or_gen Fast = inl (λ n e. absurd cc)
+reads_or_gen Lines = inl (λ n e. absurd cc)
 reads_or_gen (Gen n) = inr (n, refl)
 
 -- a word names a rule or none

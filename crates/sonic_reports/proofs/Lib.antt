@@ -8,4 +8,5 @@ mod LineLemmas
 mod ListLemmas
 mod ReplyLemmas
 mod ReportLemmas
+mod RowLemmas
 mod SessionLemmas

@@ -6,7 +6,7 @@ use Rattle.std.specs.Io.KnownBytes.{IsAtEnd}
 use Rattle.sonic_find.specs.Answers.{Answer}
 use Rattle.sonic_pointer.specs.declared.rule.KeyRule.{KeyRule}
 use Rattle.sonic_reports.specs.declared.commands.Command.{Command}
-use Rattle.sonic_reports.specs.declared.commands.Command.TheVariants.{Get, List as Items, Edit, Fill, Fast, Gen}
+use Rattle.sonic_reports.specs.declared.commands.Command.TheVariants.{Get, List as Items, Edit, Fill, Fast, Lines, Gen}
 use Rattle.sonic_reports.specs.declared.runs.Request.{Request}
 use Rattle.sonic_reports.specs.declared.runs.Request.TheVariants.{Usage, Large, Input}
 use Rattle.sonic_reports.specs.declared.status.Status.{Status}
@@ -27,6 +27,7 @@ use Rattle.sonic_reports.specs.Commands.Get.IsAnswerReport.{entry_lines, error_l
 use Rattle.sonic_reports.specs.Commands.Get.IsPathsReport.{bad_line, answered}
 use Rattle.sonic_lazy.specs.Items.{Ending, closed, stopped}
 use Rattle.sonic_reports.specs.Commands.Items.{IsListReport, status_of_ending}
+use Rattle.sonic_reports.specs.Commands.Rows.{ReportsRows, with_error, without_error, IsLinesReport}
 use Rattle.sonic_reports.specs.Internal.Requests.{IsAsked, IsAnswered}
 use Rattle.sonic_io.specs.Outside.{Gave, Took, TookPrefix, Rose, input_limit}
 use Rattle.sonic_reports.specs.Reports.{Writes, IsReport}
@@ -120,6 +121,15 @@ fill_status : {input text : List ℕ} {ending : Status} → IsFillReport input t
 fill_status (bad_schema s u t e) = inr (inr e)
 fill_status (reports_filled x r) = filled_status r
 
+-- what comes of a stream
+rows_status : {stream : List ℕ} {paths : List Path} {text : List ℕ} {ending : Status} → ReportsRows stream paths text ending → IsOfInput ending
+rows_status (with_error r h e) = inr (inl e)
+rows_status (without_error r h e) = inl e
+
+-- a report by `lines`
+lines_status : {input text : List ℕ} {ending : Status} → IsLinesReport input text ending → IsOfInput ending
+lines_status = paths_status (λ stream paths r. rows_status r)
+
 -- a report by `gen`
 gen_status : {n : ℕ} {text : List ℕ} {ending : Status} → IsGenReport n text ending → IsOfInput ending
 gen_status (gen.invalid s i t e) = inr (inl e)
@@ -143,6 +153,7 @@ written_status Items input text ending r = list_status r
 written_status Edit input text ending r = edit_status r
 written_status Fill input text ending r = fill_status r
 written_status Fast input text ending r = fast_status r
+written_status Lines input text ending r = lines_status r
 written_status (Gen n) input text ending r = gen_status r
 
 -- what `gen` writes is so of each input

@@ -5,6 +5,7 @@ pub mod Fills
 pub mod Generated
 pub mod Get
 pub mod Items
+pub mod Rows
 use Rattle.std.specs.Prelude.{◌≡◌, ◌≢◌, List, [], ◌∷◌, ℕ, ◌≤◌, codes}
 use Rattle.std.specs.Fmt.{decimal}
 use Rattle.sonic_pointer.specs.declared.rule.KeyRule.{KeyRule}
@@ -31,6 +32,7 @@ pub data Asks (words : List (List ℕ)) : Command → Type 0 where
   edit_word : words ≡ codes "edit" ∷ [] → Asks words command.Edit
   fill_word : words ≡ codes "fill" ∷ [] → Asks words command.Fill
   fast_word : words ≡ codes "fast" ∷ [] → Asks words command.Fast
+  lines_word : words ≡ codes "lines" ∷ [] → Asks words command.Lines
   gen_words : {n : ℕ} → words ≡ codes "gen" ∷ decimal n ∷ [] → 1 ≤ n → n ≤ most_objects → Asks words (command.Gen n)
 
 -- the words ask for some command

@@ -12,6 +12,7 @@ use Rattle.sonic_reports.specs.Commands.Fills.{IsFillReport}
 use Rattle.sonic_reports.specs.Commands.Generated.{IsGenReport}
 use Rattle.sonic_reports.specs.Commands.Get.{IsGetReport}
 use Rattle.sonic_reports.specs.Commands.Items.{IsListReport}
+use Rattle.sonic_reports.specs.Commands.Rows.{IsLinesReport}
 
 -- what each command writes of an input
 abbrev pub Writes : Command → List ℕ → List ℕ → Status → Type 0
@@ -20,6 +21,7 @@ Writes command.List input text status = IsListReport input text status
 Writes command.Edit input text status = IsEditReport input text status
 Writes command.Fill input text status = IsFillReport input text status
 Writes command.Fast input text status = IsFastReport input text status
+Writes command.Lines input text status = IsLinesReport input text status
 Writes (command.Gen n) input text status = IsGenReport n text status
 
 -- what a run with these words writes of an input

@@ -13,6 +13,8 @@ pub(crate) mod fill;
 pub(crate) mod generated;
 // What `get` writes: where the paths of an input's head lead in its document.
 pub(crate) mod get;
+// What `lines` writes: the rows of the lines after an input's head, each a document of its own.
+pub(crate) mod lines;
 // What `list` writes: the items of the container that an input is.
 pub(crate) mod list;
 
@@ -32,6 +34,9 @@ pub enum Command {
     Fill,
     /// As `get`, of a document that is valid as a whole. The word `fast` asks for it.
     Fast,
+    /// A row for each line after the head that isn't blank: where the paths lead in it. The word
+    /// `lines` asks for it.
+    Lines,
     /// Counts over a document of so many objects, which it makes itself. The word `gen` and their
     /// number ask for it, and no input is read.
     Gen(u32),
@@ -65,6 +70,7 @@ fn named_command(word: &str) -> Option<Command>
         "edit" => Some(Command::Edit),
         "fill" => Some(Command::Fill),
         "fast" => Some(Command::Fast),
+        "lines" => Some(Command::Lines),
         _ => None,
     }
 }

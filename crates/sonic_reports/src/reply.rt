@@ -24,6 +24,8 @@ pub(crate) enum Lines<'i> {
     Values(Vec<Option<LazyValue<'i>>>),
     // Of members, each with its key.
     Members(Vec<(CowStr<'i>, LazyValue<'i>)>),
+    // Lines that are made.
+    Made(Vec<u8>),
 }
 
 // A report that is ready to be written, with the status that goes with it: lines, and a last piece
@@ -43,6 +45,22 @@ impl<'i> Reply<'i> {
         ensures status { result.status ≡ status }
     {
         let lines = Lines::Values(Vec::new(alloc));
+        let room = Vec::new(alloc);
+        Reply {
+            status,
+            lines,
+            last,
+            room,
+        }
+    }
+
+    // A report of lines that are made. It takes no memory.
+    pub(crate) fn of_bytes(alloc: Global, status: Status, bytes: Vec<u8>) -> Reply<'i>
+        ensures text { text_of result ≡ bytes.items }
+        ensures status { result.status ≡ status }
+    {
+        let lines = Lines::Made(bytes);
+        let last = CowStr::Borrowed("");
         let room = Vec::new(alloc);
         Reply {
             status,
@@ -103,6 +121,7 @@ fn write_lines<K: Sink>(sink: &mut K, buffer: &mut Buffer, lines: &Lines<'_>) ->
     match lines {
         Lines::Values(values) => write_values(sink, buffer, values),
         Lines::Members(members) => write_members(sink, buffer, members),
+        Lines::Made(bytes) => buffer.write(sink, bytes),
     }
 }
 

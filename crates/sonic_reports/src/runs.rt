@@ -6,7 +6,7 @@ ghost use Rattle.sonic_reports.specs.Internal.Requests.{IsAsked, IsAnswered};
 ghost use Rattle.sonic_io.specs.Outside.{Rose};
 ghost use Rattle.sonic_reports.specs.Sessions.{outside_of, session_of, IsRun};
 
-use crate::commands::{Command, asked_command, edit, fast, fill, generated, get, list};
+use crate::commands::{Command, asked_command, edit, fast, fill, generated, get, lines, list};
 use crate::reply::{Reply, deliver};
 use crate::status::Status;
 use sonic_io::{Failed, ReadError, Sink, Source, read_all};
@@ -118,6 +118,7 @@ fn answer<'i>(alloc: Global, request: &'i Request) -> Result<Reply<'i>, AllocErr
         Request::Input(Command::Edit, input) => edit::report(alloc, input),
         Request::Input(Command::Fill, input) => fill::report(alloc, input),
         Request::Input(Command::Fast, input) => fast::report(alloc, input),
+        Request::Input(Command::Lines, input) => lines::report(alloc, input),
         Request::Input(Command::Gen(count), _) => generated::report(alloc, *count),
     }
 }

@@ -7,7 +7,7 @@ use std::test::Fail;
 // Words, an input, its report, and the status.
 type Example = (&'static [&'static str], &'static [u8], &'static str, Status);
 
-const EXAMPLES: [Example; 42] = [
+const EXAMPLES: [Example; 45] = [
     (
         &[],
         b"[\"a\"]\n[\"b\",1]\n[\"c\"]\n\n{\"a\": \"x\", \"b\": [2, 30]}",
@@ -226,6 +226,19 @@ const EXAMPLES: [Example; 42] = [
     (
         &["fast"],
         b"[\"a\"]\n[0]\n\nx",
+        "! paths 2\n",
+        Status::BadLines,
+    ),
+    (
+        &["lines"],
+        b"[\"id\"]\n[\"t\",0]\n\n{\"id\":7,\"t\":[\"x\"]}\n{\"id\":8}\n\n{\"id\":tru}",
+        "1 7\t3 \"x\"\n1 8\t-\n! 4 syntax InvalidLiteral 9\n",
+        Status::DocumentError,
+    ),
+    (&["lines"], b"[\"id\"]\n\n", "", Status::Done),
+    (
+        &["lines"],
+        b"[\"id\"]\n[0]\n\n{}",
         "! paths 2\n",
         Status::BadLines,
     ),

@@ -29,6 +29,9 @@ mod generated;
 // Runs of `get --keys`.
 #[cfg(test)]
 mod keys;
+// Runs of `lines`.
+#[cfg(test)]
+mod lines;
 // Runs of `list`.
 #[cfg(test)]
 mod lists;

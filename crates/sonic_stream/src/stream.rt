@@ -259,7 +259,7 @@ impl RecordStream {
     }
 
     // The value that is expected: where it begins and ends, or what is wrong with it and where.
-    fn find(&self, alloc: Global) -> Result<(usize, usize), Stop>
+    fn find_record(&self, alloc: Global) -> Result<(usize, usize), Stop>
         ensures start { IfOk result (λ found. found.0 ≡ start_of self.now) }
         ensures value { IfOk result (λ found. IsValue strict self.now.held found.0 found.1) }
         ensures none { IfErr result (λ stop. stop.code ≢ ErrorCode.NoMemory
@@ -291,7 +291,7 @@ impl RecordStream {
         ensures ok { IfOk result (IsNextRecord self.old self.new) }
         ensures err { OnErr result (self.new ≡ self.old) }
     {
-        match self.find(alloc) {
+        match self.find_record(alloc) {
             Ok((start, end)) => Ok(self.whole(start, end)),
             Err(stop) => match stop.code {
                 ErrorCode::NoMemory => Err(AllocError),

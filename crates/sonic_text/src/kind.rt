@@ -1,4 +1,4 @@
-ghost use Rattle.std.specs.Prelude.{◌≡◌};
+ghost use Rattle.std.specs.Prelude.{◌≡◌, ◌≢◌, MatchOption};
 ghost use Rattle.sonic_text.specs.Values.{opening, closing};
 ghost use Rattle.sonic_text.specs.Faults.{code_after_item};
 
@@ -14,6 +14,23 @@ pub enum Kind {
 }
 
 impl Kind {
+    /// The kind of container that begins with a byte, as `Kind::Array` for `[`, and `None` where the
+    /// byte is no opening bracket.
+    #[inline(always)]
+    pub fn opened_by(byte: u8) -> Option<Kind>
+        ensures { MatchOption result ((kind : Kind) → byte ≢ opening kind) (λ kind. byte ≡ opening kind) }
+    {
+        if byte == b'[' || byte == b'{' {
+            Some(if byte == b'{' {
+                Kind::Object
+            } else {
+                Kind::Array
+            })
+        } else {
+            None
+        }
+    }
+
     /// The bracket with which a container of this kind begins, as `[` for `Kind::Array`.
     #[inline]
     pub fn opening(self) -> u8

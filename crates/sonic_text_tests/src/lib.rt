@@ -1,7 +1,7 @@
 //! What no clause of `sonic_text` says: that the calls answer the worked examples of their documents.
 #![tactic(auto)]
 
-// Numbers, literals and white space.
+// Numbers, literals, white space and brackets.
 #[cfg(test)]
 mod numbers;
 // Text that is written as a string.

@@ -5,7 +5,8 @@ ghost use Rattle.sonic_text.specs.Numbers.{IsNumber};
 use crate::same::{same, same_at};
 use sonic_error::ErrorCode;
 use sonic_text::{
-    Stop, is_whitespace, literal_end, number_end, skip_literal, skip_number, whole_i64, whole_u64,
+    Kind, Stop, is_whitespace, literal_end, number_end, skip_literal, skip_number, whole_i64,
+    whole_u64,
 };
 use std::process::Abort;
 
@@ -16,6 +17,15 @@ fn knows_white_space(rt: HostRuntime) {
     }
     for other in *b"\x00\x0b\x0c\x1f\x85\xa0a" {
         assert!(rt; !is_whitespace(other), "{other}");
+    }
+}
+
+#[test]
+fn knows_the_kind_of_a_container_by_its_first_byte(rt: HostRuntime) {
+    same(&rt, Kind::opened_by(b'['), Some(Kind::Array));
+    same(&rt, Kind::opened_by(b'{'), Some(Kind::Object));
+    for other in *b"]}(\"0 \x00\xdb" {
+        same_at(&rt, Kind::opened_by(other), None, other);
     }
 }
 

@@ -1,11 +1,10 @@
 -- What a string of a text is read as.
-use Rattle.std.proofs.Common.{◌≡◌, ◌∙◌, ap, refl, ℕ, ◌+◌, ◌-◌, ◌↔◌, List, Bool, true, not}
-use Rattle.std.specs.Prelude.{IsTrue, Some, slice_range}
+use Rattle.std.proofs.Common.{◌≡◌, ◌∙◌, ap, refl, ℕ, ◌↔◌, List, Bool, true}
+use Rattle.std.specs.Prelude.{IsTrue, Some}
+use Rattle.sonic_parser.specs.StringSpans.{IsStringSpan}
 use Rattle.sonic_parser.specs.declared.status.ParseStatus.{ParseStatus}
 use Rattle.sonic_parser.specs.declared.status.ParseStatus.TheVariants.{HasEscaped}
-use Rattle.sonic_text.proofs.PlainStrings.{plain_string}
 use Rattle.sonic_text.proofs.Strings.{string_one}
-use Rattle.sonic_text.proofs.Within.{value_within}
 use Rattle.sonic_text.specs.Places.{byte}
 use Rattle.sonic_text.specs.Strings.{strict, IsString, IsEscapedString}
 use Rattle.sonic_text.specs.Trees.{text}
@@ -15,16 +14,8 @@ use Rattle.sonic_text.specs.Values.IsValue.{string}
 use Rattle.sonic_text.specs.declared.kind.Kind.TheVariants.{Object}
 use Rattle.sonic_value.proofs.ScalarLemmas.{string_there}
 use Rattle.sonic_value.specs.Internal.Keeping.{kept_text}
-use Rattle.sonic_value.specs.Internal.Readers.{Source, BeginsNoContainer, IsScalarToken, IsStringToken, IsKeptText, IsKept, IsHeadRead}
+use Rattle.sonic_value.specs.Internal.Readers.{Source, BeginsNoContainer, IsScalarToken, string_of_token, IsKeptText, IsKept, IsHeadRead}
 use Rattle.sonic_value.specs.declared.reader.Token.{Token}
-
--- a string without a backslash denotes all between its quotes
-pub plain_denoted : {t : List ℕ} {i j : ℕ} {b : List ℕ} → IsString strict t i j b → ¬ IsEscapedString t i j → IsString strict t i j (slice_range t (i + 1) (j - 1))
-plain_denoted s plain = let same = plain_string s plain (value_within (string s)) in rw (← same) s
-
-pub contents_denoted : {t : List ℕ} {s : Token} → IsStringToken t s → not s.escaped ≡ true
-    → IsString strict t s.start s.end (slice_range t (s.start + 1) (s.end - 1))
-contents_denoted x e = plain_denoted x.is (λ h. (let y = x.escaped.1 h in cc))
 
 -- what it denotes is kept of a text in UTF-8
 pub text_kept : {s : Source} {i j : ℕ} {b : List ℕ} → s.is_utf8 ≡ true → IsString strict s.text i j b → IsKeptText s i j b
@@ -44,7 +35,7 @@ key_read {s} {b = b} denoted key k = record {
 }
 
 -- a value that begins with a quote is a string
-pub string_token : {t : List ℕ} {token : Token} → IsScalarToken t token → byte t token.start ≡ 34 → IsStringToken t token
+pub string_token : {t : List ℕ} {token : Token} → IsScalarToken t token → byte t token.start ≡ 34 → IsStringSpan t (string_of_token token)
 string_token x b = let s = string_there x.value b in record { bytes = s.0; is = s.1; escaped = x.escaped }
 
 -- what was passed is one, and whether it has a backslash

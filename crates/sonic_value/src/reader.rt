@@ -4,6 +4,7 @@ ghost use Rattle.std.specs.Cow.{cow_str_bytes};
 ghost use Rattle.std.specs.Str.{IsUtf8};
 ghost use Rattle.sonic_parser.specs.Containers.{IsEnd, IsSeparated, IsSeparatorFault};
 ghost use Rattle.sonic_parser.specs.Faults.{IsStopFor};
+ghost use Rattle.sonic_parser.specs.StringSpans.{IsStringSpan};
 ghost use Rattle.sonic_text.specs.Faults.{IsFault, IsKeyFault};
 ghost use Rattle.sonic_text.specs.Numbers.{IsNumber};
 ghost use Rattle.sonic_text.specs.Places.{byte, after_space};
@@ -11,13 +12,13 @@ ghost use Rattle.sonic_text.specs.Strings.{strict, IsString, IsEscapedString};
 ghost use Rattle.sonic_text.specs.Values.{opening, closing, IsValue};
 ghost use Rattle.sonic_text.specs.declared.kind.Kind.{Kind};
 ghost use Rattle.sonic_value.specs.Internal.Keeping.{spelling};
-ghost use Rattle.sonic_value.specs.Internal.Readers.{IsValueRead, IsUnreadValue, IsScalarToken, IsStringToken, IsKeyToken, IsKeptText, IsKept, IsHeadRead};
+ghost use Rattle.sonic_value.specs.Internal.Readers.{IsValueRead, IsUnreadValue, IsScalarToken, IsKeySpan, string_of_token, IsKeptText, IsKept, IsHeadRead};
 ghost use Rattle.sonic_value.specs.Views.{tree};
 
 use crate::Value;
 use sonic_input::{JsonSlice, Read};
-use sonic_parser::{Fault, Parser};
-use sonic_text::{Kind, Stop, StringEnd, byte_at, unescape_into};
+use sonic_parser::{Fault, Parser, StringSpan};
+use sonic_text::{Kind, Stop, StringEnd, byte_at};
 use std::alloc::{AllocError, Global};
 use std::borrow::CowStr;
 use std::marker::Model;
@@ -93,11 +94,7 @@ impl<'de> Reader<'de> {
         ensures none { result ≡ None → (kind : Kind)
             → byte self.now.source.text self.now.place ≢ opening kind }
     {
-        match byte_at(self.parser.text(), self.parser.offset()) {
-            b'[' => Some(Kind::Array),
-            b'{' => Some(Kind::Object),
-            _ => None,
-        }
+        Kind::opened_by(byte_at(self.parser.text(), self.parser.offset()))
     }
 
     // Whether an object begins at the cursor.
@@ -152,21 +149,21 @@ impl<'de> Reader<'de> {
         ensures err { IfErr result (IsStopFor (IsKeyFault strict self.old.source.text self.old.place)) }
     {
         let key = self.pass_key()?;
-        if self.utf8 && !key.escaped {
-            return Ok(CowStr::Borrowed(unquoted(self.parser.text(), key)));
+        if self.utf8 {
+            return Ok(key.text(self.alloc, self.parser.text())?);
         }
         Ok(CowStr::Owned(self.string(key)?))
     }
 
     // Passes the key at the cursor, up to the member's value.
-    fn pass_key(&mut self) -> Result<Token, Stop>
-        ensures ok { IfOk result (IsKeyToken self.old.source.text self.old.place self.new.place) }
+    fn pass_key(&mut self) -> Result<StringSpan, Stop>
+        ensures ok { IfOk result (IsKeySpan self.old.source.text self.old.place self.new.place) }
         ensures moved { self.new ≡ record self.old { place = self.new.place } }
         ensures err { IfErr result (IsKeyFault strict self.old.source.text self.old.place) }
     {
         let start = self.parser.offset();
         let StringEnd { end, escaped } = self.parser.key()?;
-        Ok(Token {
+        Ok(StringSpan {
             start,
             end,
             escaped,
@@ -200,11 +197,11 @@ impl<'de> Reader<'de> {
             end,
             escaped,
         };
-        Ok(self.value(value)?)
+        Ok(self.scalar_value(value)?)
     }
 
     // A value of the text that is no container.
-    fn value(&self, value: Token) -> Result<Value, AllocError>
+    fn scalar_value(&self, value: Token) -> Result<Value, AllocError>
         requires { IsScalarToken self.now.source.text value }
         ensures { IfOk result (λ made. IsKept self.now.source value.start value.end (tree made)) }
     {
@@ -213,22 +210,22 @@ impl<'de> Reader<'de> {
             b'n' => Ok(Value::Null),
             b't' => Ok(Value::Bool(true)),
             b'f' => Ok(Value::Bool(false)),
-            b'"' => Ok(Value::String(self.string(value)?)),
+            b'"' => Ok(Value::String(self.string(value.string())?)),
             _ => Ok(Value::Number(number_text(self.alloc, text, value)?)),
         }
     }
 
     // What a string of the text denotes, or how that is spelled.
-    fn string(&self, string: Token) -> Result<String, AllocError>
-        requires { IsStringToken self.now.source.text string }
+    fn string(&self, string: StringSpan) -> Result<String, AllocError>
+        requires { IsStringSpan self.now.source.text string }
         ensures { IfOk result (λ made.
             IsKeptText self.now.source string.start string.end (string_bytes made)) }
     {
-        let bytes = denoted(self.alloc, self.parser.text(), string)?;
+        let text = self.parser.text();
         if self.utf8 {
-            // SAFETY: what a string of a text in UTF-8 denotes is UTF-8.
-            return Ok(unsafe { String::from_utf8_unchecked(bytes) });
+            return string.owned_text(self.alloc, text);
         }
+        let bytes = string.bytes(self.alloc, text)?;
         spelled(self.alloc, &bytes)
     }
 }
@@ -242,32 +239,17 @@ struct Token {
     escaped: bool,
 }
 
-// The bytes that a string of a text denotes.
-fn denoted(alloc: Global, text: &[u8], string: Token) -> Result<Vec<u8>, AllocError>
-    requires { IsStringToken text.now string }
-    ensures { IfOk result (λ made. IsString strict text.now string.start string.end made.items) }
-{
-    if !string.escaped {
-        return Vec::from_slice(alloc, &text[string.start + 1..string.end - 1]);
+impl Token {
+    // The string that it is.
+    fn string(self) -> StringSpan
+        ensures { result ≡ string_of_token self }
+    {
+        StringSpan {
+            start: self.start,
+            end: self.end,
+            escaped: self.escaped,
+        }
     }
-    let mut bytes = Vec::new(alloc);
-    match unescape_into(&mut bytes, text, string.start, string.end, false) {
-        Ok(()) => Ok(bytes),
-        Err(_) => Err(AllocError),
-    }
-}
-
-// What a string without a backslash denotes, of a text in UTF-8: all between its quotes.
-fn unquoted(text: &[u8], string: Token) -> &str
-    requires utf8 { IsUtf8 text.now }
-    requires string { IsStringToken text.now string }
-    requires plain { ¬ IsEscapedString text.now string.start string.end }
-    ensures { IsString strict text.now string.start string.end result.now }
-{
-    let contents = &text[string.start + 1..string.end - 1];
-    // SAFETY: what a string of a text in UTF-8 denotes is UTF-8, and without a backslash that is its
-    // contents.
-    unsafe { std::str::from_utf8_unchecked(contents) }
 }
 
 // Bytes spelled out, two letters for each.

@@ -47,7 +47,7 @@ pub fn get_by_schema<'de, I: JsonInput<'de>>(alloc: Global, json: I, schema: Val
 {
     let utf8 = !json.need_utf8_valid();
     let text = json.to_u8_slice();
-    match fill(alloc, text, 0, utf8, schema) {
+    match fill_document(alloc, text, 0, utf8, schema) {
         Ok(value) => Ok(value),
         Err(fault) => Err(fault.error(text)),
     }
@@ -68,7 +68,7 @@ pub fn parse_by_schema(alloc: Global, parser: &mut Parser<'_>, schema: Value) ->
     ensures kept { OnErr result (parser.new ≡ parser.old) }
 {
     let text = parser.text();
-    match fill(alloc, text, parser.offset(), false, schema) {
+    match fill_document(alloc, text, parser.offset(), false, schema) {
         Ok(value) => {
             parser.skip_one_unchecked();
             Ok(value)
@@ -79,7 +79,7 @@ pub fn parse_by_schema(alloc: Global, parser: &mut Parser<'_>, schema: Value) ->
 
 // Fills a schema from the value after a place of a text and white space. The text is UTF-8 where this
 // says so.
-fn fill(
+fn fill_document(
     alloc: Global,
     text: &[u8],
     place: usize,

@@ -1,5 +1,5 @@
 -- Edits as their paths and their changes.
-use Rattle.std.specs.Prelude.{List, [], ◌∷◌}
+use Rattle.std.specs.Prelude.{List, [], ◌∷◌, ◌≤◌, ⊤, length}
 use Rattle.std.specs.declared.alloc.Global.{Global}
 use Rattle.std.specs.declared.vec.Vec.{Vec}
 use Rattle.sonic_edits.specs.declared.edit.Edit as declared
@@ -23,6 +23,11 @@ abbrev pub joined : List Path → List (Change Form) → List (Edit Form)
 joined [] cs = []
 joined (p ∷ ps) [] = []
 joined (p ∷ ps) (c ∷ cs) = record { path = p; change = c } ∷ joined ps cs
+
+-- no path has more than 255 nodes
+abbrev pub AreShort : List Path → Type 0
+AreShort [] = ⊤
+AreShort (p ∷ ps) = (length p ≤ 255) × AreShort ps
 
 -- the path of nodes that are lent
 abbrev pub nodes_of : Vec PointerNode Global → Path

@@ -7,6 +7,7 @@ use Rattle.sonic_find.specs.declared.located.Located.{Located}
 use Rattle.sonic_find.specs.declared.span.Span as slot
 use Rattle.sonic_find.specs.Answers.{Span}
 use Rattle.sonic_find.specs.Parts.{IsPart}
+pub use Rattle.sonic_find.specs.Parts.{AreSpans}
 
 -- the span of a value
 abbrev pub span_at : Located → Span
@@ -31,7 +32,3 @@ HaveStatuses t xs = (k : ℕ) (x : Located) → slice_get xs k ≡ Some (Some x)
 -- and each is a value of its own, in UTF-8
 abbrev pub AreParts : List ℕ → List (Option Located) → Type 0
 AreParts t xs = (k : ℕ) (x : Located) → slice_get xs k ≡ Some (Some x) → IsPart t x.start x.end
-
--- so is each of these spans
-abbrev pub AreSpans : List ℕ → List (Option slot.Span) → Type 0
-AreSpans t xs = (k : ℕ) (x : slot.Span) → slice_get xs k ≡ Some (Some x) → IsPart t x.start x.end

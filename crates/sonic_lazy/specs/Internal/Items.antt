@@ -12,11 +12,10 @@ use Rattle.sonic_text.specs.Strings.{strict, IsString, IsEscapedString}
 use Rattle.sonic_text.specs.Values.{IsKey, IsValue}
 use Rattle.sonic_input.specs.Slices.{slice_bytes}
 use Rattle.sonic_lazy.specs.declared.items.Found.{Found}
-use Rattle.sonic_lazy.specs.declared.unescaped.StringSpan.{StringSpan}
 use Rattle.sonic_lazy.specs.declared.iteration.Items.TheInside.{Inside}
 use Rattle.sonic_find.specs.Internal.Located.{IsStatus}
-use Rattle.sonic_lazy.specs.Internal.StringSpans.{IsStringSpan}
-use Rattle.sonic_lazy.specs.StringTexts.{IsTextAt}
+use Rattle.sonic_parser.specs.declared.string_span.StringSpan.{StringSpan}
+use Rattle.sonic_parser.specs.StringSpans.{IsStringSpan, DenotesUtf8, IsTextAt}
 use Rattle.sonic_lazy.specs.Items.{Item, ItemsReach, IsItemAt}
 use Rattle.sonic_lazy.specs.Iterators.{Iterating}
 use Rattle.sonic_find.specs.Parts.{IsPart}
@@ -47,16 +46,21 @@ pub record IsFound (t : List ℕ) (kind : Kind) (n : ℕ) (x : Found) : Type 0 w
   pub value : IsValue strict t x.value.start x.value.end
   pub status : IsStatus t x.value.start x.value.end x.value.status
 
+-- a string is there that denotes bytes in UTF-8
+pub record IsTextSpan (t : List ℕ) (string : StringSpan) : Type 0 where
+  pub span : IsStringSpan t string
+  pub utf8 : DenotesUtf8 t string.start string.end
+
 -- and its value is a part of the text in UTF-8, and its key a string
 pub record IsFoundPart (t : List ℕ) (kind : Kind) (n : ℕ) (x : Found) : Type 0 where
   pub found : IsFound t kind n x
   pub part : IsPart t x.value.start x.value.end
-  pub key : IfSome x.key (IsStringSpan t)
+  pub key : IfSome x.key (IsTextSpan t)
 
 -- a key is there, and a part of the text
 abbrev pub IsKeyOf : List ℕ → Option StringSpan → Type 0
 IsKeyOf t None = ⊥
-IsKeyOf t (Some key) = IsStringSpan t key
+IsKeyOf t (Some key) = IsTextSpan t key
 
 -- the text is what the key denotes, and borrowed exactly where no backslash is in it
 abbrev pub IsKeyText : {Z : Type 0} → List ℕ → Option StringSpan → CowStr Z → Type 0

@@ -261,7 +261,9 @@ fn lend_part<'a, A: Walks>(
 }
 
 // What is answered of what is lent.
-pub(super) fn answer<'a, L>(lent: std::result::Result<&'a mut L, Stop>) -> Result<Option<&'a mut L>>
+pub(super) fn found_or_error<'a, L>(
+    lent: std::result::Result<&'a mut L, Stop>,
+) -> Result<Option<&'a mut L>>
     ensures { IsLoanAnswer lent.entry result }
 {
     match lent {
@@ -305,7 +307,7 @@ impl OwnedLazyValue {
         ensures err { IfErr result (λ error. IsPlainError error ErrorCode.NoMemory) }
         ensures memory { OnErr result (IsClosedOf (kind_of (node_of node.entry)) (form self.old)) }
     {
-        answer(lend_opened(self, alloc, node))
+        found_or_error(lend_opened(self, alloc, node))
     }
 
     /// The value to which a path leads in this one, to be changed (compare RFC 6901, section 4).
@@ -341,6 +343,6 @@ impl OwnedLazyValue {
         ensures memory { OnErr result (length path.now ≤ 255
             → IsOpenedOn (path_of path.now) (form self.old)) }
     {
-        answer(lend_part(self, alloc, path))
+        found_or_error(lend_part(self, alloc, path))
     }
 }

@@ -13,7 +13,7 @@ ghost use Rattle.sonic_owned.specs.contracts.value.LazyArray.{the_row as array_r
 ghost use Rattle.sonic_owned.specs.contracts.value.LazyObject.{the_row as object_row};
 ghost use Rattle.sonic_text.specs.declared.kind.Kind.TheVariants.{Array, Object};
 
-use super::lend::{Stop, answer};
+use super::lend::{Stop, found_or_error};
 use super::{LazyArray, LazyObject, OwnedLazyValue};
 use sonic_error::{ErrorCode, Result};
 use sonic_lazy::JsonValueTrait;
@@ -92,7 +92,7 @@ impl OwnedLazyValue {
         ensures err { IfErr result (λ error. IsPlainError error ErrorCode.NoMemory) }
         ensures memory { OnErr result (IsClosedOf Array (form self.old)) }
     {
-        answer(lend_array(self, alloc))
+        found_or_error(lend_array(self, alloc))
     }
 
     /// The object that the value is, to be changed: its first level is opened. `None` of every other
@@ -121,6 +121,6 @@ impl OwnedLazyValue {
         ensures err { IfErr result (λ error. IsPlainError error ErrorCode.NoMemory) }
         ensures memory { OnErr result (IsClosedOf Object (form self.old)) }
     {
-        answer(lend_object(self, alloc))
+        found_or_error(lend_object(self, alloc))
     }
 }

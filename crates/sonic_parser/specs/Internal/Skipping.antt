@@ -1,5 +1,5 @@
 -- What the loop knows that goes through a value from left to right: invariants, on which no public clause rests.
-use Rattle.std.specs.Prelude.{◌≡◌, ◌↔◌, ℕ, ◌-◌, ◌<◌, ◌≤◌, Bool, List, [], ◌∷◌, ◌++◌, Option, length, get_or}
+use Rattle.std.specs.Prelude.{◌≡◌, ◌↔◌, ℕ, ◌<◌, ◌≤◌, Bool, List, Option, length}
 use Rattle.sonic_text.specs.declared.kind.Kind.{Kind}
 use Rattle.sonic_text.specs.declared.kind.Kind.TheVariants.{Object}
 use Rattle.sonic_text.specs.declared.stop.Stop.{Stop}
@@ -14,6 +14,7 @@ use Rattle.sonic_parser.specs.declared.quick.Ahead.TheVariants.{Value, Inside as
 use Rattle.sonic_parser.specs.declared.skip.Reached.{Reached}
 use Rattle.sonic_parser.specs.declared.skip.Reached.TheVariants.{Expected, Ended, Closed}
 use Rattle.sonic_parser.specs.declared.status.ParseStatus.TheVariants.{HasEscaped}
+use Rattle.sonic_parser.specs.OpenContainers.{IsItemExpected, IsItemEnded, IsTop}
 
 -- the value at i was read, and this is its end and its status
 pub record IsComplete (m : Bool) (t : List ℕ) (i : ℕ) (x : Skipped) : Type 0 where
@@ -37,35 +38,6 @@ pub record IsItem (m : Bool) (t : List ℕ) (kind : Kind) (h v : ℕ) : Type 0 w
 -- or it isn't there, for this reason
 abbrev pub IsItemFault : Bool → List ℕ → Kind → ℕ → Stop → Type 0
 IsItemFault m t kind h s = (kind ≡ Object) × IsKeyFault m t h s
-
--- a value is expected at p inside open containers of these kinds of the value at i, the outermost first, and all before p fits
-pub data IsOpen (m : Bool) (t : List ℕ) (i : ℕ) : ℕ → List Kind → Type 0 where
-  here : {p : ℕ} {kinds : List Kind} → p ≡ i → kinds ≡ [] → IsOpen m t i p kinds
-  inside : {kind : Kind} {p n h v : ℕ} {label : Option (List ℕ)} {outer kinds : List Kind} → IsOpen m t i p outer → ItemsFit m t kind p n h
-      → ItemHead m t kind h v label → kinds ≡ outer ++ kind ∷ [] → IsOpen m t i v kinds
-
--- an item of the innermost of these open containers is expected at h, and all before h fits
-pub record IsItemExpected (m : Bool) (t : List ℕ) (i : ℕ) (kinds : List Kind) (h : ℕ) : Type 0 where
-  pub kind : Kind
-  pub p : ℕ
-  pub n : ℕ
-  pub outer : List Kind
-  pub around : IsOpen m t i p outer
-  pub fit : ItemsFit m t kind p n h
-  pub kinds_are : kinds ≡ outer ++ kind ∷ []
-
--- the value of an item of the innermost of these open containers ends at e, and all before e fits
-pub record IsItemEnded (m : Bool) (t : List ℕ) (i : ℕ) (kinds : List Kind) (e : ℕ) : Type 0 where
-  pub h : ℕ
-  pub v : ℕ
-  pub label : Option (List ℕ)
-  pub item : IsItemExpected m t i kinds h
-  pub head : ItemHead m t item.kind h v label
-  pub value : IsValue m t v e
-
--- the last of the kinds is this one
-abbrev pub IsTop : List Kind → Kind → Type 0
-IsTop kinds kind = get_or kinds (length kinds - 1) kind ≡ kind
 
 -- the items of the containers inside the value at i fit so far, with these still open: up to an item that is expected, to the end of one that nothing
 -- follows, or to the end of the value at i

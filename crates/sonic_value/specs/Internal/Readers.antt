@@ -12,6 +12,7 @@ use Rattle.sonic_text.specs.declared.stop.Stop.{Stop}
 use Rattle.sonic_value.specs.Depths.{IsTooDeep, IsShallow}
 use Rattle.sonic_value.specs.Internal.Keeping.{kept_text, kept_label, kept}
 use Rattle.sonic_value.specs.declared.reader.Token.{Token}
+use Rattle.sonic_parser.specs.declared.string_span.StringSpan.{StringSpan}
 
 -- a text, and whether it is known to be UTF-8
 pub record Source : Type 0 where
@@ -33,19 +34,17 @@ pub record IsScalarToken (t : List ℕ) (token : Token) : Type 0 where
   pub begins : BeginsNoContainer t token.start
   pub escaped : IsTrue token.escaped ↔ IsEscapedString t token.start token.end
 
--- a string of the text
-pub record IsStringToken (t : List ℕ) (token : Token) : Type 0 where
-  pub bytes : List ℕ
-  pub is : IsString strict t token.start token.end bytes
-  pub escaped : IsTrue token.escaped ↔ IsEscapedString t token.start token.end
+-- the same as a string
+abbrev pub string_of_token : Token → StringSpan
+string_of_token token = record { start = token.start; end = token.end; escaped = token.escaped }
 
 -- a key and its colon from h to v
-pub record IsKeyToken (t : List ℕ) (h v : ℕ) (token : Token) : Type 0 where
+pub record IsKeySpan (t : List ℕ) (h v : ℕ) (key : StringSpan) : Type 0 where
   pub bytes : List ℕ
-  pub start : token.start ≡ h
-  pub string : IsString strict t h token.end bytes
-  pub key : IsKey strict t h v bytes
-  pub escaped : IsTrue token.escaped ↔ IsEscapedString t h token.end
+  pub start : key.start ≡ h
+  pub string : IsString strict t h key.end bytes
+  pub colon : IsKey strict t h v bytes
+  pub escaped : IsTrue key.escaped ↔ IsEscapedString t h key.end
 
 -- this is kept of what the string from i to j denotes
 pub record IsKeptText (s : Source) (i j : ℕ) (c : List ℕ) : Type 0 where

@@ -2,7 +2,7 @@ use Rattle.std.proofs.Common.{ap, arith, length, map}
 use Rattle.std.proofs.lemmas.List.{length-map}
 use Rattle.sonic_owned.specs.Changes.{change_of}
 use Rattle.sonic_pointer.specs.Nodes.{node_of}
-use Rattle.sonic_edits.proofs.EditingLemmas.{comes_next, comes_to_all, comes_to_failure, comes_to_refusal, comes_to_stop, joined_of_none, next_path, none_left}
+use Rattle.sonic_edits.proofs.EditingLemmas.{comes_next, comes_to_all, comes_to_failure, comes_to_refusal, comes_to_stop, joined_of_none, next_path, none_left, short_at}
 use Rattle.sonic_edits.proofs.all.make_all.Goals as goal
 
 pub changes-preserved : goal.changes-preserved
@@ -34,8 +34,9 @@ pub returns-in-Err-clause-failed : goal.returns-in-Err-clause-failed
 returns-in-Err-clause-failed c =
     let v = c.changes.invariant in
     let next = next_path c.args.paths.now c.changes.number c.index-paths-number.result (change_of c.in-Some.change) (map change_of c.next.new.self.rest.items) (omega (arith, v.even, ap length c.in-Some.ensures.steps.0)) c.index-paths-number.is in
+    let short = short_at c.args.paths.now c.changes.number c.index-paths-number.result c.requires.short (omega (arith, v.even, ap length c.in-Some.ensures.steps.0)) c.index-paths-number.is in
     comes_to_failure (rw (c.in-Some.ensures.steps.0, next) at v.comes)
-    (λ few. (rw c.as_slice.ensures.value at c.in-Err.ensures.memory) (omega (arith, few, length-map c.index-paths-number.result.items node_of))) (rw c.as_slice.ensures.value at c.in-Err.ensures.kept)
+    ((rw c.as_slice.ensures.value at c.in-Err.ensures.memory) (omega (arith, short, length-map c.index-paths-number.result.items node_of))) (rw c.as_slice.ensures.value at c.in-Err.ensures.kept)
 
 pub returns-clause-made : goal.returns-clause-made
 returns-clause-made c = λ e.

@@ -4,10 +4,10 @@ use Rattle.sonic_parser.proofs.BeginningLemmas.{value_ahead}
 use Rattle.sonic_parser.proofs.quick.look.Goals as goal
 
 pub returns-then-byte-eq34 : goal.returns-then-byte-eq34
-returns-then-byte-eq34 c = value_ahead c.args.lossy c.args.text.now c.args.place c.skip_string.result c.value.result c.value.ensures (IfSome_then c.skip_string.result c.skip_string.ensures.some (λ j s. (s.0, s.1, string s.3)))
+returns-then-byte-eq34 c = value_ahead c.args.lossy c.args.text.now c.args.place c.skip_string.result c.ahead_of_value.result c.ahead_of_value.ensures (IfSome_then c.skip_string.result c.skip_string.ensures.some (λ j s. (s.0, s.1, string s.3)))
 
 pub returns-in-Some : goal.returns-in-Some
 returns-in-Some c = c.inside.ensures c.args.lossy
 
 pub returns : goal.returns
-returns c = value_ahead c.args.lossy c.args.text.now c.args.place c.scalar_end.result c.value-2.result c.value-2.ensures c.scalar_end.ensures
+returns c = value_ahead c.args.lossy c.args.text.now c.args.place c.scalar_end.result c.ahead_of_value-2.result c.ahead_of_value-2.ensures c.scalar_end.ensures

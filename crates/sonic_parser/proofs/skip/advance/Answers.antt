@@ -1,7 +1,7 @@
 use Rattle.std.proofs.Common.{◌≡◌, take, arith}
 use Rattle.std.proofs.lemmas.Grind.{common_steps}
 use Rattle.std.proofs.lemmas.Result.{err_from_is_err_and}
-use Rattle.sonic_parser.specs.Internal.Skipping.{IsTop}
+use Rattle.sonic_parser.specs.OpenContainers.{IsTop}
 use Rattle.sonic_parser.proofs.SkippingLemmas.{item_complete, fault_item, fault_value}
 use Rattle.sonic_parser.proofs.skip.advance.Goals as goal
 

@@ -1,5 +1,5 @@
 use Rattle.std.proofs.Common.{ℕ, Bool, ◌-◌, ◌≤◌, ◌<◌, length, take}
-use Rattle.sonic_parser.specs.Internal.Skipping.{IsItemEnded}
+use Rattle.sonic_parser.specs.OpenContainers.{IsItemEnded}
 use Rattle.sonic_parser.proofs.skip.leave.Given as goal
 
 abbrev pub invariant-containers : goal.invariant-containers

@@ -1,6 +1,6 @@
 use Rattle.std.proofs.Common.{arith, refl, length}
 use Rattle.std.proofs.lemmas.Grind.{common_steps}
-use Rattle.sonic_parser.specs.Internal.Skipping.{IsTop}
+use Rattle.sonic_parser.specs.OpenContainers.{IsTop}
 use Rattle.sonic_parser.proofs.SkippingLemmas.{last_of, fault_after}
 use Rattle.sonic_parser.proofs.skip.separator_stop.Goals as goal
 

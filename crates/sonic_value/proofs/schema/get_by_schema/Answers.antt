@@ -4,8 +4,8 @@ use Rattle.sonic_value.proofs.UnfilledLemmas.{unfilled_for, fill_error, down_of}
 use Rattle.sonic_value.proofs.schema.get_by_schema.Goals as goal
 
 -- what came as text is UTF-8
-pub fill-requires-clause-utf8 : goal.fill-requires-clause-utf8
-fill-requires-clause-utf8 g c = λ e.
+pub fill_document-requires-clause-utf8 : goal.fill_document-requires-clause-utf8
+fill_document-requires-clause-utf8 g c = λ e.
     let text = sym c.need_utf8_valid-utf8.ensures ∙ down_of c.need_utf8_valid-utf8.result e in
     rw c.to_u8_slice-text.ensures.bytes (c.to_u8_slice-text.ensures.utf8 text)
 

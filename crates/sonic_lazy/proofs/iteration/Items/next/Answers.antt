@@ -3,8 +3,8 @@ use Rattle.sonic_lazy.proofs.ItemLemmas.{after_found, found_count, found_part, l
 use Rattle.sonic_lazy.proofs.iteration.Items.next.Goals as goal
 use Rattle.sonic_lazy.specs.Items.{at_bracket}
 
-pub find-requires-clause-after : goal.find-requires-clause-after
-find-requires-clause-after c = c.self.invariant.after c.if-self.false
+pub find_next-requires-clause-after : goal.find_next-requires-clause-after
+find_next-requires-clause-after c = c.self.invariant.after c.if-self.false
 
 pub overflow_add-self : goal.overflow_add-self
 overflow_add-self c =

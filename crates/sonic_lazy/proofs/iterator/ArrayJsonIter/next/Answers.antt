@@ -8,7 +8,7 @@ pub returns-clause-next : goal.returns-clause-next
 returns-clause-next c = rw (← c.self.view_is) (elim c.match-next.branch [
   | in-Some-Ok w ↦
       let given = rw w.in-Some-Ok.field-0-is at w.in-Some-Ok.ensures.found in
-      rw w.result-is (next_given (element_given c.self.invariant given w.value.ensures))
+      rw w.result-is (next_given (element_given c.self.invariant given w.lazy_value.ensures))
   | in-Some-Err w ↦
       let f = w.in-Some-Err in
       let ends = rw f.field-0-is at f.ensures.fault in

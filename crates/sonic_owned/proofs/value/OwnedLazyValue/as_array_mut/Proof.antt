@@ -12,7 +12,7 @@ use Rattle.sonic_owned.proofs.AnswerLemmas.{level_says, level_back, SaysOfLevel}
 use Rattle.sonic_owned.proofs.value.LazyArray.TheLaws.{the_row_laws}
 use Rattle.sonic_owned.proofs.value.OwnedLazyValue.as_array_mut.Code as code
 use Rattle.sonic_owned.proofs.value.OwnedLazyValue.as_array_mut.Statement.{statement}
-use Rattle.sonic_owned.proofs.value.lend.answer.Met as answers
+use Rattle.sonic_owned.proofs.value.lend.found_or_error.Met as answers
 use Rattle.sonic_owned.proofs.value.lend_level.lend_array.Met.{met}
 use Rattle.sonic_owned.specs.Forms.{level, Members, unnamed, scalar_of_form}
 use Rattle.sonic_owned.specs.Lends.{answer_name, LoanAnswer}
@@ -22,7 +22,7 @@ use Rattle.sonic_owned.specs.Views.{form, elements}
 use Rattle.sonic_owned.specs.contracts.value.LazyArray.{the_row as S}
 use Rattle.sonic_owned.specs.contracts.value.OwnedLazyValue.{the_row as R}
 use Rattle.sonic_owned.specs.contracts.value.OwnedLazyValue.as_array_mut as f
-use Rattle.sonic_owned.specs.contracts.value.lend.answer as h
+use Rattle.sonic_owned.specs.contracts.value.lend.found_or_error as h
 use Rattle.sonic_owned.specs.contracts.value.lend_level.lend_array as g
 use Rattle.sonic_owned.specs.declared.value.lend.Stop.{Stop}
 use Rattle.sonic_text.specs.declared.kind.Kind.TheVariants.{Array}
@@ -175,7 +175,7 @@ module _ {M : Type 1} (𝓤 : Ura M) (𝓛 : Logic 𝓤) (𝓜 : Model 𝓤 𝓛
         nothing ! $ use0 𝓛 (raw (fact 𝓤 ([] ⊑ S.lives))) (fact_i 𝓤 _ (emp 𝓤) (λ x m. m)) $ join ! $ move ! (1 ∷ 0 ∷ []) $
         let z' : K.Ghost = (((κs.0, ([], tt)), (qs.0, (full_share, tt)), (⊑_static κs.0, tt), (o, tt), (v ∷ [], tt)), tt) in
         use2 𝓛 (raw (K.pre z')) (id⊢ 𝓤 _) $
-        calls_at ! (framed 𝓤 H 𝓜 (tables 𝓤 H 𝓜 𝓡 𝓡.env)) K (answers.met 𝓤 𝓛 𝓜 𝓡 (code.calls-sonic_owned::value::lend::answer 𝓡.env wired) A L) z'
+        calls_at ! (framed 𝓤 H 𝓜 (tables 𝓤 H 𝓜 𝓡 𝓡.env)) K (answers.met 𝓤 𝓛 𝓜 𝓡 (code.calls-sonic_owned::value::lend::found_or_error 𝓡.env wired) A L) z'
         (and_then ! (get ! refl) (no_more !)) (λ v'.
         use1 𝓛 (later (some (λ (a : LoanAnswer B). ((‵ (flft κs.0 qs.0) ⊛ ‵ (flft [] full_share) ⊛ ‵ ftrue) ⊛ ‵ (O.own_val a (v' ∷ []))) ⊛
         some (λ (ws : Lasts (h.ended A) z'.0.0 z'.0.3). ‵ (lasts (h.ended A) z'.0.0 z'.0.3 ws) ⊛ raw (fact 𝓤 (IsLoanAnswer o a)))))) (id⊢ 𝓤 _) $

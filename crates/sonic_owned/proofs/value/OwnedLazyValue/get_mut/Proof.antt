@@ -13,7 +13,7 @@ use Rattle.sonic_owned.proofs.value.OwnedLazyValue.TheLaws.{the_row_laws}
 use Rattle.sonic_owned.proofs.value.OwnedLazyValue.get_mut.Code as code
 use Rattle.sonic_owned.proofs.value.OwnedLazyValue.get_mut.Statement.{statement}
 use Rattle.sonic_owned.proofs.value.lend.OwnedLazyValueOpens.TheImpl.Met.{passed}
-use Rattle.sonic_owned.proofs.value.lend.answer.Met as answers
+use Rattle.sonic_owned.proofs.value.lend.found_or_error.Met as answers
 use Rattle.sonic_owned.proofs.value.lend.lend_opened.Met.{met}
 use Rattle.sonic_owned.specs.Lends.{answer_name, LoanAnswer, OfAnswer}
 use Rattle.sonic_owned.specs.Internal.Lends.{HasItem, HasNoItem, IsLent, IsItemPut, IsLeft, IsLoanAnswer, Lending, OfPart}
@@ -25,7 +25,7 @@ use Rattle.sonic_owned.specs.Views.{form}
 use Rattle.sonic_owned.specs.contracts.value.OwnedLazyValue.get_mut as f
 use Rattle.sonic_owned.specs.contracts.value.OwnedLazyValue.{the_row as R}
 use Rattle.sonic_owned.specs.contracts.value.lend.OwnedLazyValueOpens.TheImpl.{ghosts, dict}
-use Rattle.sonic_owned.specs.contracts.value.lend.answer as h
+use Rattle.sonic_owned.specs.contracts.value.lend.found_or_error as h
 use Rattle.sonic_owned.specs.contracts.value.lend.lend_opened as g
 use Rattle.sonic_pointer.proofs.node.PointerNode.TheLaws.{the_told as node_told, the_row_laws as node_laws}
 use Rattle.sonic_pointer.specs.Nodes.{node_of}
@@ -208,7 +208,7 @@ module _ {M : Type 1} (𝓤 : Ura M) (𝓛 : Logic 𝓤) (𝓜 : Model 𝓤 𝓛
         nothing ! $ use0 𝓛 (raw (fact 𝓤 ([] ⊑ R.lives))) (fact_i 𝓤 _ (emp 𝓤) (λ x m. m)) $ join ! $ move ! (1 ∷ 0 ∷ []) $
         let z' : K.Ghost = (((κs.0, ([], tt)), (qs.0, (full_share, tt)), (⊑_static κs.0, tt), (o, tt), (v ∷ [], tt)), tt) in
         use2 𝓛 (raw (K.pre z')) (id⊢ 𝓤 _) $
-        calls_at ! (framed 𝓤 H 𝓜 (tables 𝓤 H 𝓜 𝓡 𝓡.env)) K (answers.met 𝓤 𝓛 𝓜 𝓡 (code.calls-sonic_owned::value::lend::answer 𝓡.env wired) A L) z'
+        calls_at ! (framed 𝓤 H 𝓜 (tables 𝓤 H 𝓜 𝓡 𝓡.env)) K (answers.met 𝓤 𝓛 𝓜 𝓡 (code.calls-sonic_owned::value::lend::found_or_error 𝓡.env wired) A L) z'
         (and_then ! (get ! refl) (no_more !)) (λ v'.
         use1 𝓛 (later (some (λ (a : LoanAnswer D). ((‵ (flft κs.0 qs.0) ⊛ ‵ (flft [] full_share) ⊛ ‵ ftrue) ⊛ ‵ (O.own_val a (v' ∷ []))) ⊛
         some (λ (ws : Lasts (h.ended A) z'.0.0 z'.0.3). ‵ (lasts (h.ended A) z'.0.0 z'.0.3 ws) ⊛ raw (fact 𝓤 (IsLoanAnswer o a)))))) (id⊢ 𝓤 _) $

@@ -8,6 +8,6 @@ returns-clause-ok c =
       bytes = passed.bytes;
       start = c.offset-start.ensures.place;
       string = rw way at passed.string;
-      key = rw way at passed.key;
+      colon = rw way at passed.key;
       escaped = passed.escaped;
     })

@@ -16,8 +16,8 @@ returns-in_err-skip_value-clause-err c =
     let fault = rw c.self.invariant.0 at c.in_err-skip_value.ensures.err in
     rw (p.1, p.2, ← c.self.view_is) (stop_weaker c.in_err-skip_value.field-0.0 (scalar_unread begins) fault)
 
-pub value-requires : goal.value-requires
-value-requires c =
+pub scalar_value-requires : goal.scalar_value-requires
+scalar_value-requires c =
     let passed = c.in_ok-skip_value.ensures.ok in
     let text : c.skip_value.new.self.text ≡ c.self.inside.parser.text = ap (λ (p : Parsing). p.text) c.in_ok-skip_value.ensures.cursor in
     let begins : BeginsNoContainer c.self.inside.parser.text c.self.inside.parser.place = rw (← c.self.view_is) at c.requires in
@@ -28,5 +28,5 @@ pub returns-clause-ok : goal.returns-clause-ok
 returns-clause-ok c =
     let text : c.skip_value.new.self.text ≡ c.self.inside.parser.text = ap (λ (p : Parsing). p.text) c.in_ok-skip_value.ensures.cursor in
     let begins : BeginsNoContainer c.self.inside.parser.text c.self.inside.parser.place = rw (← c.self.view_is) at c.requires in
-    let kept = rw (text, c.offset-start.ensures.place, c.offset-end.ensures.place) at c.in_ok-value.ensures in
+    let kept = rw (text, c.offset-start.ensures.place, c.offset-end.ensures.place) at c.in_ok-scalar_value.ensures in
     rw (← c.self.view_is) (scalar_read begins kept)

@@ -1,0 +1,100 @@
+// What many paths find in many texts, one after the other, without memory of its own for each.
+ghost use Rattle.std.specs.Prelude.{◌≡◌, ◌<◌, [], Some, length, option_map, slice_get, IfErr, OnOk, OnErr};
+ghost use Rattle.sonic_error.specs.Errors.{IsPlainError};
+ghost use Rattle.sonic_text.specs.Strings.{strict};
+ghost use Rattle.sonic_parser.specs.Honest.{IsHonest};
+ghost use Rattle.sonic_find.specs.Answers.{IsAnswer, Answer};
+ghost use Rattle.sonic_find.specs.Causes.{IsAnswerable, IsRefusal};
+ghost use Rattle.sonic_find.specs.Internal.Located.{slot_at};
+ghost use Rattle.sonic_find.specs.Parts.{AreSpans};
+ghost use Rattle.sonic_find.specs.Spans.{pairs_of};
+
+use crate::answer::{Memory, locate_in};
+use crate::finding::span_of;
+use crate::span::Span;
+use sonic_error::{Error, ErrorCode};
+use sonic_input::JsonInput;
+use sonic_pointer::{KeyRule, PointerTree};
+use std::alloc::Global;
+use std::marker::Model;
+
+/// Room for what a walk finds, which the next walk uses again.
+///
+/// Who asks many texts one after the other, as the lines of a log, keeps one room for all of them: a
+/// text takes memory only where it needs more than each one before. A clause sees the slots of the
+/// last walk, one for each path in the order of the paths: the span of its value in bytes of the text,
+/// or `None` where its key is lacked.
+#[derive(Drop)]
+pub struct Room {
+    memory: Memory,
+}
+
+impl Model for Room {
+    ghost use Rattle.std.specs.Prelude.{List, map, option_map};
+    ghost use Rattle.std.specs.declared.option.Option.{Option};
+    ghost use Rattle.sonic_find.specs.declared.span.Span.{Span};
+    ghost use Rattle.sonic_find.specs.Internal.Located.{slot_at};
+
+    ghost Value = { List (Option Span) };
+
+    ghost view = { λ room. map (option_map slot_at) room.memory.found.items };
+}
+
+impl Room {
+    /// Room in which nothing was found yet. It takes no memory.
+    pub fn new(alloc: Global) -> Room
+        ensures { result ≡ [] }
+    {
+        let found = Vec::new(alloc);
+        let opened = None;
+        Room {
+            memory: Memory { found, opened },
+        }
+    }
+
+    /// How many slots the last walk filled: one for each path, and none after an error.
+    pub fn len(&self) -> usize
+        ensures { result ≡ length self.now }
+    {
+        self.memory.found.len()
+    }
+
+    /// What the path with this number, from 0, found in the last walk.
+    ///
+    /// After `find_many_in` with the paths `["a", 1]` and `["z"]` over `{"a":[1,2]}` it is the span from
+    /// 8 to 9 of the number 0, and `None` of 1.
+    #[inline]
+    pub fn at(&self, number: usize) -> Option<Span>
+        requires { number < length self.now }
+        ensures { slice_get self.now number ≡ Some result }
+    {
+        span_of(self.memory.found[number])
+    }
+}
+
+/// The spans of the values to which the paths of a tree lead in an input, in one walk, in room that is
+/// used again.
+///
+/// It is what [`find_many`](crate::find_many) answers, with its errors: after an error, the room holds
+/// no slot. Nothing of what the last walk found is left. Of the first of equal keys alone is a member
+/// followed, as by `find_many`.
+///
+/// With the paths `["a", 1]` and `["z"]` over `{"a":[1,2]}` the room holds the span from 8 to 9 and
+/// `None`.
+pub fn find_many_in<'de, I: JsonInput<'de>>(
+    alloc: Global,
+    room: &mut Room,
+    json: I,
+    tree: &PointerTree,
+) -> Result<(), Error>
+    ensures ok { OnOk result (IsAnswer (I.JsonInput.content json) I.JsonInput.is_bytes tree.now
+        (Answer.spans (pairs_of room.new))) }
+    ensures parts { OnOk result (AreSpans (I.JsonInput.content json) room.new) }
+    ensures err { IfErr result (IsRefusal (I.JsonInput.content json) I.JsonInput.is_bytes tree.now) }
+    ensures cleared { OnErr result (room.new ≡ []) }
+    ensures complete { IsAnswerable (I.JsonInput.content json) I.JsonInput.is_bytes tree.now
+        → IfErr result (λ error. IsPlainError error ErrorCode.NoMemory) }
+    ensures honest { IfErr result (IsHonest strict (I.JsonInput.content json) 0) }
+{
+    locate_in(alloc, &mut room.memory, json, tree, KeyRule::First)
+}

@@ -1,0 +1,155 @@
+// What no clause says: that one room serves texts one after the other where memory is ample, and that
+// it holds what `find_many` finds. The expected spans are by the grammar, each path read by itself.
+use crate::lookups::{ANSWERED, Paths, REFUSED, tree_of};
+use crate::same::{same, same_at};
+use sonic_error::{ErrorCode, JsonType, Note, Wanted};
+use sonic_find::{Room, Span, find_many, find_many_in};
+use sonic_pointer::PointerNode::{Index, Key};
+use sonic_pointer::PointerTree;
+use std::alloc::Global;
+use std::process::Abort;
+use std::test::Fail;
+
+// A line, and the spans of both paths, or the code and the offset of the error.
+type Line = (&'static str, Result<[Option<Span>; 2], (ErrorCode, usize)>);
+
+const NUMBER_FOR_ARRAY: ErrorCode = ErrorCode::Message(Note::Mismatch {
+    found: JsonType::Number,
+    wanted: Wanted::Array,
+});
+
+const PATHS: Paths = &[&[Key("id")], &[Key("t"), Index(1)]];
+
+// Lines that one room serves in this order.
+const LINES: [Line; 8] = [
+    (
+        "{\"id\":7,\"t\":[\"a\",\"b\"]}",
+        Ok([
+            Some(Span { start: 6, end: 7 }),
+            Some(Span { start: 17, end: 20 }),
+        ]),
+    ),
+    // A key that the line before has.
+    ("{\"id\":8}", Ok([Some(Span { start: 6, end: 7 }), None])),
+    // Both lack, after values that are skipped.
+    ("{\"x\":[[[]],{\"y\":[{}]}]}", Ok([None, None])),
+    // Nothing is left after an error, although a path found its value.
+    ("{\"id\":1,\"t\":0}", Err((NUMBER_FOR_ARRAY, 12))),
+    (
+        "{\"t\":[{},[[1],{}]],\"id\":\"\\n\"}",
+        Ok([
+            Some(Span { start: 24, end: 28 }),
+            Some(Span { start: 9, end: 17 }),
+        ]),
+    ),
+    ("{\"id\":1,\"t\":[2", Err((ErrorCode::EofWhileParsing, 13))),
+    ("", Err((ErrorCode::EofWhileParsing, 0))),
+    (
+        " {\"t\":[[2],3],\"id\":[ ],",
+        Ok([
+            Some(Span { start: 19, end: 22 }),
+            Some(Span { start: 11, end: 12 }),
+        ]),
+    ),
+];
+
+// Checks what a room holds.
+fn check_slots(rt: &impl Abort, room: &Room, wanted: &[Option<Span>]) {
+    same(rt, room.len(), wanted.len());
+    for (i, span) in wanted.iter().enumerate() {
+        assert!(rt; i < room.len());
+        same_at(rt, room.at(i), *span, i);
+    }
+}
+
+#[test]
+fn serves_lines_one_after_the_other(rt: HostRuntime) {
+    let alloc = rt.alloc();
+    let tree = tree_of(&rt, alloc, PATHS);
+    let mut room = Room::new(alloc);
+    check_slots(&rt, &room, &[]);
+    for &(line, wanted) in &LINES {
+        match (find_many_in(alloc, &mut room, line, &tree), wanted) {
+            (Ok(()), Ok(spans)) => check_slots(&rt, &room, &spans),
+            (Err(error), Err((code, offset))) => {
+                same_at(&rt, error.code(), code, line);
+                same_at(&rt, error.offset(), offset, line);
+                check_slots(&rt, &room, &[]);
+            }
+            _ => panic!(&rt; "another answer of {line}"),
+        }
+    }
+}
+
+// Compares what both calls find.
+fn compare(
+    rt: &impl Abort,
+    alloc: Global,
+    room: &mut Room,
+    paths: Paths,
+    text: &str,
+) -> Result<(), Fail> {
+    let tree = tree_of(rt, alloc, paths);
+    let mut slots = vec![in alloc; None; tree.size()]?;
+    let found = find_many(alloc, text, &tree, &mut slots);
+    match (find_many_in(alloc, room, text, &tree), found) {
+        (Ok(()), Ok(())) => check_slots(rt, room, &slots),
+        (Err(error), Err(other)) => {
+            same(rt, error.code(), other.code());
+            same(rt, error.offset(), other.offset());
+            check_slots(rt, room, &[]);
+        }
+        _ => panic!(rt; "an error is found once"),
+    }
+    Ok(())
+}
+
+#[test]
+fn holds_what_find_many_finds(rt: HostRuntime) -> Result<(), Fail> {
+    let alloc = rt.alloc();
+    let mut room = Room::new(alloc);
+    for &(paths, text, _) in &ANSWERED {
+        compare(&rt, alloc, &mut room, paths, text)?;
+    }
+    for &(paths, text, _, _) in &REFUSED {
+        compare(&rt, alloc, &mut room, paths, text)?;
+    }
+    Ok(())
+}
+
+// A tree of the paths to so many elements of an array, from the last to the first.
+fn tree_of_elements(alloc: Global, count: usize) -> Result<PointerTree, Fail> {
+    let mut tree = PointerTree::new(alloc);
+    for i in 0..count {
+        tree.add_path(alloc, &[Index(count - 1 - i)])?;
+    }
+    Ok(tree)
+}
+
+// Around the number of children that the bits of a word stand for.
+const COUNTS: [usize; 8] = [1, 63, 64, 65, 66, 130, 64, 2];
+
+#[test]
+fn finds_few_children_and_many(rt: HostRuntime) -> Result<(), Fail> {
+    let alloc = rt.alloc();
+    let mut room = Room::new(alloc);
+    for &count in &COUNTS {
+        let tree = tree_of_elements(alloc, count)?;
+        let mut text = String::new(alloc);
+        let mut slots = Vec::new(alloc);
+        for i in 0..count {
+            text.push_str(if i == 0 { "[7" } else { ",7" })?;
+            let start = 2 * (count - i) - 1;
+            let end = start + 1;
+            slots.push(Some(Span { start, end }))?;
+        }
+        same_at(
+            &rt,
+            find_many_in(alloc, &mut room, text.as_str(), &tree).is_ok(),
+            true,
+            count,
+        );
+        check_slots(&rt, &room, &slots);
+    }
+    Ok(())
+}

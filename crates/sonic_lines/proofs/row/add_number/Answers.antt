@@ -1,0 +1,5 @@
+use Rattle.std.proofs.lemmas.Fmt.{decimal_digit}
+use Rattle.sonic_lines.proofs.row.add_number.Goals as goal
+
+pub returns-then-number-lt10-clause-ok : goal.returns-then-number-lt10-clause-ok
+returns-then-number-lt10-clause-ok c = rw (decimal_digit c.args.number c.if-number-lt10.true) c.in_ok-push.ensures.items

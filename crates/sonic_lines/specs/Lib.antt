@@ -1,0 +1,4 @@
+pub mod Internal
+pub mod LineRows
+pub mod Pieces
+pub mod Streams

@@ -1,0 +1,13 @@
+//! Records by line: a row for each line of a stream, of what the paths of a tree lead to in it.
+#![tactic(auto)]
+
+// The laws of rows and of pieces.
+mod law;
+// The rows of the lines of a stream.
+mod row;
+// A stream that comes in pieces.
+mod rows;
+
+pub use law::{pieces_have_no_part, rows_join, stream_has_its_rows};
+pub use row::append_rows;
+pub use rows::Rows;

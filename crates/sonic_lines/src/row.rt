@@ -1,0 +1,228 @@
+// The rows of the lines of a stream.
+ghost use Rattle.std.specs.Prelude.{◌≡◌, ◌+◌, ◌-◌, ◌^◌, ◌<◌, ◌≤◌, ◌++◌, ◌∷◌, ◌↔◌, ℕ, List, codes, length, drop, slice_range, IfOk, IfSome, IsTrue, option_map, OnErr, OnOk, decimal};
+ghost use Rattle.sonic_error.specs.Codes.{category_of};
+ghost use Rattle.sonic_error.specs.Errors.{error_code, error_offset};
+ghost use Rattle.sonic_find.specs.Spans.{pair_of, pairs_of};
+ghost use Rattle.sonic_lines.specs.Internal.Rows.{AreWithin, IsMore, tab_before};
+ghost use Rattle.sonic_lines.specs.LineRows.{AreRows, HasErrorRow, IsErrorLine, IsRow, entries_text, entry_text};
+ghost use Rattle.sonic_error.specs.Names.{word_of_category, name_of_code};
+ghost use Rattle.sonic_lines.specs.Streams.{lines_of};
+
+use memchr::memchr;
+use sonic_error::{Error, ErrorCode};
+use sonic_find::{Room, Span, find_many_in};
+use sonic_pointer::PointerTree;
+use sonic_text::skip_space;
+use std::alloc::{AllocError, Global};
+
+/// Appends the rows of the lines of a stream, before which there were `before` lines: whether one of
+/// the rows is an error.
+///
+/// A line ends with a line feed, and the last one also with the stream. Each is read by itself. A line
+/// of white space alone (RFC 8259, section 2) counts, and has no row. The row of another one has an
+/// entry for each path of the tree, with a tab between two of them, and a line feed after the last:
+/// an entry is the length of the value's text in bytes, a blank and that text, or a dash where an
+/// object lacks the path's key. Where a line has no answer, its row is `! N WORD CODE OFFSET`: the
+/// number of the line, which is `before + 1` for the first, the family of the error, its code, and
+/// its place in the line, in bytes from 0.
+///
+/// With the path `["id"]` the stream `{"id":7}`, a line feed and `{"id":tru}` has the rows `1 7` and
+/// `! 2 syntax InvalidLiteral 9`, and the answer is `true`.
+///
+/// The only error is that memory ran out, and then `out` is as it was.
+pub fn append_rows(
+    alloc: Global,
+    tree: &PointerTree,
+    before: u64,
+    stream: &[u8],
+    out: &mut Vec<u8>,
+) -> Result<bool, AllocError>
+    requires { before + length stream.now < 2 ^ 64 - 1 }
+    ensures rows { OnOk result ((rows : List ℕ) × AreRows tree.now before stream.now rows
+        × (out.new.items ≡ out.old.items ++ rows)) }
+    ensures errors { IfOk result (λ some. IsTrue some ↔ HasErrorRow tree.now (lines_of stream.now)) }
+    ensures same { OnErr result (out.new.items ≡ out.old.items) }
+{
+    let mut room = Room::new(alloc);
+    let written = out.len();
+    match add_rows(alloc, &mut room, tree, &Lines { before, stream }, out) {
+        Ok(has_error) => Ok(has_error),
+        Err(error) => {
+            out.truncate(written);
+            Err(error)
+        }
+    }
+}
+
+// The lines of a stream, before which there were so many.
+#[derive(Drop)]
+pub(crate) struct Lines<'s> {
+    pub(crate) before: u64,
+    pub(crate) stream: &'s [u8],
+}
+
+// A line with its number, counted from 1.
+#[derive(Drop)]
+pub(crate) struct Line<'s> {
+    pub(crate) number: u64,
+    pub(crate) text: &'s [u8],
+}
+
+// Appends the rows of lines: whether one of them is an error. After running out of memory some rows
+// may be appended.
+pub(crate) fn add_rows(
+    alloc: Global,
+    room: &mut Room,
+    tree: &PointerTree,
+    lines: &Lines<'_>,
+    out: &mut Vec<u8>,
+) -> Result<bool, AllocError>
+    requires { lines.now.before + length lines.now.stream.now < 2 ^ 64 - 1 }
+    ensures rows { OnOk result ((rows : List ℕ) × AreRows tree.now lines.now.before lines.now.stream.now rows
+        × (out.new.items ≡ out.old.items ++ rows)) }
+    ensures errors { IfOk result (λ some. IsTrue some ↔ HasErrorRow tree.now (lines_of lines.now.stream.now)) }
+    ensures more { IsMore out.old.items out.new.items }
+{
+    let mut number = lines.before;
+    let mut has_error = false;
+    let mut start = 0;
+    'line: while start < lines.stream.len() {
+        let end = line_end(lines.stream, start);
+        number += 1;
+        let text = &lines.stream[start..end];
+        if add_row(alloc, room, tree, &Line { number, text }, out)? {
+            has_error = true;
+        }
+        start = end + 1;
+    }
+    Ok(has_error)
+}
+
+// Where the line ends that begins at a place of the stream.
+fn line_end(stream: &[u8], start: usize) -> usize
+    requires { start < length stream.now }
+    ensures within { (start ≤ result) × (result ≤ length stream.now) }
+    ensures line { lines_of (drop start stream.now)
+        ≡ slice_range stream.now start result ∷ lines_of (drop (result + 1) stream.now) }
+{
+    match memchr(b'\n', &stream[start..]) {
+        Some(n) => start + n,
+        None => stream.len(),
+    }
+}
+
+// Appends the row of one line: whether it is an error. After running out of memory a part of it may
+// be appended.
+pub(crate) fn add_row(
+    alloc: Global,
+    room: &mut Room,
+    tree: &PointerTree,
+    line: &Line<'_>,
+    out: &mut Vec<u8>,
+) -> Result<bool, AllocError>
+    ensures row { OnOk result ((row : List ℕ) × IsRow tree.now line.now.number line.now.text.now row
+        × (out.new.items ≡ out.old.items ++ row)) }
+    ensures error { IfOk result (λ some. IsTrue some ↔ IsErrorLine tree.now line.now.text.now) }
+    ensures more { IsMore out.old.items out.new.items }
+{
+    let text = line.text;
+    if skip_space(text, 0) == text.len() {
+        return Ok(false);
+    }
+    match find_many_in(alloc, room, text, tree) {
+        Ok(()) => {
+            add_entries(text, room, out)?;
+            Ok(false)
+        }
+        Err(error) => {
+            add_error(line.number, &error, out)?;
+            Ok(true)
+        }
+    }
+}
+
+// Appends the entries of a line, with a tab between two of them.
+fn add_entries(line: &[u8], room: &Room, out: &mut Vec<u8>) -> Result<(), AllocError>
+    requires { AreWithin line.now room.now }
+    ensures ok { OnOk result (out.new.items
+        ≡ out.old.items ++ (entries_text line.now (pairs_of room.now) ++ codes "\n")) }
+    ensures more { IsMore out.old.items out.new.items }
+{
+    for number in 0..room.len() {
+        add_tab(number, out)?;
+        add_entry(line, room.at(number), out)?;
+    }
+    out.push(b'\n')?;
+    Ok(())
+}
+
+// Appends a tab, but before the first entry.
+fn add_tab(number: usize, out: &mut Vec<u8>) -> Result<(), AllocError>
+    ensures ok { OnOk result (out.new.items ≡ out.old.items ++ tab_before number) }
+    ensures more { IsMore out.old.items out.new.items }
+{
+    if 0 < number {
+        out.push(b'\t')?;
+    }
+    Ok(())
+}
+
+// Appends one entry.
+fn add_entry(line: &[u8], slot: Option<Span>, out: &mut Vec<u8>) -> Result<(), AllocError>
+    requires { IfSome slot (λ span. (span.start ≤ span.end) × (span.end ≤ length line.now)) }
+    ensures ok { OnOk result (out.new.items ≡ out.old.items ++ entry_text line.now (option_map pair_of slot)) }
+    ensures more { IsMore out.old.items out.new.items }
+{
+    match slot {
+        Some(Span { start, end }) => add_counted(&line[start..end], out),
+        None => out.extend_from_slice(b"-"),
+    }
+}
+
+// Appends a text after its length.
+fn add_counted(text: &[u8], out: &mut Vec<u8>) -> Result<(), AllocError>
+    ensures ok { OnOk result (out.new.items
+        ≡ out.old.items ++ (decimal (length text.now) ++ codes " " ++ text.now)) }
+    ensures more { IsMore out.old.items out.new.items }
+{
+    add_number(text.len(), out)?;
+    out.push(b' ')?;
+    out.extend_from_slice(text)
+}
+
+// Appends a number, which mostly has one digit.
+fn add_number(number: usize, out: &mut Vec<u8>) -> Result<(), AllocError>
+    ensures ok { OnOk result (out.new.items ≡ out.old.items ++ decimal number) }
+    ensures more { IsMore out.old.items out.new.items }
+{
+    if number < 10 {
+        out.push(b'0' + number as u8)?;
+        return Ok(());
+    }
+    let mut digits = itoa::Buffer::new();
+    out.extend_from_slice(digits.format(number).as_bytes())
+}
+
+// Appends the row of an error, unless memory ran out.
+fn add_error(number: u64, error: &Error, out: &mut Vec<u8>) -> Result<(), AllocError>
+    ensures ok { OnOk result (out.new.items ≡ out.old.items ++ (codes "! " ++ decimal number ++ codes " "
+        ++ word_of_category (category_of (error_code error.now)) ++ codes " " ++ name_of_code (error_code error.now)
+        ++ codes " " ++ decimal (error_offset error.now) ++ codes "\n")) }
+    ensures memory { OnOk result (error_code error.now ≡ ErrorCode.NoMemory → ⊥) }
+    ensures more { IsMore out.old.items out.new.items }
+{
+    if let ErrorCode::NoMemory = error.code() {
+        return Err(AllocError);
+    }
+    let mut digits = itoa::Buffer::new();
+    out.extend_from_slice(b"! ")?;
+    out.extend_from_slice(digits.format(number).as_bytes())?;
+    out.extend_from_slice(b" ")?;
+    out.extend_from_slice(error.classify().word().as_bytes())?;
+    out.extend_from_slice(b" ")?;
+    out.extend_from_slice(error.code().name().as_bytes())?;
+    out.extend_from_slice(b" ")?;
+    out.extend_from_slice(digits.format(error.offset()).as_bytes())?;
+    out.extend_from_slice(b"\n")?;
+    Ok(())
+}

@@ -1,0 +1,99 @@
+// The rows of a stream, as plain as it gets: byte by byte, and each line by a walk of its own.
+use sonic_error::{Category, Error, ErrorCode};
+use sonic_find::{Span, find_many};
+use sonic_pointer::PointerTree;
+use std::alloc::{AllocError, Global};
+
+// The word of an error's family.
+fn word(category: Category) -> &'static str {
+    match category {
+        Category::Io => "io",
+        Category::Syntax => "syntax",
+        Category::TypeUnmatched => "type",
+        Category::NotFound => "not-found",
+        Category::Eof => "eof",
+        Category::Memory => "memory",
+    }
+}
+
+// Whether a line has nothing but white space in it.
+fn is_blank(line: &[u8]) -> bool {
+    for &byte in line {
+        if !b" \t\r".contains(&byte) {
+            return false;
+        }
+    }
+    true
+}
+
+// The row of the values that a line was answered with.
+fn entries(alloc: Global, line: &[u8], slots: &[Option<Span>]) -> Result<Vec<u8>, AllocError> {
+    let mut row = Vec::new(alloc);
+    let mut separator = "";
+    for slot in slots {
+        row.extend_from_slice(separator.as_bytes())?;
+        match slot {
+            Some(span) => {
+                let text = line.get(span.start..span.end).unwrap_or(b"");
+                row.extend_from_slice(format!(in alloc; "{} ", text.len())?.as_bytes())?;
+                row.extend_from_slice(text)?;
+            }
+            None => row.push(b'-')?,
+        }
+        separator = "\t";
+    }
+    row.push(b'\n')?;
+    Ok(row)
+}
+
+// The row of an error.
+fn refusal(alloc: Global, number: usize, error: &Error) -> Result<Vec<u8>, AllocError> {
+    let (word, offset) = (word(error.classify()), error.offset());
+    let code = match error.code() {
+        ErrorCode::Message(_) => format!(in alloc; "Message")?,
+        code => format!(in alloc; "{code:?}")?,
+    };
+    let row = format!(in alloc; "! {number} {word} {code} {offset}\n")?;
+    let mut bytes = Vec::new(alloc);
+    bytes.extend_from_slice(row.as_bytes())?;
+    Ok(bytes)
+}
+
+// The row of a line.
+fn plain_row(
+    alloc: Global,
+    tree: &PointerTree,
+    number: usize,
+    line: &[u8],
+) -> Result<Vec<u8>, AllocError> {
+    if is_blank(line) {
+        return Ok(Vec::new(alloc));
+    }
+    let mut slots = vec![in alloc; None; tree.size()]?;
+    match find_many(alloc, line, tree, slots.as_mut_slice()) {
+        Ok(()) => entries(alloc, line, &slots),
+        Err(error) => refusal(alloc, number, &error),
+    }
+}
+
+// The rows of a stream.
+pub(crate) fn plain_rows(
+    alloc: Global,
+    tree: &PointerTree,
+    stream: &[u8],
+) -> Result<Vec<u8>, AllocError> {
+    let mut rows = Vec::new(alloc);
+    let mut line = Vec::new(alloc);
+    let mut number: usize = 1;
+    for &byte in stream {
+        if byte == b'\n' {
+            rows.extend_from_slice(&plain_row(alloc, tree, number, &line)?)?;
+            line.clear();
+            number = number.saturating_add(1);
+        } else {
+            line.push(byte)?;
+        }
+    }
+    rows.extend_from_slice(&plain_row(alloc, tree, number, &line)?)?;
+    Ok(rows)
+}
