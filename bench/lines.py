@@ -1,6 +1,5 @@
 """Measures `lines` beside other readers: lines.py PROGRAM FOLDER MEGABYTES RUNS GIGABYTES"""
 import json
-import math
 import os
 import subprocess
 import sys
@@ -8,6 +7,7 @@ import time
 
 import peers
 from documents import WORDS
+from timing import measure
 
 CLUSTER = os.path.join(os.path.dirname(os.path.abspath(__file__)), "..", "examples", "cluster", "rows")
 
@@ -57,19 +57,6 @@ def write(folder, size, paths, line):
         for piece in iter(lambda: stream.read(1 << 20), b""):
             file.write(piece)
     return whole, alone, count
-
-
-def measure(words, path, runs):
-    """The least processor time of some runs, the peak of memory in megabytes, and what is written."""
-    best, peak, written = math.inf, 0, b""
-    for _ in range(runs):
-        with open(path) as file:
-            process = subprocess.Popen(words, stdin=file, stdout=subprocess.DEVNULL, stderr=subprocess.PIPE)
-            written = process.stderr.read()
-            usage = os.wait4(process.pid, 0)[2]
-        best = min(best, usage.ru_utime + usage.ru_stime)
-        peak = max(peak, usage.ru_maxrss * 1024 / 10**6)
-    return best, peak, written.decode()
 
 
 def size_of_rows(program, path, folder):

@@ -28,19 +28,26 @@ def compiled(command, **options):
         raise LeftOut(errors[0].strip() if errors else f"{command[0]} failed")
 
 
-def simdjson(folder):
-    out = os.path.join(folder, "simdjson")
-    source = os.path.join(HERE, "peers", "simdjson.cpp")
+def with_simdjson(folder, name):
+    """A program over Debian's library."""
+    out = os.path.join(folder, name)
+    source = os.path.join(HERE, "peers", f"{name}.cpp")
     compiled([tool("c++", "g++", "clang++"), "-std=c++17", *OPTIMIZED, source, "-lsimdjson", "-o", out])
     return out
+
+
+def simdjson(folder):
+    return with_simdjson(folder, "simdjson")
 
 
 def iterate_many(folder):
     """No reader of documents: it reads a stream of them."""
-    out = os.path.join(folder, "iterate_many")
-    source = os.path.join(HERE, "peers", "iterate_many.cpp")
-    compiled([tool("c++", "g++", "clang++"), "-std=c++17", *OPTIMIZED, source, "-lsimdjson", "-o", out])
-    return out
+    return with_simdjson(folder, "iterate_many")
+
+
+def simdjson_texts(folder):
+    """It writes whole documents."""
+    return with_simdjson(folder, "simdjson_texts")
 
 
 def map(folder):
@@ -62,15 +69,25 @@ def serde_json(folder):
     return os.path.join(project, "target", "release", "serde_json_peer")
 
 
-def yyjson(folder):
+def with_yyjson(folder, name):
+    """A program over the sources of yyjson."""
+    out = os.path.join(folder, name)
     sources = os.environ.get("YYJSON")
     if not sources:
         raise LeftOut("YYJSON names no folder of its sources")
     sources = os.path.abspath(sources)
-    out = os.path.join(folder, "yyjson")
-    files = [os.path.join(HERE, "peers", "yyjson.c"), os.path.join(sources, "yyjson.c")]
+    files = [os.path.join(HERE, "peers", f"{name}.c"), os.path.join(sources, "yyjson.c")]
     compiled([tool("cc", "gcc", "clang"), *OPTIMIZED, f"-I{sources}", *files, "-o", out])
     return out
+
+
+def yyjson(folder):
+    return with_yyjson(folder, "yyjson")
+
+
+def yyjson_texts(folder):
+    """It writes whole documents."""
+    return with_yyjson(folder, "yyjson_texts")
 
 
 def memcpy(folder):

@@ -24,7 +24,11 @@ COMMANDS = {
     "edit, refused": (["edit"], '["take",["b"]]\n\n{"a":1}'),
     "fill": (["fill"], '{"obj":{"a":2},"l":[]}\n{"obj":{"a":[1], "b":1},"l":"x\\ny"}'),
     "fast": (["fast"], '["a"]\n["b"]\n\n{"a" : [ 1 ]} '),
+    "index": (["index"], '{"a\\n": [1, {"b":"x"}], "c": {}}'),
+    "index, cut": (["index"], "[[1], {"),
     "lines": (["lines"], '["a"]\n["b",0]\n\n{"a":1,"b":[[2]]}\n\n{"a":tru}\n{"a":"\\u00e9"}\n'),
+    "min": (["min"], '{ "a" : [1, 2 ] }'),
+    "indent": (["indent", "2"], '{ "a" : [1, {} ] }'),
     "gen": (["gen", "2"], ""),
     "usage": (["got"], ""),
 }
@@ -33,9 +37,9 @@ CALLS = """
 FastStr::new FastStr::clone FastStr::slice RawNumber::from_str validate get get_many get_many_with
 find_many find_many_in append_rows Rows::feed Rows::finish
 LazyValue::as_str LazyValue::as_raw_faststr ObjectJsonIter::next ArrayJsonIter::next skip_one
-Descent::value OwnedLazyValue::from_str OwnedLazyValue::from_lazy OwnedLazyValue::clone
-OwnedLazyValue::to_string load get_mut pointer_mut as_object_mut with_mut edit LazyArray::with_capacity push
-LazyObject::with_capacity append_pair add_path Value::from_str Value::clone Value::to_string
+Descent::value JsonIndex::build minify indent OwnedLazyValue::from_str OwnedLazyValue::from_lazy
+OwnedLazyValue::clone OwnedLazyValue::to_string load get_mut pointer_mut as_object_mut with_mut edit
+LazyArray::with_capacity push LazyObject::with_capacity append_pair add_path Value::from_str Value::clone Value::to_string
 get_by_schema parse_by_schema path_of_line read_paths edit_of_line read_edits edit_all
 read_all MemorySink::new
 """.split()
@@ -47,7 +51,7 @@ NO_MEMORY = 7
 # So many numbers are tried side by side, each over crates of its own.
 LANES = max(1, (os.cpu_count() or 1) - 1)
 # What the library's crates are needed for.
-LIBRARIES = "error text input io parser pointer paths find lazy lines owned edits value"
+LIBRARIES = "error text input io parser pointer paths find lazy lines owned edits value index min"
 
 
 @dataclass

@@ -1,3 +1,4 @@
+pub mod Around
 pub mod Elements
 pub mod Settings
 pub mod Subjects

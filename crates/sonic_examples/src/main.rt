@@ -24,6 +24,8 @@ mod stream;
 mod tests;
 // Lazy values: their types, and paths inside them.
 mod values;
+// A viewer that shows which value of a document is under the cursor.
+mod viewer;
 
 use std::alloc::Global;
 use std::io;
@@ -39,7 +41,8 @@ fn show(rt: &impl Print, alloc: Global) -> io::Result<()> {
     stream::show(rt, alloc)?;
     spans::show(rt, alloc)?;
     plain::show(rt, alloc)?;
-    rows::show(rt, alloc)
+    rows::show(rt, alloc)?;
+    viewer::show(rt, alloc)
 }
 
 fn main(rt: HostRuntime) -> ExitCode {

@@ -67,6 +67,7 @@ pub fn locate_many<'de, I: JsonInput<'de>>(
 }
 
 // The same in memory that is used again, in which nothing is found after an error.
+#[inline(always)]
 pub(crate) fn locate_in<'de, I: JsonInput<'de>>(
     alloc: Global,
     memory: &mut Memory,
@@ -98,6 +99,7 @@ pub(crate) fn locate_in<'de, I: JsonInput<'de>>(
 // The values that the paths of a tree are answered with under a rule, in their order, or the one error.
 //
 // What follows the last byte that is needed plays no part.
+#[inline(always)]
 fn answer<'de, I: JsonInput<'de>>(
     alloc: Global,
     memory: &mut Memory,
@@ -134,6 +136,7 @@ fn empty_slots(found: &mut Vec<Option<Located>>, size: usize) -> Result<(), Allo
 
 // Follows the paths of a tree that has some, from the start of a text, and fills their slots: how far
 // the text is needed.
+#[inline(always)]
 fn reach(
     alloc: Global,
     memory: &mut Memory,
@@ -161,18 +164,15 @@ fn reach(
     Ok(reach_of(&memory.found, lacking, end))
 }
 
-// How far the text is needed: to the end of the root where some path lacks its key.
+// How far the text is needed: to the end of the root where some path lacks its key, or else to the
+// furthest end of the values, and to 0 where there is none.
 fn reach_of(found: &[Option<Located>], lacking: bool, end: usize) -> usize
     ensures whole { lacking ≡ true → result ≡ end }
     ensures furthest { lacking ≡ false → IsFurthest (spans_of found.now) result }
 {
-    if lacking { end } else { furthest(found) }
-}
-
-// The furthest end of the values, or 0 where there is none.
-fn furthest(found: &[Option<Located>]) -> usize
-    ensures { IsFurthest (spans_of found.now) result }
-{
+    if lacking {
+        return end;
+    }
     let mut reach = 0;
     for value in found {
         reach = further(reach, *value);

@@ -81,6 +81,7 @@ impl Room {
 ///
 /// With the paths `["a", 1]` and `["z"]` over `{"a":[1,2]}` the room holds the span from 8 to 9 and
 /// `None`.
+#[inline(always)]
 pub fn find_many_in<'de, I: JsonInput<'de>>(
     alloc: Global,
     room: &mut Room,

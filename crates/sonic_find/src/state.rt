@@ -1,8 +1,8 @@
 // What a walk through a text has come to.
-ghost use Rattle.std.specs.Prelude.{◌≡◌, ◌≢◌, ◌⊎◌, ◌<◌, ◌≤◌, ◌^◌, ◌+◌, ℕ, List, Some, None, true, false, length, replicate, set, slice_get, IfOk, IfErr, OnOk};
+ghost use Rattle.std.specs.Prelude.{◌≡◌, ◌≢◌, ◌⊎◌, ◌<◌, ◌≤◌, ◌^◌, ◌+◌, ◌↔◌, ℕ, List, Some, None, true, false, length, replicate, set, slice_get, IfOk, IfErr, IsTrue, OnOk};
 ghost use Rattle.std.specs.List.{Contains};
 ghost use Rattle.sonic_text.specs.Places.{after_space, byte};
-ghost use Rattle.sonic_text.specs.Strings.{IsString, strict};
+ghost use Rattle.sonic_text.specs.Strings.{IsEscapedString, IsString, strict};
 ghost use Rattle.sonic_text.specs.Values.{opening, IsValue, IsKey, ItemsFit};
 ghost use Rattle.sonic_text.specs.Faults.{IsFault, IsKeyFault};
 ghost use Rattle.sonic_parser.specs.Containers.{IsEnd, IsSeparated, IsSeparatorFault};
@@ -213,6 +213,8 @@ impl<'de> Walk<'de> {
         ensures ok { IfOk result (λ key. (b : List ℕ)
             × IsString strict self.old.text self.old.place key.end b
             × IsKey strict self.old.text self.old.place self.new.place b) }
+        ensures escaped { IfOk result (λ key.
+            IsTrue key.escaped ↔ IsEscapedString self.old.text self.old.place key.end) }
         ensures moved { self.new ≡ record self.old { place = self.new.place } }
         ensures err { IfErr result (λ s. IsKeyFault strict self.old.text self.old.place s) }
     {

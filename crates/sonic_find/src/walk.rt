@@ -38,6 +38,7 @@ pub(crate) struct Level<'l, 't> {
 // It is read to its end where `finish` asks for it, where some path lacks its key, or where a path
 // ends here.
 #[cycle(walk)]
+#[inline(always)]
 pub(crate) fn follow(walk: &mut Walk<'_>, view: &TreeView<'_>, finish: bool) -> Result<(), Fault>
     requires comes { ComesTo (point_at walk.old view.now) }
     requires some { HasPrefix view.now.paths view.now.prefix }
@@ -60,6 +61,30 @@ pub(crate) fn follow(walk: &mut Walk<'_>, view: &TreeView<'_>, finish: bool) -> 
         walk.keep(orders, start, status);
         return Ok(());
     }
+    follow_children(walk, view, finish)
+}
+
+// The same of a prefix that goes on.
+#[cycle(walk)]
+fn follow_children(walk: &mut Walk<'_>, view: &TreeView<'_>, finish: bool) -> Result<(), Fault>
+    requires comes { ComesTo (point_at walk.old view.now) }
+    requires some { HasPrefix view.now.paths view.now.prefix }
+    requires are { AreFindings walk.old.rule walk.old.text view.now.paths walk.old.findings }
+    requires marks { KeepsMarks (marking_at walk.old view.now) walk.old.place }
+    requires children { IsChildren view.now.paths view.now.prefix view.now.children }
+    requires goes_on { view.now.children ≢ List.[] }
+    ensures later { OnOk result (IsLater walk.old.rule walk.old.text view.now.paths walk.old.findings
+        walk.new.findings) }
+    ensures settled { OnOk result (AllSettled (point_at walk.old view.now) walk.new.findings) }
+    ensures whole { OnOk result ((finish ≡ true) ⊎ (walk.new.findings.lacking ≡ true)
+        → IsValue strict walk.old.text walk.old.place walk.new.place) }
+    ensures marks { OnOk result (KeepsMarks (marking_at walk.new view.now) walk.new.place) }
+    ensures text { OnOk result (walk.new.text ≡ walk.old.text) }
+    ensures rule { OnOk result (walk.new.rule ≡ walk.old.rule) }
+    ensures err { IfErr result (IsStopFor (IsStop (point_at walk.old view.now) finish)) }
+{
+    let start = walk.place();
+    let orders = view.orders();
     let level = Level {
         view,
         start,
@@ -85,6 +110,7 @@ fn is_asked(finish: bool, orders: &[usize]) -> bool
 }
 
 // The kind of container that the children of the view ask for.
+#[inline(always)]
 pub(crate) fn kind_of_children(view: &TreeView<'_>) -> Kind
     requires { IsChildren view.now.paths view.now.prefix view.now.children }
     ensures { (c : ℕ) (node : Node) → slice_get view.now.children c ≡ Some node → kind_of node ≡ result }
@@ -183,6 +209,7 @@ fn is_wanted(walk: &Walk<'_>, level: &Level<'_, '_>, visited: &Visited) -> bool
 }
 
 // Passes what comes before the value of the item at the cursor: the number of the child that it is.
+#[inline(always)]
 pub(crate) fn head(
     walk: &mut Walk<'_>,
     level: &Level<'_, '_>,
@@ -195,14 +222,15 @@ pub(crate) fn head(
     ensures err { IfErr result (λ s. (level.now.kind ≡ Kind.Object)
         × IsKeyFault strict walk.old.text walk.old.place s) }
 {
-    match level.kind {
-        Kind::Object => {
-            let start = walk.place();
-            let end = walk.key()?.end;
-            Ok(level.view.of_key(walk.text(), start, end))
-        }
-        Kind::Array => Ok(level.view.of_index(passed)),
+    let Kind::Object = level.kind else {
+        return Ok(level.view.of_index(passed));
+    };
+    let start = walk.place();
+    let key = walk.key()?;
+    if key.escaped {
+        return Ok(level.view.of_key(walk.text(), start, key.end));
     }
+    Ok(level.view.of_plain_key(walk.text(), start, key.end))
 }
 
 // Notes what the children that were not visited lead to, after the closing bracket.

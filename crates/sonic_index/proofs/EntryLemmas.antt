@@ -17,11 +17,11 @@ use Rattle.sonic_index.specs.Nodes.{Part, IsPartAt, IsNode, root, part, inside, 
 use Rattle.sonic_index.proofs.NodeLemmas.{part_before, part_inside, part_one, node_later, node_one, node_value, nodes_nested, starts_one}
 
 -- a part begins after its value does
-part_later : {t : List ℕ} {i n : ℕ} {x : Part} → IsPartAt t i n x → i < x.start
+pub part_later : {t : List ℕ} {i n : ℕ} {x : Part} → IsPartAt t i n x → i < x.start
 part_later p = omega (arith, items-later p.before, head-later p.head)
 
 -- parts of one value that begin at one place have as many before them
-as_many : {t : List ℕ} {i n m : ℕ} {x y : Part} → x.start ≡ y.start → IsPartAt t i n x → IsPartAt t i m y → n ≡ m
+pub as_many : {t : List ℕ} {i n m : ℕ} {x y : Part} → x.start ≡ y.start → IsPartAt t i n x → IsPartAt t i m y → n ≡ m
 as_many {n = n} {m = m} same p q = elim (cases_order n m) [
   | inl z ↦ z
   | inr (inl less) ↦ absurd (let l = part_before p q less in let a = head-later q.head in let b = value-longer p.value in omega arith)
@@ -44,7 +44,7 @@ not_two {n = n} starts ends v w one two less =
     ]
 
 -- so a part has one value around it
-around_one : {t : List ℕ} {i j p q n m : ℕ} {x y : Part} → x.start ≡ y.start → IsNode t i j → IsNode t p q → IsPartAt t i n x → IsPartAt t p m y → i ≡ p
+pub around_one : {t : List ℕ} {i j p q n m : ℕ} {x y : Part} → x.start ≡ y.start → IsNode t i j → IsNode t p q → IsPartAt t i n x → IsPartAt t p m y → i ≡ p
 around_one {t} {i} {p = p} {x = x} {y} same v w one two =
     let there : IsValue strict t x.start y.end = rw (← same) at two.value in
     let ends : x.end ≡ y.end = value_end_one one.value there in
@@ -62,7 +62,7 @@ pub read_element : (es : List Entry) (a : ℕ) {x : Entry} → slice_get es a �
 read_element es a {x} e = (a, slice_get_within es a x e, get_or_from_slice_get es a x x e)
 
 -- lists that are read alike are one
-lists_one : (es fs : List Entry) → ((a : ℕ) (x : Entry) → slice_get es a ≡ Some x → slice_get fs a ≡ Some x)
+pub lists_one : (es fs : List Entry) → ((a : ℕ) (x : Entry) → slice_get es a ≡ Some x → slice_get fs a ≡ Some x)
     → ((a : ℕ) (x : Entry) → slice_get fs a ≡ Some x → slice_get es a ≡ Some x) → es ≡ fs
 lists_one [] [] there back = refl
 lists_one [] (y ∷ fs) there back = absurd (let e = back 0 y refl in cc)
@@ -82,7 +82,7 @@ abbrev Covers : List Entry → List Entry → Type 0
 Covers es fs = (a : ℕ) (x : Entry) → slice_get es a ≡ Some x → (c : ℕ) × (y : Entry) × (slice_get fs c ≡ Some y) × (y.start ≡ x.start)
 
 -- what begins earlier comes earlier
-earlier : (es : List Entry) → Rising es → (a b : ℕ) (x y : Entry) → slice_get es a ≡ Some x → slice_get es b ≡ Some y → x.start < y.start → a < b
+pub earlier : (es : List Entry) → Rising es → (a b : ℕ) (x y : Entry) → slice_get es a ≡ Some x → slice_get es b ≡ Some y → x.start < y.start → a < b
 earlier es rising a b x y e f l = elim (cases_order a b) [
   | inl same ↦ absurd (let g : slice_get es a ≡ Some y = rw same f in let z : x ≡ y = cc in let s = ap (λ (w : Entry). w.start) z in omega arith)
   | inr (inl less) ↦ less
@@ -90,7 +90,7 @@ earlier es rising a b x y e f l = elim (cases_order a b) [
 ]
 
 -- at one place there is one
-place_one : (es : List Entry) → Rising es → (a b : ℕ) (x y : Entry) → slice_get es a ≡ Some x → slice_get es b ≡ Some y → x.start ≡ y.start → a ≡ b
+pub place_one : (es : List Entry) → Rising es → (a b : ℕ) (x y : Entry) → slice_get es a ≡ Some x → slice_get es b ≡ Some y → x.start ≡ y.start → a ≡ b
 place_one es rising a b x y e f s = elim (cases_order a b) [
   | inl same ↦ same
   | inr (inl less) ↦ absurd (let l = rising a b x y less e f in omega arith)
@@ -98,7 +98,7 @@ place_one es rising a b x y e f s = elim (cases_order a b) [
 ]
 
 -- a list has an element before each other one
-before_it : (es : List Entry) (a b : ℕ) (x : Entry) → a < b → slice_get es b ≡ Some x → (y : Entry) × (slice_get es a ≡ Some y)
+pub before_it : (es : List Entry) (a b : ℕ) (x : Entry) → a < b → slice_get es b ≡ Some x → (y : Entry) × (slice_get es a ≡ Some y)
 before_it es a b x l e = let w = slice_get_within es b x e in (get_or es a x, slice_get-get_or es a x (omega arith))
 
 -- an element is read at each number that is its own
@@ -164,7 +164,7 @@ label_one t Array Object same count place x y = absurd cc
 label_one t Object Array same count place x y = absurd cc
 
 -- entries with the same fields are one
-fields_one : (x y : Entry) → x.start ≡ y.start → x.end ≡ y.end → x.parent ≡ y.parent → x.kind ≡ y.kind → x.label ≡ y.label → x ≡ y
+pub fields_one : (x y : Entry) → x.start ≡ y.start → x.end ≡ y.end → x.parent ≡ y.parent → x.kind ≡ y.kind → x.label ≡ y.label → x ≡ y
 fields_one x y a b c d e =
     let z : ◌≡◌ {A = Entry} (record { start = x.start; end = x.end; parent = x.parent; kind = x.kind; label = x.label })
     (record { start = y.start; end = y.end; parent = y.parent; kind = y.kind; label = y.label }) = rw (a, b, c, d, e) refl in
@@ -194,7 +194,7 @@ around_both {t} es fs are ones x y same (of_part {n} {part = a} p e z is) (of_pa
     record { parent = parent; label = label_one t a.kind b.kind (ap (λ (o : Part). o.kind) both) count (ap (λ (o : Part). o.item) both) is.label so.label }
 
 -- the type of an entry
-kind_is : {t : List ℕ} (es : List Entry) (x : Entry) → IsEntry t es x → x.kind ≡ type_at t x.start
+pub kind_is : {t : List ℕ} (es : List Entry) (x : Entry) → IsEntry t es x → x.kind ≡ type_at t x.start
 kind_is es x (of_root a p k o) = o
 kind_is {t} es x (of_part p e z is) = is.kind ∙ ap (type_at t) (sym is.start)
 

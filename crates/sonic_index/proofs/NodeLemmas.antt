@@ -57,11 +57,11 @@ around x b (inside y from to) = inside y (omega (arith, b.0, b.1)) (omega (arith
 around x b (apart l) = apart (omega (arith, b.0, b.1))
 
 -- where a value begins inside another one, but before one of its parts, it ends before that part
-before_part : {t : List ℕ} {i j p q n : ℕ} {x : Part} → IsPartAt t i n x → x.end < j → AreNested t i j p q → p < x.start → AreNested t p q x.start x.end
-before_part x l (apart o) less = let a = value-longer x.value in absurd (omega arith)
+pub before_part : {t : List ℕ} {i j p q n : ℕ} {x : Part} → IsPartAt t i n x → x.end < j → AreNested t i j p q → p < x.start → q < x.start
+before_part x l (apart o) less = let a = value-longer x.value in omega arith
 before_part {n = n} x l (inside {n = m} y from to) less = elim (cases_order m n) [
   | inl same ↦ absurd (let w = starts_one same y x in omega arith)
-  | inr (inl earlier) ↦ (let o = part_before y x earlier in let a = head-later x.head in apart (omega arith))
+  | inr (inl earlier) ↦ omega (arith, part_before y x earlier, head-later x.head, to)
   | inr (inr later) ↦ absurd (let o = part_before x y later in let a = head-later y.head in let b = value-longer x.value in omega arith)
 ]
 
@@ -74,7 +74,7 @@ nest_from (suc fuel) {t} {i} {j} l v (part {i = o} {j = k} {n} {x} parent y) les
     elim (cases_order i o) [
       | inl same ↦ (let z : IsPartAt t i n x = rw same y in inside z (omega arith) (omega arith))
       | inr (inl before) ↦ around x b (nest_from fuel (omega (arith, b.0, b.1)) v parent before)
-      | inr (inr after) ↦ before_part y b.3 (nest_from fuel (omega (arith, b.0, b.1)) parent v after) less
+      | inr (inr after) ↦ apart (before_part y b.3 (nest_from fuel (omega (arith, b.0, b.1)) parent v after) less)
     ]
 
 pub nodes_nested : {t : List ℕ} {i j p q : ℕ} → IsNode t i j → IsNode t p q → i < p → AreNested t i j p q

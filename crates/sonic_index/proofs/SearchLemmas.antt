@@ -16,7 +16,7 @@ use Rattle.sonic_index.specs.Nodes.{Part, IsPartAt, IsNode, root, part, inside, 
 use Rattle.sonic_index.proofs.NodeLemmas.{part_inside, part_one, node_later, node_value, nodes_nested}
 
 -- the item of a whole container that is expected last is whole
-last_part : {t : List ℕ} {v e n h : ℕ} (kind : Kind) → IsValue strict t v e → ItemsFit strict t kind v n h → (x : Part) × IsPartAt t v n x
+pub last_part : {t : List ℕ} {v e n h : ℕ} (kind : Kind) → IsValue strict t v e → ItemsFit strict t kind v n h → (x : Part) × IsPartAt t v n x
 last_part {t} {v} {n = n} {h} kind value fit = elim (head_some strict t kind h) [
   | inl (s, l, y) ↦
       let w = item_whole value fit y in
@@ -25,7 +25,7 @@ last_part {t} {v} {n = n} {h} kind value fit = elim (head_some strict t kind h) 
 ]
 
 -- and so is each one before it
-part_until : {t : List ℕ} {v e n h : ℕ} (m : ℕ) (kind : Kind) → IsValue strict t v e → ItemsFit strict t kind v n h → m ≤ n → (x : Part) × IsPartAt t v m x
+pub part_until : {t : List ℕ} {v e n h : ℕ} (m : ℕ) (kind : Kind) → IsValue strict t v e → ItemsFit strict t kind v n h → m ≤ n → (x : Part) × IsPartAt t v m x
 part_until {t} {v} {n = n} {h} m kind value fit l = elim (cases_order m n) [
   | inl same ↦ (let z : ItemsFit strict t kind v m h = rw same fit in last_part kind value z)
   | inr (inl less) ↦
@@ -117,7 +117,7 @@ seek (suc fuel) {t} {v} {e} p l node = elim (cases_order v p) [
 ]
 
 -- all values of a document are in the root
-node_within : {t : List ℕ} {i j p q : ℕ} → IsAlone t i j → IsNode t p q → q ≤ j
+pub node_within : {t : List ℕ} {i j p q : ℕ} → IsAlone t i j → IsNode t p q → q ≤ j
 node_within a (root b) = let e = value_end_one b.root a.root in omega arith
 node_within a (part w y) = let l = part_inside (node_value w) y in omega (arith, node_within a w, l.3)
 

@@ -32,3 +32,8 @@ pub record AreEntries (t : List ℕ) (es : List Entry) : Type 0 where
   pub rising : (a b : ℕ) (x y : Entry) → a < b → slice_get es a ≡ Some x → slice_get es b ≡ Some y → x.start < y.start
   pub sound : (x : Entry) → Contains es x → IsEntry t es x
   pub complete : (i j : ℕ) → IsNode t i j → (x : Entry) × Contains es x × (x.start ≡ i) × (x.end ≡ j)
+
+-- a text, and the entries of all its values
+pub record Indexed : Type 0 where
+  pub text : List ℕ
+  pub entries : List Entry

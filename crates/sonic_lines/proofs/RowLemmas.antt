@@ -1,7 +1,7 @@
 -- The one text that the rows of lines are, and the rows of two lists of lines.
-use Rattle.std.proofs.Common.{◌≡◌, ◌∙◌, ◌⊎◌, inl, inr, ℕ, zero, suc, take, ◌+◌, ◌<◌, ◌≤◌, ◌↔◌, Bool, true, false, List, [], ◌∷◌, ◌++◌, length, drop, append_assoc, refl, sym, ap, arith, Option}
+use Rattle.std.proofs.Common.{◌≡◌, ◌∙◌, ◌⊎◌, inl, inr, ℕ, zero, suc, take, ◌+◌, ◌-◌, ◌<◌, ◌≤◌, ◌↔◌, Bool, true, false, List, [], ◌∷◌, ◌++◌, length, drop, append_assoc, refl, sym, ap, arith, Option}
 use Rattle.std.proofs.lemmas.Bool.{cases_lt}
-use Rattle.std.proofs.lemmas.List.{append-nil, take_more, map-append, length-map, length-take-le}
+use Rattle.std.proofs.lemmas.List.{append-nil, drop_more, length-drop, take_more, map-append, length-map, length-take-le}
 use Rattle.std.proofs.Math.ListN.{drop_of_length-le}
 use Rattle.sonic_find.proofs.AnswerLemmas.One.{answer_one}
 use Rattle.sonic_find.specs.Answers.{Span, Answer, IsAnswer}
@@ -186,6 +186,27 @@ entries_step line slots i x old before mid now at e f g =
     let first : mid ≡ old ++ (entries ++ tab_before i) = f ∙ ap (λ t. t ++ tab_before i) e ∙ append_assoc old entries (tab_before i) in
     let all : now ≡ old ++ ((entries ++ tab_before i) ++ entry) = g ∙ ap (λ t. t ++ entry) first ∙ append_assoc old (entries ++ tab_before i) entry in
     all ∙ ap (λ t. old ++ t) (append_assoc entries (tab_before i) entry ∙ sym (entries_next line slots i x at))
+
+-- the entries from a slot on: the slot's, and after a tab those of the slots behind it
+entries_lead : (line : List ℕ) (x : Option slot.Span) (rest : List (Option slot.Span)) (k : ℕ) → length rest ≡ k
+    → entries_text line (pairs_of (x ∷ rest)) ≡ entry_text line (option_map pair_of x) ++ (tab_before k ++ entries_text line (pairs_of rest))
+entries_lead line x [] zero e = sym (append-nil (entry_text line (option_map pair_of x)))
+entries_lead line x [] (suc k) e = absurd (omega arith)
+entries_lead line x (y ∷ rest) zero e = absurd (omega arith)
+entries_lead line x (y ∷ rest) (suc k) e = refl
+
+pub entries_down : (line : List ℕ) (slots : List (Option slot.Span)) (i m : ℕ) (x : Option slot.Span) (before tabbed now : List ℕ) → i + 1 ≡ m → slice_get slots i ≡ Some x
+    → before ≡ entries_text line (pairs_of (drop m slots)) ++ codes "\n" → tabbed ≡ tab_before (length slots - m) ++ before
+    → now ≡ entry_text line (option_map pair_of x) ++ tabbed → now ≡ entries_text line (pairs_of (drop i slots)) ++ codes "\n"
+entries_down line slots i m x before tabbed now next at e f g =
+    let within = slice_get_within slots i x at in
+    let lead : drop i slots ≡ x ∷ drop m slots =
+    drop_more slots i x within ∙ (ap (λ y. y ∷ drop (i + 1) slots) (get_or_from_slice_get slots i x x at) ∙ ap (λ k. x ∷ drop k slots) next) in
+    let rest = entries_text line (pairs_of (drop m slots)) in
+    let entry = entry_text line (option_map pair_of x) in
+    let tab = tab_before (length slots - m) in
+    let all : entries_text line (pairs_of (drop i slots)) ≡ entry ++ (tab ++ rest) = rw lead (entries_lead line x (drop m slots) (length slots - m) (length-drop m slots)) in
+    rw (g, f, e, all) (simp append_assoc)
 
 -- spans of values of a line lie in it
 pub spans_within : (line : List ℕ) (slots : List (Option slot.Span)) → AreSpans line slots → AreWithin line slots

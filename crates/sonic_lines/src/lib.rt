@@ -7,6 +7,8 @@ mod law;
 mod row;
 // A stream that comes in pieces.
 mod rows;
+// The entries of a line, where they are short.
+mod short;
 
 pub use law::{pieces_have_no_part, rows_join, stream_has_its_rows};
 pub use row::append_rows;

@@ -1,13 +1,18 @@
 // The rows of the lines of a stream.
-ghost use Rattle.std.specs.Prelude.{◌≡◌, ◌+◌, ◌-◌, ◌^◌, ◌<◌, ◌≤◌, ◌++◌, ◌∷◌, ◌↔◌, ℕ, List, codes, length, drop, slice_range, IfOk, IfSome, IsTrue, option_map, OnErr, OnOk, decimal};
+ghost use Rattle.std.specs.Prelude.{◌≡◌, ◌+◌, ◌-◌, ◌^◌, ◌<◌, ◌≤◌, ◌++◌, ◌∷◌, ◌↔◌, ℕ, List, true, codes, length, drop, slice_range, IfErr, IfOk, IfSome, IsTrue, option_map, OnErr, OnOk, decimal};
+ghost use Rattle.std.specs.Str.{IsUtf8};
 ghost use Rattle.sonic_error.specs.Codes.{category_of};
 ghost use Rattle.sonic_error.specs.Errors.{error_code, error_offset};
+ghost use Rattle.sonic_find.specs.Answers.{Answer, IsAnswer};
+ghost use Rattle.sonic_find.specs.Causes.{IsRefusal};
+ghost use Rattle.sonic_find.specs.Parts.{AreSpans};
 ghost use Rattle.sonic_find.specs.Spans.{pair_of, pairs_of};
 ghost use Rattle.sonic_lines.specs.Internal.Rows.{AreWithin, IsMore, tab_before};
 ghost use Rattle.sonic_lines.specs.LineRows.{AreRows, HasErrorRow, IsErrorLine, IsRow, entries_text, entry_text};
 ghost use Rattle.sonic_error.specs.Names.{word_of_category, name_of_code};
 ghost use Rattle.sonic_lines.specs.Streams.{lines_of};
 
+use crate::short::{SHORT, put_entries};
 use memchr::memchr;
 use sonic_error::{Error, ErrorCode};
 use sonic_find::{Room, Span, find_many_in};
@@ -61,11 +66,12 @@ pub(crate) struct Lines<'s> {
     pub(crate) stream: &'s [u8],
 }
 
-// A line with its number, counted from 1.
+// A line with its number, counted from 1, and whether it is known to be UTF-8.
 #[derive(Drop)]
 pub(crate) struct Line<'s> {
     pub(crate) number: u64,
     pub(crate) text: &'s [u8],
+    pub(crate) is_text: bool,
 }
 
 // Appends the rows of lines: whether one of them is an error. After running out of memory some rows
@@ -83,6 +89,7 @@ pub(crate) fn add_rows(
     ensures errors { IfOk result (λ some. IsTrue some ↔ HasErrorRow tree.now (lines_of lines.now.stream.now)) }
     ensures more { IsMore out.old.items out.new.items }
 {
+    let is_text = simdutf8::is_utf8(lines.stream);
     let mut number = lines.before;
     let mut has_error = false;
     let mut start = 0;
@@ -90,7 +97,12 @@ pub(crate) fn add_rows(
         let end = line_end(lines.stream, start);
         number += 1;
         let text = &lines.stream[start..end];
-        if add_row(alloc, room, tree, &Line { number, text }, out)? {
+        let line = Line {
+            number,
+            text,
+            is_text,
+        };
+        if add_row(alloc, room, tree, &line, out)? {
             has_error = true;
         }
         start = end + 1;
@@ -104,11 +116,49 @@ fn line_end(stream: &[u8], start: usize) -> usize
     ensures within { (start ≤ result) × (result ≤ length stream.now) }
     ensures line { lines_of (drop start stream.now)
         ≡ slice_range stream.now start result ∷ lines_of (drop (result + 1) stream.now) }
+    ensures text { IsUtf8 (drop start stream.now)
+        → IsUtf8 (slice_range stream.now start result) × IsUtf8 (drop (result + 1) stream.now) }
 {
     match memchr(b'\n', &stream[start..]) {
         Some(n) => start + n,
         None => stream.len(),
     }
+}
+
+// The spans of what the paths lead to in a line. Where it is known to be UTF-8, nothing looks for that.
+#[inline(always)]
+fn find_in_line(
+    alloc: Global,
+    room: &mut Room,
+    line: &Line<'_>,
+    tree: &PointerTree,
+) -> Result<(), Error>
+    requires { line.now.is_text ≡ true → IsUtf8 line.now.text.now }
+    ensures ok { OnOk result (IsAnswer line.now.text.now true tree.now (Answer.spans (pairs_of room.new))) }
+    ensures parts { OnOk result (AreSpans line.now.text.now room.new) }
+    ensures err { IfErr result (IsRefusal line.now.text.now true tree.now) }
+{
+    if !line.is_text {
+        return find_in_bytes(alloc, room, line.text, tree);
+    }
+    // SAFETY: the line is UTF-8, as it says.
+    let text = unsafe { std::str::from_utf8_unchecked(line.text) };
+    find_many_in(alloc, room, text, tree)
+}
+
+// The same in a line that may be no UTF-8, out of line.
+#[inline(never)]
+fn find_in_bytes(
+    alloc: Global,
+    room: &mut Room,
+    text: &[u8],
+    tree: &PointerTree,
+) -> Result<(), Error>
+    ensures ok { OnOk result (IsAnswer text.now true tree.now (Answer.spans (pairs_of room.new))) }
+    ensures parts { OnOk result (AreSpans text.now room.new) }
+    ensures err { IfErr result (IsRefusal text.now true tree.now) }
+{
+    find_many_in(alloc, room, text, tree)
 }
 
 // Appends the row of one line: whether it is an error. After running out of memory a part of it may
@@ -120,6 +170,7 @@ pub(crate) fn add_row(
     line: &Line<'_>,
     out: &mut Vec<u8>,
 ) -> Result<bool, AllocError>
+    requires { line.now.is_text ≡ true → IsUtf8 line.now.text.now }
     ensures row { OnOk result ((row : List ℕ) × IsRow tree.now line.now.number line.now.text.now row
         × (out.new.items ≡ out.old.items ++ row)) }
     ensures error { IfOk result (λ some. IsTrue some ↔ IsErrorLine tree.now line.now.text.now) }
@@ -129,7 +180,7 @@ pub(crate) fn add_row(
     if skip_space(text, 0) == text.len() {
         return Ok(false);
     }
-    match find_many_in(alloc, room, text, tree) {
+    match find_in_line(alloc, room, line, tree) {
         Ok(()) => {
             add_entries(text, room, out)?;
             Ok(false)
@@ -141,8 +192,24 @@ pub(crate) fn add_row(
     }
 }
 
-// Appends the entries of a line, with a tab between two of them.
+// Appends the entries of a line, with a tab between two of them. Mostly they are few and short, and
+// then they are put together first and appended at once.
 fn add_entries(line: &[u8], room: &Room, out: &mut Vec<u8>) -> Result<(), AllocError>
+    requires { AreWithin line.now room.now }
+    ensures ok { OnOk result (out.new.items
+        ≡ out.old.items ++ (entries_text line.now (pairs_of room.now) ++ codes "\n")) }
+    ensures more { IsMore out.old.items out.new.items }
+{
+    let mut short = [0; SHORT];
+    match put_entries(&mut short, line, room) {
+        Some(start) => out.extend_from_slice(&short[start..]),
+        None => add_long_entries(line, room, out),
+    }
+}
+
+// Appends the entries one by one.
+#[inline(never)]
+fn add_long_entries(line: &[u8], room: &Room, out: &mut Vec<u8>) -> Result<(), AllocError>
     requires { AreWithin line.now room.now }
     ensures ok { OnOk result (out.new.items
         ≡ out.old.items ++ (entries_text line.now (pairs_of room.now) ++ codes "\n")) }

@@ -174,7 +174,11 @@ impl Rows {
     {
         let number = self.lines + 1;
         if self.held.is_empty() {
-            let line = Line { number, text: end };
+            let line = Line {
+                number,
+                text: end,
+                is_text: false,
+            };
             add_row(alloc, &mut self.room, &self.tree, &line, out)?;
             return Ok(());
         }
@@ -182,6 +186,7 @@ impl Rows {
         let line = Line {
             number,
             text: &self.held,
+            is_text: false,
         };
         add_row(alloc, &mut self.room, &self.tree, &line, out)?;
         Ok(())
@@ -205,6 +210,7 @@ impl Rows {
         let last = Line {
             number: self.lines + 1,
             text: &self.held,
+            is_text: false,
         };
         match add_row(alloc, &mut self.room, &self.tree, &last, out) {
             Ok(_) => {

@@ -18,7 +18,6 @@ mod OpenedLemmas
 mod OpeningLemmas
 mod OpenLemmas
 mod PartTextLemmas
-pub mod PlacedLemmas
 mod PutLawLemmas
 mod PutLemmas
 mod ReachLemmas

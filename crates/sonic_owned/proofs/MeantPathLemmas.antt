@@ -7,7 +7,7 @@ use Rattle.std.specs.Prelude.{slice_range}
 use Rattle.sonic_find.proofs.PathLemmas.Lead.{one_more_unnamed, named_leads, none_leads, not_named, past_byte, first_unnamed, none_unopened, none_empty, leads_on_one}
 use Rattle.sonic_find.proofs.PathLemmas.Outcome.{nowhere_ends}
 use Rattle.sonic_find.specs.Paths.{found, kind_of, name_of, NoneNamed, IsNamed, LeadsOn, Evaluates, found_here, goes_on, leads_nowhere}
-use Rattle.sonic_owned.proofs.PlacedLemmas.{slice_means}
+use Rattle.sonic_text.proofs.PlacedLemmas.{slice_means}
 use Rattle.sonic_owned.proofs.Lists.{texts_equal, texts_differ, none_not_some}
 use Rattle.sonic_owned.specs.Forms.{Form, raw, level, Members, FormMeans, raw_means, level_means, MembersMean, no_member_means, member_means}
 use Rattle.sonic_owned.specs.Leading.{item_at, item_of, item_in, LeadsTo, leads_here, leads_on, leads_in_text}

@@ -6,7 +6,7 @@ use Rattle.sonic_lazy.proofs.ListingLemmas.{listing_one}
 use Rattle.sonic_lazy.proofs.ScalarLemmas.{scalar_means}
 use Rattle.sonic_lazy.specs.Items.{Item, closed, Listing, ItemsReach, IsItemAt, AreClosed, closed_empty, closed_after, at_bracket, AreItems, no_items, one_more_item, IsListing}
 use Rattle.sonic_lazy.specs.Scalars.{container, scalar_of, scalar_of_tree}
-use Rattle.sonic_owned.proofs.PlacedLemmas.{slice_means}
+use Rattle.sonic_text.proofs.PlacedLemmas.{slice_means}
 use Rattle.sonic_owned.specs.Forms.{Form, raw, level, Members, FormMeans, raw_means, level_means, MembersMean, no_member_means, member_means}
 use Rattle.sonic_owned.specs.Opened.{raw_members, AreAllMembers, IsOpened, as_it_was, level_opened}
 use Rattle.sonic_text.proofs.TreeLemmas.{value_of}

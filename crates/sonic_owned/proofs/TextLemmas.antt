@@ -3,7 +3,7 @@ use Rattle.std.proofs.Common.{◌≡◌, ◌≢◌, ◌∙◌, ℕ, ◌+◌, fal
 use Rattle.std.proofs.lemmas.Bool.Decides.{nat_tests}
 use Rattle.std.proofs.lemmas.List.Sums.{prefix_len-drop_no}
 use Rattle.std.proofs.Math.Seq.{get_or-append_seam}
-use Rattle.sonic_owned.proofs.PlacedLemmas.{EndsNumber, value_placed}
+use Rattle.sonic_text.proofs.PlacedLemmas.{EndsNumber, value_placed}
 use Rattle.sonic_owned.specs.Forms.{Form, level, Members, no_member, member, text, label_text, members_text, FormMeans, raw_means, level_means, MembersMean, no_member_means, member_means, IsSound, raw_sound, level_sound, AreSound, none_sound, item_sound, IsLabel}
 use Rattle.sonic_text.proofs.Places.{byte_within}
 use Rattle.sonic_text.proofs.TreeLemmas.{value_of}

@@ -9,13 +9,14 @@ use Rattle.sonic_parser.specs.declared.descent.Step.{Step}
 use Rattle.sonic_parser.specs.declared.descent.Step.TheVariants.{Passed, Entered}
 use Rattle.sonic_text.specs.Places.{byte, after_space}
 use Rattle.sonic_text.specs.Values.{opening, closing, ItemHead, no_head, key_head, IsValue, ItemsFit, first_item, next_item}
-use Rattle.sonic_text.proofs.Items.{closing_not_end}
+use Rattle.sonic_text.proofs.Items.{closing_not_end, opening_one}
 use Rattle.sonic_text.proofs.Places.{after_space_later, byte_within}
 use Rattle.sonic_text.proofs.Within.{value_within}
 use Rattle.sonic_parser.specs.declared.container.Next.TheVariants.{End}
 use Rattle.sonic_parser.specs.Containers.{IsEnd, IsSeparated}
 use Rattle.sonic_parser.specs.Descents.{Descending, IsAtValue, IsAtItem, IsAtEnd, IsDescentStep, IsAfterStep, IsHeadPassed, IsNextOrClosed, IsAfterNext, IsMoved, KeepsTo, FailsAs}
 use Rattle.sonic_parser.specs.Internal.Containers.{IsAfterValue}
+use Rattle.sonic_parser.specs.Parsers.{IsFilledContainer}
 use Rattle.sonic_parser.specs.OpenContainers.{IsOpen, inside, IsItemExpected, IsItemEnded, IsTop}
 use Rattle.sonic_parser.proofs.SkippingLemmas.{IsClosed, closed_all, closed_more, fault_after, fault_item, fault_up, last_ended, top}
 
@@ -58,6 +59,10 @@ ended_at {t = t} {e = e} {j} {kind = kind} last x b =
 -- what begins after a container's bracket
 pub items_begin : {m : Bool} {t : List ℕ} {kind : Kind} {i h : ℕ} → byte t i ≡ opening kind → h ≡ after_space t (i + 1) → byte t h ≢ closing kind → ItemsFit m t kind i 0 h
 items_begin b e d = first_item b e d refl
+
+-- what is empty is no container with an item
+pub empty_unfilled : (t : List ℕ) (kind : Kind) (i : ℕ) → byte t i ≡ opening kind → byte t (after_space t (i + 1)) ≡ closing kind → IsFilledContainer t i → ⊥
+empty_unfilled t kind i b e (other, o, some) = some (e ∙ ap closing (opening_one kind other (sym b ∙ o)))
 
 -- a walk after a step, by its fields
 value_walk : {i : ℕ} {before now : Descending} (step : Step) → IsMoved before now → IsAtValue i before → IsDescentStep before now step → IsAfterStep i now step

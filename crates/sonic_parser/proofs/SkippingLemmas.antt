@@ -1,5 +1,5 @@
 -- The steps of the loop that skips a container: what is known before a step and what the step found give what is known after it.
-use Rattle.std.proofs.Common.{◌≡◌, ◌≢◌, ◌∙◌, sym, ℕ, ◌+◌, ◌-◌, ◌<◌, ◌≤◌, Bool, List, [], ◌∷◌, ◌++◌, zero, suc, length, take, get_or, replicate, arith, refl}
+use Rattle.std.proofs.Common.{◌≡◌, ◌≢◌, ◌∙◌, sym, ℕ, ◌+◌, ◌-◌, ◌<◌, ◌≤◌, Bool, false, List, [], ◌∷◌, ◌++◌, zero, suc, length, take, get_or, replicate, arith, refl}
 use Rattle.std.proofs.Math.Seq.{get_or-append_seam, take-append_seam}
 use Rattle.std.proofs.lemmas.List.{append-nil, append_assoc, length-append, length-take, get_or-take, get_or_default, take-take, take_all}
 use Rattle.std.proofs.lemmas.List.Sums.{prefix_len-drop_no}
@@ -99,14 +99,14 @@ item_inside {v = v} {kinds = kinds} {inner = inner} d last y b = (
   record { kind = inner; p = v; n = 0; outer = kinds; around = inside d.around d.fit (head_top d last y).1 d.kinds_are; fit = b.2; kinds_are = refl },
 )
 
--- a bracket is no white space
-bracket_stays : (t : List ℕ) (q : ℕ) → byte t q ≡ 91 → after_space t q ≡ q
-bracket_stays t q e =
-    let inside : q < length t = byte_within t q (λ z. omega (arith, e, z)) in
-    omega (arith, prefix_len-drop_no is_space t q 0 inside (rw e refl))
+-- where a byte is that is no white space, none is passed
+pub byte_stays : (t : List ℕ) (q b : ℕ) → byte t q ≡ b → 0 < b → is_space b ≡ false → after_space t q ≡ q
+byte_stays t q b e some other =
+    let inside : q < length t = byte_within t q (λ z. omega (arith, e, z, some)) in
+    omega (arith, prefix_len-drop_no is_space t q 0 inside (rw e other))
 
 -- the kind that was added is the last
-added_top : (kinds : List Kind) (kind : Kind) → IsTop (kinds ++ kind ∷ []) kind
+pub added_top : (kinds : List Kind) (kind : Kind) → IsTop (kinds ++ kind ∷ []) kind
 added_top kinds kind =
     let n : length (kinds ++ kind ∷ []) - 1 ≡ length kinds = omega (arith, length-append kinds (kind ∷ [])) in
     rw n (get_or-append_seam kinds kind [] kind)
@@ -121,7 +121,7 @@ arrays_inside {m} {t} {i} (suc n) p kinds brackets last r =
     let first : p + 0 ≡ p = omega arith in
     let opens : byte t p ≡ 91 = rw first at (brackets 0 (omega arith)) in
     let next : byte t (p + 1) ≡ 91 = brackets 1 (omega arith) in
-    let fit : ItemsFit m t Array p 0 (p + 1) = first_item opens (sym (bracket_stays t (p + 1) next)) (λ e. omega (arith, e, next)) refl in
+    let fit : ItemsFit m t Array p 0 (p + 1) = first_item opens (sym (byte_stays t (p + 1) 91 next (omega arith) refl)) (λ e. omega (arith, e, next)) refl in
     let within : p < length t = byte_within t p (λ z. omega (arith, opens, z)) in
     let item : IsItem m t Array p p = record { later = omega arith; within = r.0; label = None; head = no_head refl } in
     let one : IsReached m t i (kinds ++ Array ∷ []) (Expected (p + 1)) = item_inside r.1 last item (omega arith, omega arith, fit) in

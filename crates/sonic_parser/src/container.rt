@@ -96,6 +96,9 @@ pub(crate) fn skip_key(text: &[u8], place: usize, lossy: bool) -> Option<usize>
         return None;
     }
     let end = skip_string(text, place, lossy)?;
+    if byte_at(text, end) == b':' {
+        return Some(skip_space(text, end + 1));
+    }
     let colon = skip_space(text, end);
     match byte_at(text, colon) {
         b':' => Some(skip_space(text, colon + 1)),

@@ -114,6 +114,8 @@ impl<'de> Descent<'de> {
         ensures cursor { IsMoved self.old self.new }
         ensures err { IfErr result (IsStopFor (λ s.
             IsFault self.old.lossy self.old.text self.old.place s)) }
+        ensures parts { IfOk result (λ step. step ≡ Step.Passed
+            → ¬ IsFilledContainer self.old.text self.old.place) }
         ensures memory { IsErrOf result Fault.OutOfMemory
             → IsFilledContainer self.old.text self.old.place }
         ensures within { IfErr result (IsStopFor (λ s. s.place ≤ length self.old.text)) }
@@ -134,6 +136,8 @@ impl<'de> Descent<'de> {
         requires { byte self.old.text self.old.place ≡ opening kind }
         ensures ok { IfOk result (IsDescentStep self.old self.new) }
         ensures cursor { IsMoved self.old self.new }
+        ensures parts { IfOk result (λ step. step ≡ Step.Passed
+            → ¬ IsFilledContainer self.old.text self.old.place) }
         ensures err { IfErr result (λ fault. fault ≡ Fault.OutOfMemory) }
         ensures memory { OnErr result (IsFilledContainer self.old.text self.old.place) }
         ensures kept { OnErr result (self.new ≡ self.old) }

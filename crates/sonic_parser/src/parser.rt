@@ -15,6 +15,7 @@ ghost use Rattle.sonic_parser.specs.Honest.{IsHonest};
 use crate::begin::{Begun, Skipped, begin};
 use crate::container::{Next, first_item, key_end, next_item};
 use crate::fault::Fault;
+use crate::quick::digits_ahead;
 use crate::skip::close;
 use crate::space::{SpaceBlock, words_from};
 use crate::status::ParseStatus;
@@ -329,7 +330,26 @@ impl<'de> Parser<'de> {
     /// The cursor moves past the value's last byte. After an error it is where it was. Only a
     /// container with items takes memory, one byte for each that is open at once. What comes after
     /// the value isn't read, and nothing is said of its UTF-8.
+    #[inline(always)]
     pub fn skip_value(&mut self, alloc: Global) -> Result<ParseStatus, Fault>
+        ensures ok { IfOk result (λ needs. IsPassed self.old self.new needs) }
+        ensures cursor { self.new ≡ moved self.old self.new.place }
+        ensures err { IfErr result (IsStopFor (λ s.
+            IsFault self.old.lossy self.old.text self.old.place s)) }
+        ensures memory { IsErrOf result Fault.OutOfMemory
+            → IsFilledContainer self.old.text self.old.place }
+        ensures within { IfErr result (IsStopFor (λ s. s.place ≤ length self.old.text)) }
+        ensures kept { OnErr result (self.new ≡ self.old) }
+    {
+        let Some(end) = digits_ahead(self.read.as_u8_slice(), self.read.index()) else {
+            return self.skip_other(alloc);
+        };
+        self.read.set_index(end);
+        Ok(ParseStatus::None)
+    }
+
+    // The same, where the value may be any.
+    fn skip_other(&mut self, alloc: Global) -> Result<ParseStatus, Fault>
         ensures ok { IfOk result (λ needs. IsPassed self.old self.new needs) }
         ensures cursor { self.new ≡ moved self.old self.new.place }
         ensures err { IfErr result (IsStopFor (λ s.

@@ -2,14 +2,16 @@
 //
 // It finds no fault: where an item doesn't fit, it says how far it came, and `skip` goes on there.
 ghost use Rattle.std.specs.Prelude.{◌≡◌, ◌+◌, ◌<◌, ◌≤◌, ℕ, Bool, true, length, take, vec_len, IfSome, MatchOption};
-ghost use Rattle.sonic_text.specs.Places.{byte};
+ghost use Rattle.sonic_text.specs.Numbers.{IsNumber};
+ghost use Rattle.sonic_text.specs.Places.{byte, IsDigit};
 ghost use Rattle.sonic_text.specs.Values.{opening};
+ghost use Rattle.sonic_parser.specs.Internal.Containers.{IsAfterValue};
 ghost use Rattle.sonic_parser.specs.Internal.Skipping.{IsItem, IsAhead, IsValueEnd, IsReached, IsOngoing, place_of};
 ghost use Rattle.sonic_parser.specs.OpenContainers.{IsTop};
 
 use crate::container::{Next, first_item, skip_key};
 use crate::skip::{Extent, Reached, leave};
-use sonic_text::{Kind, byte_at, skip_literal, skip_number, skip_string};
+use sonic_text::{Kind, byte_at, skip_digits, skip_literal, skip_number, skip_space, skip_string};
 
 // What is at the place of a value.
 #[derive(Clone, Copy)]
@@ -36,14 +38,14 @@ fn value_place(text: &[u8], place: usize, kind: Kind, lossy: bool) -> Option<usi
     }
 }
 
-// The end of the literal or the number at a place, unless none is there.
+// The end of the literal or the number with a minus sign at a place, unless none is there.
 #[inline(always)]
 fn scalar_end(text: &[u8], place: usize, lossy: bool) -> Option<usize>
     requires { place ≤ length text.now }
     ensures { IfSome result (IsValueEnd lossy text.now place) }
 {
     match byte_at(text, place) {
-        b'-' | b'0'..=b'9' => skip_number(text, place),
+        b'-' => skip_number(text, place),
         b'n' => skip_literal(text, place, "null"),
         b't' => skip_literal(text, place, "true"),
         b'f' => skip_literal(text, place, "false"),
@@ -75,6 +77,24 @@ fn ahead_of_value(end: Option<usize>) -> Ahead
     }
 }
 
+// The end of the number at a place, where it is digits alone, as most numbers are, and none of them is a
+// first 0.
+#[inline(always)]
+pub(crate) fn digits_ahead(text: &[u8], place: usize) -> Option<usize>
+    requires { place ≤ length text.now }
+    ensures number { IfSome result (λ end. (place < end) × (end ≤ length text.now) × IsNumber text.now place end) }
+    ensures digit { IfSome result (λ end. IsDigit (byte text.now place)) }
+{
+    if !matches!(byte_at(text, place), b'1'..=b'9') {
+        return None;
+    }
+    let end = skip_digits(text, place);
+    match byte_at(text, end) {
+        b'.' | b'e' | b'E' => None,
+        _ => Some(end),
+    }
+}
+
 // What is at the place of a value.
 #[inline(always)]
 fn look(text: &[u8], place: usize, lossy: bool) -> Ahead
@@ -84,6 +104,12 @@ fn look(text: &[u8], place: usize, lossy: bool) -> Ahead
     let byte = byte_at(text, place);
     if byte == b'"' {
         return ahead_of_value(skip_string(text, place, lossy));
+    }
+    if byte.is_ascii_digit() {
+        return match digits_ahead(text, place) {
+            Some(end) => Ahead::Value(end),
+            None => ahead_of_value(skip_number(text, place)),
+        };
     }
     if let Some(kind) = Kind::opened_by(byte) {
         return inside(text, place, kind);
@@ -161,6 +187,19 @@ fn open_arrays(text: &[u8], kinds: &mut [Kind], depth: usize, place: usize) -> u
     }
 }
 
+// Where the next item is expected after a value, where a comma comes directly behind it, as mostly.
+#[inline(always)]
+fn after_comma(text: &[u8], ended: usize) -> Option<usize>
+    requires { ended ≤ length text.now }
+    ensures { IfSome result (λ next. (kind : Kind) → IsAfterValue text.now kind ended (Next.Item next)) }
+{
+    if byte_at(text, ended) == b',' {
+        Some(skip_space(text, ended + 1))
+    } else {
+        None
+    }
+}
+
 // How far the items fit of the open containers, of the innermost of which the next one is expected
 // at a place, while there is room for the kinds of those that are open.
 //
@@ -180,29 +219,35 @@ fn pass_items(text: &[u8], kinds: &mut [Kind], depth: usize, first: usize, lossy
 {
     let mut depth = depth;
     let mut place = first;
+    let mut kind = kinds[depth - 1];
     'items: while depth < kinds.len() {
-        let Some(value) = value_place(text, place, kinds[depth - 1], lossy) else {
+        let Some(value) = value_place(text, place, kind, lossy) else {
             return Extent::new(Reached::Expected(place), depth);
         };
         let ahead = look(text, value, lossy);
         if let Ahead::Inside(inner, first) = ahead {
             kinds[depth] = inner;
             depth += 1;
-            place = first;
-            let count = open_arrays(text, kinds, depth, place);
+            let count = open_arrays(text, kinds, depth, first);
             depth += count;
-            place += count;
+            place = first + count;
+            kind = kinds[depth - 1];
             continue 'items;
         }
         let Ahead::Value(ended) = ahead else {
             return Extent::new(Reached::Expected(place), depth);
         };
+        if let Some(item) = after_comma(text, ended) {
+            place = item;
+            continue 'items;
+        }
         let extent = leave(text, kinds, depth, ended);
         depth = extent.depth;
-        match extent.reached {
-            Reached::Expected(next) => place = next,
-            reached => return Extent::new(reached, depth),
-        }
+        let Reached::Expected(next) = extent.reached else {
+            return Extent::new(extent.reached, depth);
+        };
+        place = next;
+        kind = kinds[depth - 1];
     }
     Extent::new(Reached::Expected(place), depth)
 }

@@ -7,5 +7,6 @@ mod PiecesLemmas
 mod PrefixLemmas
 mod VertexLemmas
 mod ShapeLemmas
+mod TargetLemmas
 pub mod TreeLemmas
 mod TrieLemmas

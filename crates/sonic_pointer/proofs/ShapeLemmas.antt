@@ -1,5 +1,5 @@
 -- The children that the calls of a tree read.
-use Rattle.std.proofs.Common.{◌≡◌, ℕ, ◌<◌, Bool, List, Some, None, length, get_or, slice_get, sym, ap, ◌∙◌, subst, arith}
+use Rattle.std.proofs.Common.{◌≡◌, ◌≢◌, ℕ, ◌<◌, Bool, List, Some, None, length, get_or, slice_get, sym, ap, ◌∙◌, subst, arith}
 use Rattle.std.proofs.lemmas.Option.{get_or_from_slice_get, slice_get_within, slice_get-get_or}
 use Rattle.sonic_text.specs.Paths.{Node}
 use Rattle.sonic_pointer.specs.Nodes.{is_key}
@@ -63,6 +63,12 @@ module _ (trie : Trie) (at : ℕ) (tree : HoldsTree trie) (inside : at < length 
       let k = (children_of.exact n).1 next in
       let some = slice_get-get_or kids 0 0 (omega (arith, k.1, are.count)) in
       absurd (cc)
+
+  -- a node that no child has follows in no path
+  pub absent : (n : Node) → ((k : ℕ) → slice_get (trie_labels trie at) k ≢ Some n) → ¬ HasNextNode trie.paths.now (prefix_at (trie_spots trie) at) n
+  absent n none next =
+      let k = (children_of.exact n).1 next in
+      none k.0 (slice_get-get_or (trie_labels trie at) k.0 n k.1 ∙ ap Some k.2)
 
   -- all nodes that follow are of one kind
   pub kind_of : (kind : Bool) (node : Node) → HasNextNode trie.paths.now (prefix_at (trie_spots trie) at) node → is_key node ≡ kind

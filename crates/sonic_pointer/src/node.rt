@@ -1,4 +1,6 @@
 // The steps of a path.
+ghost use Rattle.std.specs.Prelude.{◌≡◌, ◌≢◌, true, false};
+
 use sonic_input::FastStr;
 
 /// One step of a path: a key of an object, or an index of an array.
@@ -12,7 +14,7 @@ pub enum PointerNode<'p> {
 }
 
 impl<'p> PointerNode<'p> {
-    ghost use Rattle.std.specs.Prelude.{◌≡◌, true, false, IfSome, IfNone};
+    ghost use Rattle.std.specs.Prelude.{◌≡◌, ◌≢◌, true, false, IfSome, IfNone};
     ghost use Rattle.sonic_text.specs.Paths.{key, index};
     ghost use Rattle.sonic_pointer.specs.Nodes.{node_of, is_key};
 
@@ -50,6 +52,37 @@ impl<'p> PointerNode<'p> {
             PointerNode::Index(_) => false,
         }
     }
+
+    // Whether it is the key of these bytes.
+    #[inline(always)]
+    pub(crate) fn is_key_of(&self, bytes: &[u8]) -> bool
+        ensures same { result ≡ true → node_of self.now ≡ key bytes.now }
+        ensures other { result ≡ false → node_of self.now ≢ key bytes.now }
+    {
+        match self {
+            PointerNode::Key(text) => are_same(text.as_bytes(), bytes),
+            PointerNode::Index(_) => false,
+        }
+    }
+}
+
+// Whether two lists of bytes are the same, of which most have few bytes.
+#[inline(always)]
+fn are_same(left: &[u8], right: &[u8]) -> bool
+    ensures same { result ≡ true → left.now ≡ right.now }
+    ensures other { result ≡ false → left.now ≢ right.now }
+{
+    if left.len() != right.len() {
+        return false;
+    }
+    let mut n = 0;
+    while n < left.len() {
+        if left[n] != right[n] {
+            return false;
+        }
+        n += 1;
+    }
+    true
 }
 
 impl<'p> From<usize> for PointerNode<'p> {

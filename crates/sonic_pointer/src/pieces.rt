@@ -1,5 +1,5 @@
 // Lists of numbers that grow at any position.
-ghost use Rattle.std.specs.Prelude.{◌≡◌, ◌+◌, ◌^◌, ◌<◌, ◌≤◌, [], ◌++◌, OnOk, OnErr, length, map, take, drop, slice_get};
+ghost use Rattle.std.specs.Prelude.{◌≡◌, ◌+◌, ◌^◌, ◌<◌, ◌≤◌, [], ◌++◌, IfSome, OnOk, OnErr, length, map, take, drop, slice_get};
 ghost use Rattle.std.specs.List.{All, insert};
 ghost use Rattle.sonic_pointer.specs.Internal.Pieces.{numbers_of, raised, AreStarts, IsHolder};
 
@@ -66,6 +66,17 @@ impl Pieces {
         let after = i - self.first.len();
         let piece = &self.more[holder(&self.more, after)];
         piece.numbers[after - piece.start]
+    }
+
+    // All numbers, where the first piece has them.
+    #[inline(always)]
+    pub(crate) fn in_one_piece(&self) -> Option<&[usize]>
+        ensures { IfSome result (λ numbers. numbers.now ≡ self.now) }
+    {
+        if !self.more.is_empty() {
+            return None;
+        }
+        Some(self.first.as_slice())
     }
 
     pub(crate) fn first(&self) -> Option<usize>

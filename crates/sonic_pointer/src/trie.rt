@@ -1,6 +1,6 @@
 // A tree as its calls read it.
-ghost use Rattle.std.specs.Prelude.{◌≡◌, ◌<◌, ◌↔◌, IsTrue, IfOk, IfErr, IfSome, IfNone, Some, length, slice_get};
-ghost use Rattle.sonic_text.specs.Paths.{Node, Path};
+ghost use Rattle.std.specs.Prelude.{◌≡◌, ◌≢◌, ℕ, ◌<◌, ◌↔◌, IsTrue, IfOk, IfErr, IfSome, IfNone, Some, length, slice_get};
+ghost use Rattle.sonic_text.specs.Paths.{Node, Path, key};
 ghost use Rattle.sonic_pointer.specs.Nodes.{node_of};
 ghost use Rattle.sonic_pointer.specs.Paths.{HasNextNode, IsMixed};
 ghost use Rattle.sonic_pointer.specs.Internal.Tries.{entry_at, prefix_at, label_at, IsChildVertex, IsGap};
@@ -36,6 +36,7 @@ impl<'t> Trie<'t> {
     ghost use Rattle.sonic_pointer.specs.Internal.TrieFields.{entries_of, HoldsTree, trie_spots, trie_labels, AreKids, HasOtherKind, IsInsertionPoint};
 
     // The vertex with this number, 0 for the root.
+    #[inline(always)]
     pub(crate) fn vertex(&self, at: usize) -> &'t Vertex
         requires { at < length (entries_of self.now) }
         ensures { result.now ≡ entry_at (entries_of self.now) at }
@@ -48,6 +49,7 @@ impl<'t> Trie<'t> {
     }
 
     // The node by which a child follows its parent.
+    #[inline(always)]
     pub(crate) fn label(&self, at: usize) -> PointerNode<'t>
         requires trie { HoldsTree self.now }
         requires step { (prefix : Path) × IsChildVertex (trie_spots self.now) prefix at }
@@ -59,6 +61,7 @@ impl<'t> Trie<'t> {
     }
 
     // The numbers of the children of the vertex with this number.
+    #[inline(always)]
     pub(crate) fn children(&self, at: usize) -> &'t Pieces
         requires trie { HoldsTree self.now }
         requires inside { at < length (entries_of self.now) }
@@ -69,6 +72,7 @@ impl<'t> Trie<'t> {
     }
 
     // The node of the first child of the vertex with this number.
+    #[inline(always)]
     pub(crate) fn first(&self, at: usize) -> Option<PointerNode<'t>>
         requires trie { HoldsTree self.now }
         requires inside { at < length (entries_of self.now) }
@@ -84,6 +88,7 @@ impl<'t> Trie<'t> {
     }
 
     // The number of the child with this node, or where it would go.
+    #[inline(always)]
     pub(crate) fn search(&self, at: usize, target: &Target<'_>) -> Result<usize, usize>
         requires trie { HoldsTree self.now }
         requires inside { at < length (entries_of self.now) }
@@ -105,6 +110,24 @@ impl<'t> Trie<'t> {
             }
         }
         Err(low)
+    }
+
+    // The number of the child with the key of these bytes, of children that are few: each is looked at.
+    #[inline(always)]
+    pub(crate) fn look_through(&self, at: usize, children: &[usize], bytes: &[u8]) -> Option<usize>
+        requires trie { HoldsTree self.now }
+        requires children { AreKids self.now at children.now }
+        ensures some { IfSome result (λ i. slice_get (trie_labels self.now at) i ≡ Some (key bytes.now)) }
+        ensures none { IfNone result ((k : ℕ) → slice_get (trie_labels self.now at) k ≢ Some (key bytes.now)) }
+    {
+        let mut i = 0;
+        while i < children.len() {
+            if self.label(children[i]).is_key_of(bytes) {
+                return Some(i);
+            }
+            i += 1;
+        }
+        None
     }
 
     // Whether some node of the other kind follows the vertex.

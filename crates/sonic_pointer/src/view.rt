@@ -1,6 +1,6 @@
 // Vertices of a tree.
 ghost use Rattle.std.specs.Prelude.{◌≡◌, ◌<◌, ◌∷◌, ◌++◌, ℕ, List, [], Some, IfSome, IfNone, length, slice_get};
-ghost use Rattle.sonic_text.specs.Strings.{IsString, strict};
+ghost use Rattle.sonic_text.specs.Strings.{IsEscapedString, IsString, strict};
 ghost use Rattle.sonic_text.specs.Paths.{Node, key, index};
 ghost use Rattle.sonic_pointer.specs.Nodes.{node_of};
 ghost use Rattle.sonic_pointer.specs.Paths.{HasNextNode, IsOrders, IsChildren};
@@ -12,6 +12,9 @@ use crate::target::Target;
 use crate::trie::Trie;
 use crate::vertex::Vertex;
 use std::marker::Model;
+
+// So many children are looked through faster than searched.
+const FEW: usize = 8;
 
 /// A prefix of the paths in a tree, with the nodes that follow it.
 ///
@@ -59,6 +62,7 @@ impl<'t> TreeView<'t> {
     }
 
     /// The numbers of the paths that end here, rising: those of all equal paths.
+    #[inline(always)]
     pub fn orders(&self) -> &'t [usize]
         ensures { IsOrders self.now.paths self.now.prefix result.now }
     {
@@ -69,6 +73,7 @@ impl<'t> TreeView<'t> {
     /// The number of this prefix among the [`prefixes`](TreeView::prefixes) of the tree, from 0 on.
     ///
     /// What is kept for each prefix stands under it in one list: under 0 what is kept for the root.
+    #[inline(always)]
     pub fn number(&self) -> usize
         ensures { slice_get self.now.prefixes result ≡ Some self.now.prefix }
     {
@@ -78,6 +83,7 @@ impl<'t> TreeView<'t> {
     /// How many different prefixes the paths of the tree have, the empty one among them.
     ///
     /// The paths `["a", 1]` and `["a"]` have three: the root's, `["a"]` and `["a", 1]`.
+    #[inline(always)]
     pub fn prefixes(&self) -> usize
         ensures count { result ≡ length self.now.prefixes }
         ensures one { HaveOneNumber self.now.prefixes }
@@ -88,6 +94,7 @@ impl<'t> TreeView<'t> {
     /// What follows here.
     ///
     /// After the paths `["a", 1]` and `["a"]` it is `Keys` for the root and `Indexes` for `["a"]`.
+    #[inline(always)]
     pub fn branch(&self) -> Branch
         ensures { IsBranch self.now.paths self.now.prefix result }
     {
@@ -99,6 +106,7 @@ impl<'t> TreeView<'t> {
     }
 
     /// How many different nodes follow here.
+    #[inline(always)]
     pub fn count(&self) -> usize
         ensures count { result ≡ length self.now.children }
         ensures children { IsChildren self.now.paths self.now.prefix self.now.children }
@@ -107,6 +115,7 @@ impl<'t> TreeView<'t> {
     }
 
     /// One of the nodes that follow, with its vertex.
+    #[inline(always)]
     pub fn child(&self, i: usize) -> (PointerNode<'t>, TreeView<'t>)
         requires { i < length self.now.children }
         ensures node { slice_get self.now.children i ≡ Some (node_of result.0) }
@@ -124,6 +133,7 @@ impl<'t> TreeView<'t> {
     }
 
     // The number of the child that is looked for, or `None`.
+    #[inline(always)]
     fn number_of(&self, target: &Target<'_>) -> Option<usize>
         requires { (node : Node) × IsTarget target.now node }
         ensures some { IfSome result (λ i. (node : Node) → IsTarget target.now node
@@ -149,6 +159,43 @@ impl<'t> TreeView<'t> {
             → ¬ HasNextNode self.now.paths self.now.prefix (key b)) }
     {
         self.number_of(&Target::Text { text, start, end })
+    }
+
+    /// The same of a string that has no backslash, whose bytes are those of its key.
+    ///
+    /// The string `"a"` finds the key `a`.
+    pub fn of_plain_key(&self, text: &[u8], start: usize, end: usize) -> Option<usize>
+        requires string { (b : List ℕ) × IsString strict text.now start end b }
+        requires plain { ¬ IsEscapedString text.now start end }
+        ensures some { IfSome result (λ i. (b : List ℕ) → IsString strict text.now start end b
+            → slice_get self.now.children i ≡ Some (key b)) }
+        ensures none { IfNone result ((b : List ℕ) → IsString strict text.now start end b
+            → ¬ HasNextNode self.now.paths self.now.prefix (key b)) }
+    {
+        self.of_bytes(&text[start + 1..end - 1])
+    }
+
+    // The number of the child whose key has these bytes, or `None`.
+    #[inline(always)]
+    fn of_bytes(&self, bytes: &[u8]) -> Option<usize>
+        ensures some { IfSome result (λ i. slice_get self.now.children i ≡ Some (key bytes.now)) }
+        ensures none { IfNone result (¬ HasNextNode self.now.paths self.now.prefix (key bytes.now)) }
+    {
+        match self.trie.children(self.at).in_one_piece() {
+            Some(children) if children.len() <= FEW => {
+                self.trie.look_through(self.at, children, bytes)
+            }
+            _ => self.search_bytes(bytes),
+        }
+    }
+
+    // The same where the children are many.
+    #[inline(never)]
+    fn search_bytes(&self, bytes: &[u8]) -> Option<usize>
+        ensures some { IfSome result (λ i. slice_get self.now.children i ≡ Some (key bytes.now)) }
+        ensures none { IfNone result (¬ HasNextNode self.now.paths self.now.prefix (key bytes.now)) }
+    {
+        self.number_of(&Target::Bytes(bytes))
     }
 
     /// The number of the child that is this index, or `None`.

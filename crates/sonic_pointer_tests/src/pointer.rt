@@ -44,14 +44,20 @@ fn child<'t>(view: &TreeView<'t>, i: usize) -> Option<(PointerNode<'t>, TreeView
     }
 }
 
-// The number of the child whose key the text is a string for.
+// The number of the child whose key the text is a string for. Where that has no backslash it is asked for
+// in both ways, and is none if they differ.
 fn number_of(view: &TreeView<'_>, text: &[u8]) -> Option<usize> {
     if text.is_empty() || text[0] != b'"' {
         return None;
     }
-    match string_end(text, 0, false) {
-        Ok(end) => view.of_key(text, 0, end.end),
-        Err(_) => None,
+    let Ok(end) = string_end(text, 0, false) else {
+        return None;
+    };
+    let found = view.of_key(text, 0, end.end);
+    if end.escaped || found == view.of_plain_key(text, 0, end.end) {
+        found
+    } else {
+        None
     }
 }
 

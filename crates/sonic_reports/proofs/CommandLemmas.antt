@@ -2,7 +2,7 @@
 use Rattle.std.proofs.Common.{◌≡◌, ◌≢◌, ◌⊎◌, inl, inr, ℕ, ◌<◌, ◌≤◌, Bool, true, false, List, [], ◌∷◌, length, map, get_or, codes, arith, refl, sym, ap, ◌∙◌}
 use Rattle.std.proofs.lemmas.Bool.{cases_lt}
 use Rattle.std.proofs.lemmas.Fmt.{decimal_is_IsNumeral, parse-decimal}
-use Rattle.std.specs.Prelude.{Ok, not}
+use Rattle.std.specs.Prelude.{◌^◌, Ok, not}
 use Rattle.std.specs.declared.result.Result.{Result}
 use Rattle.std.specs.Fmt.{decimal}
 use Rattle.std.specs.Str.Parse.{digits_value, ParsesUnsigned}
@@ -12,9 +12,9 @@ use Rattle.sonic_reports.specs.declared.commands.Command.{Command}
 use Rattle.std.proofs.lemmas.Slice.Eq.{bytes_eq-Decides}
 use Rattle.std.specs.Bool.{Decides}
 use Rattle.std.specs.Str.{bytes_eq}
-use Rattle.sonic_reports.specs.declared.commands.Command.TheVariants.{Get, List as Items, Edit, Fill, Fast, Lines, Gen}
-use Rattle.sonic_reports.specs.Commands.{Asks, IsListed, Reads, rule_word, most_objects}
-use Rattle.sonic_reports.specs.Commands.Asks.{no_word, get_word, list_word, edit_word, fill_word, fast_word, lines_word, gen_words, keys_words}
+use Rattle.sonic_reports.specs.declared.commands.Command.TheVariants.{Get, List as Items, Edit, Fill, Fast, Indent, Index, Lines, Min, Gen}
+use Rattle.sonic_reports.specs.Commands.{Asks, IsListed, Reads, rule_word, most_objects, most_blanks}
+use Rattle.sonic_reports.specs.Commands.Asks.{no_word, get_word, list_word, edit_word, fill_word, fast_word, indent_words, index_word, lines_word, min_word, gen_words, keys_words}
 
 -- no words are none
 pub no_words : {A : Type 0} (f : A → List ℕ) (words : List A) → length words < 1 → map f words ≡ []
@@ -46,7 +46,7 @@ three_words f (w ∷ v ∷ u ∷ []) word next last low high e d c = rw (e, d, c
 three_words f (w ∷ v ∷ u ∷ t ∷ ws) word next last low high e d c = absurd (omega arith)
 
 -- one word that asks for a command is its name
-pub only_named : {word : List ℕ} → IsListed (word ∷ []) → (word ≡ codes "get") ⊎ (word ≡ codes "list") ⊎ (word ≡ codes "edit") ⊎ (word ≡ codes "fill") ⊎ (word ≡ codes "fast") ⊎ (word ≡ codes "lines")
+pub only_named : {word : List ℕ} → IsListed (word ∷ []) → (word ≡ codes "get") ⊎ (word ≡ codes "list") ⊎ (word ≡ codes "edit") ⊎ (word ≡ codes "fill") ⊎ (word ≡ codes "fast") ⊎ (word ≡ codes "index") ⊎ (word ≡ codes "lines") ⊎ (word ≡ codes "min")
 only_named (_, no_word e) = absurd cc
 only_named (_, get_word e) = inl cc
 only_named (_, keys_words e) = absurd cc
@@ -54,17 +54,28 @@ only_named (_, list_word e) = inr (inl cc)
 only_named (_, edit_word e) = inr (inr (inl cc))
 only_named (_, fill_word e) = inr (inr (inr (inl cc)))
 only_named (_, fast_word e) = inr (inr (inr (inr (inl cc))))
-only_named (_, lines_word e) = inr (inr (inr (inr (inr cc))))
+only_named (_, index_word e) = inr (inr (inr (inr (inr (inl cc)))))
+only_named (_, lines_word e) = inr (inr (inr (inr (inr (inr (inl cc))))))
+only_named (_, min_word e) = inr (inr (inr (inr (inr (inr (inr cc))))))
+only_named (_, indent_words e h) = absurd cc
 only_named (_, gen_words e l h) = absurd cc
 
--- a text is the decimal of this number, which is in the range of `gen`
-record IsCount (text : List ℕ) (n : ℕ) : Type 0 where
-  is_decimal : text ≡ decimal n
-  least : 1 ≤ n
-  most : n ≤ most_objects
+-- a text is the decimal of this number, which is in a range
+record IsDecimalIn (least most : ℕ) (text : List ℕ) (n : ℕ) : Type 0 where
+  is : text ≡ decimal n
+  from : least ≤ n
+  to : n ≤ most
 
--- two words that ask for a command are `gen` and such a text
-only_counted : {word next : List ℕ} → IsListed (word ∷ next ∷ []) → (word ≡ codes "gen") × ((n : ℕ) × IsCount next n)
+-- the range of `gen`, and of `indent`
+abbrev IsCount : List ℕ → ℕ → Type 0
+IsCount = IsDecimalIn 1 most_objects
+
+abbrev IsWidth : List ℕ → ℕ → Type 0
+IsWidth = IsDecimalIn 0 most_blanks
+
+-- two words that ask for a command are `gen` or `indent` and such a text
+only_counted : {word next : List ℕ} → IsListed (word ∷ next ∷ [])
+    → ((word ≡ codes "gen") × ((n : ℕ) × IsCount next n)) ⊎ ((word ≡ codes "indent") × ((n : ℕ) × IsWidth next n))
 only_counted (_, no_word e) = absurd cc
 only_counted (_, get_word e) = absurd cc
 only_counted (_, keys_words e) = absurd cc
@@ -72,8 +83,11 @@ only_counted (_, list_word e) = absurd cc
 only_counted (_, edit_word e) = absurd cc
 only_counted (_, fill_word e) = absurd cc
 only_counted (_, fast_word e) = absurd cc
+only_counted (_, index_word e) = absurd cc
 only_counted (_, lines_word e) = absurd cc
-only_counted (_, gen_words {n} e l h) = (cc, (n, record { is_decimal = cc; least = l; most = h }))
+only_counted (_, min_word e) = absurd cc
+only_counted (_, indent_words {n} e h) = inr (cc, (n, record { is = cc; from = omega arith; to = h }))
+only_counted (_, gen_words {n} e l h) = inl (cc, (n, record { is = cc; from = l; to = h }))
 
 -- three words that ask for a command are `get`, `--keys` and the name of a rule
 only_ruled : {word next last : List ℕ} → IsListed (word ∷ next ∷ last ∷ [])
@@ -85,7 +99,10 @@ only_ruled (_, list_word e) = absurd cc
 only_ruled (_, edit_word e) = absurd cc
 only_ruled (_, fill_word e) = absurd cc
 only_ruled (_, fast_word e) = absurd cc
+only_ruled (_, index_word e) = absurd cc
 only_ruled (_, lines_word e) = absurd cc
+only_ruled (_, min_word e) = absurd cc
+only_ruled (_, indent_words e h) = absurd cc
 only_ruled (_, gen_words e l h) = absurd cc
 
 -- so they ask for none by another word
@@ -113,7 +130,10 @@ four_unlisted word next last more words (_, list_word e) = absurd cc
 four_unlisted word next last more words (_, edit_word e) = absurd cc
 four_unlisted word next last more words (_, fill_word e) = absurd cc
 four_unlisted word next last more words (_, fast_word e) = absurd cc
+four_unlisted word next last more words (_, index_word e) = absurd cc
 four_unlisted word next last more words (_, lines_word e) = absurd cc
+four_unlisted word next last more words (_, min_word e) = absurd cc
+four_unlisted word next last more words (_, indent_words e h) = absurd cc
 four_unlisted word next last more words (_, gen_words e l h) = absurd cc
 
 -- so do words of such a number
@@ -157,47 +177,73 @@ word_listed word =
     or_name (codes "edit") Edit edit_word (λ edit.
     or_name (codes "fill") Fill fill_word (λ fill.
     or_name (codes "fast") Fast fast_word (λ fast.
+    or_name (codes "index") Index index_word (λ index.
     or_name (codes "lines") Lines lines_word (λ lines.
+    or_name (codes "min") Min min_word (λ min.
     inr (λ l. elim (only_named l) [
       | inl e ↦ get e
       | inr (inl e) ↦ list e
       | inr (inr (inl e)) ↦ edit e
       | inr (inr (inr (inl e))) ↦ fill e
       | inr (inr (inr (inr (inl e)))) ↦ fast e
-      | inr (inr (inr (inr (inr e)))) ↦ lines e
-    ])))))))
+      | inr (inr (inr (inr (inr (inl e))))) ↦ index e
+      | inr (inr (inr (inr (inr (inr (inl e)))))) ↦ lines e
+      | inr (inr (inr (inr (inr (inr (inr e)))))) ↦ min e
+    ])))))))))
+
+-- the words of `indent` ask for no more blanks than it takes
+pub width_within : {words : List (List ℕ)} {n : ℕ} → Asks words (Indent n) → n ≤ most_blanks
+width_within (indent_words e most) = most
 
 -- the number that digits write is the one whose decimal they are
-pub value_of_decimal : (n : ℕ) → n ≤ most_objects → digits_value 10 (decimal n) ≡ n
-value_of_decimal n most = (decimal_is_IsNumeral n (omega arith)).1
+pub value_of_decimal : (n : ℕ) → n < 2 ^ 32 → digits_value 10 (decimal n) ≡ n
+value_of_decimal n small = (decimal_is_IsNumeral n (omega arith)).1
+
+-- numbers with one decimal are the same
+pub decimal_one : (m n : ℕ) → m < 2 ^ 32 → n < 2 ^ 32 → decimal m ≡ decimal n → m ≡ n
+decimal_one m n small low e = sym (value_of_decimal m small) ∙ ap (digits_value 10) e ∙ value_of_decimal n low
 
 -- such a text is parsed as the number
-pub parsed_count : {E : Type 0} {text : List ℕ} {n : ℕ} (r : Result ℕ E) → text ≡ decimal n → n ≤ most_objects → ParsesUnsigned 32 10 text r → r ≡ Ok n
-parsed_count {text = text} {n} r e most p = parse-decimal 32 n text r (omega arith) (omega arith) e p
+pub parsed_number : {E : Type 0} {text : List ℕ} {n : ℕ} (r : Result ℕ E) → text ≡ decimal n → n < 2 ^ 32 → ParsesUnsigned 32 10 text r → r ≡ Ok n
+parsed_number {text = text} {n} r e small p = parse-decimal 32 n text r (omega arith) (omega arith) e p
 
--- a text is the decimal of a number in the range of `gen`, or of none
-count_or_not : (text : List ℕ) → ((n : ℕ) × IsCount text n) ⊎ ((n : ℕ) → ¬ IsCount text n)
-count_or_not text =
+-- a text is the decimal of a number in a range, or of none
+decimal_or_not : (least most : ℕ) → most < 2 ^ 32 → (text : List ℕ) → ((n : ℕ) × IsDecimalIn least most text n) ⊎ ((n : ℕ) → ¬ IsDecimalIn least most text n)
+decimal_or_not least most small text =
     let n = digits_value 10 text in
-    let only : (m : ℕ) → IsCount text m → n ≡ m = λ m c. ap (digits_value 10) c.is_decimal ∙ value_of_decimal m c.most in
+    let only : (m : ℕ) → IsDecimalIn least most text m → n ≡ m = λ m c. let to = c.to in ap (digits_value 10) c.is ∙ value_of_decimal m (omega (arith, to, small)) in
     elim (is_name text (decimal n)) [
-      | inr other ↦ inr (λ m c. other (c.is_decimal ∙ sym (ap decimal (only m c))))
-      | inl e ↦ elim (cases_lt n 1) [
-        | inl low ↦ inr (λ m c. let same = only m c in let l = c.least in omega (arith, same, l, low))
-        | inr least ↦ elim (cases_lt most_objects n) [
-          | inl high ↦ inr (λ m c. let same = only m c in let h = c.most in omega (arith, same, h, high))
-          | inr most ↦ inl (n, record { is_decimal = e; least = least; most = most })
+      | inr other ↦ inr (λ m c. other (c.is ∙ sym (ap decimal (only m c))))
+      | inl e ↦ elim (cases_lt n least) [
+        | inl low ↦ inr (λ m c. let same = only m c in let l = c.from in omega (arith, same, l, low))
+        | inr from ↦ elim (cases_lt most n) [
+          | inl high ↦ inr (λ m c. let same = only m c in let h = c.to in omega (arith, same, h, high))
+          | inr to ↦ inl (n, record { is = e; from = from; to = to })
         ]
       ]
     ]
 
+-- `gen` and a text ask for a command or not
+gen_listed : (next : List ℕ) → IsListed (codes "gen" ∷ next ∷ []) ⊎ ¬ IsListed (codes "gen" ∷ next ∷ [])
+gen_listed next = elim (decimal_or_not 1 most_objects (omega arith) next) [
+  | inl (n, c) ↦ inl (Gen n, gen_words (rw c.is refl) c.from c.to)
+  | inr none ↦ inr (λ l. elim (only_counted l) [ inl (e, (n, c)) ↦ none n c | inr (e, other) ↦ absurd cc ])
+]
+
+-- and `indent` and a text
+indent_listed : (next : List ℕ) → IsListed (codes "indent" ∷ next ∷ []) ⊎ ¬ IsListed (codes "indent" ∷ next ∷ [])
+indent_listed next = elim (decimal_or_not 0 most_blanks (omega arith) next) [
+  | inl (n, c) ↦ inl (Indent n, indent_words (rw c.is refl) c.to)
+  | inr none ↦ inr (λ l. elim (only_counted l) [ inl (e, other) ↦ absurd cc | inr (e, (n, c)) ↦ none n c ])
+]
+
 -- two words ask for a command or not
 counted_listed : (word next : List ℕ) → IsListed (word ∷ next ∷ []) ⊎ ¬ IsListed (word ∷ next ∷ [])
 counted_listed word next = elim (is_name word (codes "gen")) [
-  | inr other ↦ inr (λ l. other (only_counted l).0)
-  | inl e ↦ elim (count_or_not next) [
-    | inl (n, c) ↦ inl (Gen n, gen_words (rw (e, c.is_decimal) refl) c.least c.most)
-    | inr none ↦ inr (λ l. let (n, c) = (only_counted l).1 in none n c)
+  | inl e ↦ rw e (gen_listed next)
+  | inr first ↦ elim (is_name word (codes "indent")) [
+    | inl e ↦ rw e (indent_listed next)
+    | inr second ↦ inr (λ l. elim (only_counted l) [ inl (e, n) ↦ first e | inr (e, n) ↦ second e ])
   ]
 ]
 
@@ -208,7 +254,10 @@ reads_or_gen Items = inl (λ n e. absurd cc)
 reads_or_gen Edit = inl (λ n e. absurd cc)
 reads_or_gen Fill = inl (λ n e. absurd cc)
 reads_or_gen Fast = inl (λ n e. absurd cc)
+reads_or_gen (Indent width) = inl (λ n e. absurd cc)
+reads_or_gen Index = inl (λ n e. absurd cc)
 reads_or_gen Lines = inl (λ n e. absurd cc)
+reads_or_gen Min = inl (λ n e. absurd cc)
 reads_or_gen (Gen n) = inr (n, refl)
 
 -- a word names a rule or none

@@ -2,12 +2,12 @@
 use Rattle.std.proofs.Common.{◌∙◌, sym, inl, inr, refl, ℕ, List, true}
 use Rattle.sonic_error.specs.declared.error.Error.{Error}
 use Rattle.sonic_find.proofs.DocumentLemmas.{reason_one}
-use Rattle.sonic_find.specs.Documents.{IsInvalidError, out_of_memory, invalid as invalid_by}
+use Rattle.sonic_find.specs.Documents.{IsInvalidError}
 use Rattle.sonic_text.specs.Paths.{Path}
 use Rattle.sonic_reports.proofs.EditLemmas.{one_verdict}
 use Rattle.sonic_pointer.specs.declared.rule.KeyRule.TheVariants.{First}
 use Rattle.sonic_reports.proofs.GetLemmas.{Same, SomeText, HaveOneReport, paths_report_one, paths_report_some, input_report_one, input_report_some}
-use Rattle.sonic_reports.proofs.ReplyLemmas.{line_at}
+use Rattle.sonic_reports.proofs.ReplyLemmas.{invalid_reply}
 use Rattle.sonic_reports.specs.Commands.Fast.{ReportsValid, invalid, valid, IsFastReport}
 use Rattle.sonic_reports.specs.Internal.Replies.{text_of, IsErrorReply}
 use Rattle.sonic_reports.specs.declared.reply.Reply.{Reply}
@@ -39,5 +39,4 @@ fast_report_some = input_report_some valid_report_some
 -- the line of the error that says why a document is none is the report
 pub report_invalid : {document : List ℕ} {paths : List Path} {error : Error} {reply : Reply} → IsInvalidError document true error → IsErrorReply error reply
     → ReportsValid document paths (text_of reply) reply.status
-report_invalid (out_of_memory plain) r = absurd (r.line.memory plain.code)
-report_invalid (invalid_by s i at) r = invalid s i (line_at at r.line) r.status
+report_invalid i r = let (s, is, text, status) = invalid_reply i r in invalid s is text status

@@ -1,5 +1,6 @@
 mod CommandLemmas
 mod EditLemmas
+mod EntryLemmas
 mod FastLemmas
 mod FillLemmas
 mod GeneratedLemmas
@@ -10,3 +11,4 @@ mod ReplyLemmas
 mod ReportLemmas
 mod RowLemmas
 mod SessionLemmas
+mod TextLemmas

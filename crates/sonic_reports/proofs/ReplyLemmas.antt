@@ -9,6 +9,8 @@ use Rattle.sonic_error.specs.declared.error.Error.{Error}
 use Rattle.sonic_error.specs.Errors.{IsErrorAt}
 use Rattle.sonic_lazy.specs.declared.lazyvalue.LazyValue.{LazyValue}
 use Rattle.sonic_find.specs.Answers.{Span, spans, error}
+use Rattle.sonic_find.specs.Documents.{IsInvalid, IsInvalidError, out_of_memory as no_memory, invalid as invalid_by}
+use Rattle.sonic_text.specs.declared.stop.Stop.{Stop}
 use Rattle.sonic_lazy.specs.Shown.{Shows, shows_none, shows_span, ShowAll, no_more_values, one_more_value, AreValuesBy}
 use Rattle.sonic_find.specs.Causes.{IsRefusalBy, out_of_memory}
 use Rattle.sonic_pointer.specs.declared.rule.KeyRule.{KeyRule}
@@ -18,7 +20,7 @@ use Rattle.sonic_paths.specs.Lines.{SaysPaths}
 use Rattle.sonic_paths.specs.declared.lines.Head.TheVariants.{Bad}
 use Rattle.sonic_reports.specs.declared.reply.Reply.{Reply}
 use Rattle.sonic_reports.specs.declared.status.Status.{Status}
-use Rattle.sonic_reports.specs.declared.status.Status.TheVariants.{Done}
+use Rattle.sonic_reports.specs.declared.status.Status.TheVariants.{Done, DocumentError}
 use Rattle.sonic_reports.specs.ErrorLines.{line_of_error}
 use Rattle.sonic_reports.specs.Internal.Replies.{text_of, line_of_value, IsLineOf, IsBadLineReply, IsValuesReply, IsErrorReply, IsAnswerReply}
 use Rattle.sonic_reports.specs.Commands.Get.{ReportsPathsBy, IsPathsReport, line_of_entry}
@@ -55,6 +57,12 @@ values_reply result values = if_both result (λ reply text status. record { text
 pub line_at : {document text : List ℕ} {code : ErrorCode} {place : ℕ} {refusal : Error} → IsErrorAt refusal code document place → IsLineOf text refusal
     → text ≡ line_of_error document code place
 line_at at line = rw (← at.code, ← at.line, ← at.column, ← at.offset) line.is
+
+-- the line of the error that says why a document is none is that of its reason
+pub invalid_reply : {document : List ℕ} {refusal : Error} {reply : Reply} → IsInvalidError document true refusal → IsErrorReply refusal reply
+    → (s : Stop) × IsInvalid document true s × (text_of reply ≡ line_of_error document s.code s.place) × (reply.status ≡ DocumentError)
+invalid_reply (no_memory plain) r = absurd (r.line.memory plain.code)
+invalid_reply (invalid_by s is at) r = (s, is, line_at at r.line, r.status)
 
 module _ {document : List ℕ} {paths : List Path} {reply : Reply} {rule : KeyRule} where
   -- the lines of the values are the report of the paths

@@ -6,11 +6,11 @@ use Rattle.std.specs.Str.Parse.{digits_value}
 use Rattle.sonic_pointer.specs.declared.rule.KeyRule.{KeyRule}
 use Rattle.sonic_pointer.specs.declared.rule.KeyRule.TheVariants.{First, Last, Refuse}
 use Rattle.sonic_reports.specs.declared.commands.Command.{Command}
-use Rattle.sonic_reports.specs.declared.commands.Command.TheVariants.{Get, List as Items, Edit, Fill, Fast, Lines, Gen}
+use Rattle.sonic_reports.specs.declared.commands.Command.TheVariants.{Get, List as Items, Edit, Fill, Fast, Indent, Index, Lines, Min, Gen}
 use Rattle.sonic_io.specs.Outside.{input_limit}
 use Rattle.sonic_reports.specs.declared.status.Status.{Status}
 use Rattle.sonic_reports.specs.declared.status.Status.TheVariants.{Done, NoMemory}
-use Rattle.sonic_reports.specs.Commands.{Asks, no_word, get_word, list_word, edit_word, fill_word, fast_word, lines_word, gen_words, keys_words, rule_word, Reads}
+use Rattle.sonic_reports.specs.Commands.{Asks, no_word, get_word, list_word, edit_word, fill_word, fast_word, indent_words, index_word, lines_word, min_word, gen_words, keys_words, rule_word, Reads}
 use Rattle.sonic_reports.specs.Commands.Get.{IsAnswerableInput}
 use Rattle.sonic_reports.specs.Laws.{HasOneReport}
 use Rattle.sonic_reports.specs.Reports.{Writes, IsReport}
@@ -21,8 +21,10 @@ use Rattle.sonic_reports.proofs.FastLemmas.{fast_report_one, fast_report_some}
 use Rattle.sonic_reports.proofs.FillLemmas.{fill_report_one, fill_report_some}
 use Rattle.sonic_reports.proofs.GeneratedLemmas.{gen_report_one, gen_report_some}
 use Rattle.sonic_reports.proofs.GetLemmas.{Same, SomeText, get_report_one, get_report_some, answerable_report}
+use Rattle.sonic_reports.proofs.EntryLemmas.{index_report_one, index_report_some}
 use Rattle.sonic_reports.proofs.ListLemmas.{list_report_one, list_report_some}
 use Rattle.sonic_reports.proofs.RowLemmas.{lines_report_one, lines_report_some}
+use Rattle.sonic_reports.proofs.TextLemmas.{min_report_one, min_report_some, indent_report_one, indent_report_some}
 
 -- the rule that a word names, by its first letter
 abbrev rule_by : List ℕ → KeyRule
@@ -40,7 +42,8 @@ abbrev asked_by : List (List ℕ) → Command
 asked_by words =
     let word = get_or words 0 [] in
     let letter = get_or word 0 0 in
-    if letter == 108 then if get_or word 2 0 == 110 then Lines else Items else if letter == 101 then Edit else if letter == 102 then if get_or word 1 0 == 97 then Fast else Fill
+    if letter == 108 then if get_or word 2 0 == 110 then Lines else Items else if letter == 101 then Edit else if letter == 109 then Min else if letter == 102 then if get_or word 1 0 == 97 then Fast else Fill
+    else if letter == 105 then if get_or word 4 0 == 120 then Index else Indent (digits_value 10 (get_or words 1 []))
     else if get_or word 2 0 == 110 then Gen (digits_value 10 (get_or words 1 [])) else Get (rule_by (get_or words 2 []))
 
 asks_this : {words : List (List ℕ)} {a : Command} → Asks words a → a ≡ asked_by words
@@ -50,9 +53,12 @@ asks_this (list_word e) = sym (ap asked_by e)
 asks_this (edit_word e) = sym (ap asked_by e)
 asks_this (fill_word e) = sym (ap asked_by e)
 asks_this (fast_word e) = sym (ap asked_by e)
+asks_this (indent_words {n} e most) = sym (ap asked_by e ∙ ap Indent (value_of_decimal n (omega arith)))
+asks_this (index_word e) = sym (ap asked_by e)
 asks_this (lines_word e) = sym (ap asked_by e)
+asks_this (min_word e) = sym (ap asked_by e)
 asks_this (keys_words {r} e) = sym (ap asked_by e ∙ ap Get (rule_back r))
-asks_this (gen_words {n} e least most) = sym (ap asked_by e ∙ ap Gen (value_of_decimal n most))
+asks_this (gen_words {n} e least most) = sym (ap asked_by e ∙ ap Gen (value_of_decimal n (omega arith)))
 
 -- words ask for one command
 pub asks_one : {words : List (List ℕ)} {a b : Command} → Asks words a → Asks words b → a ≡ b
@@ -66,7 +72,10 @@ writes_one Items input text other status ending r s = list_report_one r s
 writes_one Edit input text other status ending r s = edit_report_one r s
 writes_one Fill input text other status ending r s = fill_report_one r s
 writes_one Fast input text other status ending r s = fast_report_one r s
+writes_one (Indent width) input text other status ending r s = indent_report_one width r s
+writes_one Index input text other status ending r s = index_report_one r s
 writes_one Lines input text other status ending r s = lines_report_one r s
+writes_one Min input text other status ending r s = min_report_one r s
 writes_one (Gen n) input text other status ending r s = gen_report_one r s
 
 -- of each input
@@ -76,7 +85,10 @@ writes_some Items input = list_report_some input
 writes_some Edit input = edit_report_some input
 writes_some Fill input = fill_report_some input
 writes_some Fast input = fast_report_some input
+writes_some (Indent width) input = indent_report_some width input
+writes_some Index input = index_report_some input
 writes_some Lines input = lines_report_some input
+writes_some Min input = min_report_some input
 writes_some (Gen n) input = gen_report_some n
 
 -- an input that is read is within the limit or not

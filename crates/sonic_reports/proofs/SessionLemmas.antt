@@ -6,7 +6,7 @@ use Rattle.std.specs.Io.KnownBytes.{IsAtEnd}
 use Rattle.sonic_find.specs.Answers.{Answer}
 use Rattle.sonic_pointer.specs.declared.rule.KeyRule.{KeyRule}
 use Rattle.sonic_reports.specs.declared.commands.Command.{Command}
-use Rattle.sonic_reports.specs.declared.commands.Command.TheVariants.{Get, List as Items, Edit, Fill, Fast, Lines, Gen}
+use Rattle.sonic_reports.specs.declared.commands.Command.TheVariants.{Get, List as Items, Edit, Fill, Fast, Indent, Index, Lines, Min, Gen}
 use Rattle.sonic_reports.specs.declared.runs.Request.{Request}
 use Rattle.sonic_reports.specs.declared.runs.Request.TheVariants.{Usage, Large, Input}
 use Rattle.sonic_reports.specs.declared.status.Status.{Status}
@@ -17,6 +17,8 @@ use Rattle.sonic_owned.specs.TreeEdits as edits
 use Rattle.sonic_text.specs.Paths.{Path}
 use Rattle.sonic_text.specs.Trees.{Tree}
 use Rattle.sonic_reports.specs.Commands.Edits.{ReportsMade, refused, made, ReportsEdits, invalid, valid, IsEditReport, bad_edit, edited}
+use Rattle.sonic_reports.specs.Commands.Entries as index
+use Rattle.sonic_reports.specs.Commands.Entries.{IsIndexReport}
 use Rattle.sonic_reports.specs.Commands.Fast as fast
 use Rattle.sonic_reports.specs.Commands.Fast.{ReportsValid, IsFastReport}
 use Rattle.sonic_reports.specs.Commands.Fills.{ReportsFilled, unfilled, filled, IsFillReport, bad_schema, reports_filled}
@@ -28,13 +30,15 @@ use Rattle.sonic_reports.specs.Commands.Get.IsPathsReport.{bad_line, answered}
 use Rattle.sonic_lazy.specs.Items.{Ending, closed, stopped}
 use Rattle.sonic_reports.specs.Commands.Items.{IsListReport, status_of_ending}
 use Rattle.sonic_reports.specs.Commands.Rows.{ReportsRows, with_error, without_error, IsLinesReport}
-use Rattle.sonic_reports.specs.Internal.Requests.{IsAsked, IsAnswered}
+use Rattle.sonic_reports.specs.Commands.Texts as texts
+use Rattle.sonic_reports.specs.Commands.Texts.{ReportsText}
+use Rattle.sonic_reports.specs.Internal.Requests.{HasWidth, IsAsked, IsAnswered}
 use Rattle.sonic_io.specs.Outside.{Gave, Took, TookPrefix, Rose, input_limit}
 use Rattle.sonic_reports.specs.Reports.{Writes, IsReport}
 use Rattle.sonic_reports.specs.Reports.IsReport.{usage, large, written}
 use Rattle.sonic_reports.specs.Sessions.{Session, IsReported, IsOfInput, IsReply, Reports, ReportsOnly, AnswersAll, IsSent, ReadsTooMuch, IsRun}
 use Rattle.sonic_reports.proofs.ReportLemmas.{asks_one, has_one_report, answered_done}
-use Rattle.sonic_reports.proofs.CommandLemmas.{reads_or_gen}
+use Rattle.sonic_reports.proofs.CommandLemmas.{reads_or_gen, width_within}
 
 -- the input that was left, where that is known
 abbrev Known : Option (List ℕ) → List ℕ → Type 0
@@ -130,6 +134,16 @@ rows_status (without_error r h e) = inl e
 lines_status : {input text : List ℕ} {ending : Status} → IsLinesReport input text ending → IsOfInput ending
 lines_status = paths_status (λ stream paths r. rows_status r)
 
+-- a report by `index`
+index_status : {input text : List ℕ} {ending : Status} → IsIndexReport input text ending → IsOfInput ending
+index_status (index.invalid s i t e) = inr (inl e)
+index_status (index.indexed es v a t e) = inl e
+
+-- a report by `min` or `indent`
+text_status : {IsText : List ℕ → Type 0} {input text : List ℕ} {ending : Status} → ReportsText IsText input text ending → IsOfInput ending
+text_status (texts.invalid s i t e) = inr (inl e)
+text_status (texts.valid own v a t e) = inl e
+
 -- a report by `gen`
 gen_status : {n : ℕ} {text : List ℕ} {ending : Status} → IsGenReport n text ending → IsOfInput ending
 gen_status (gen.invalid s i t e) = inr (inl e)
@@ -153,7 +167,10 @@ written_status Items input text ending r = list_status r
 written_status Edit input text ending r = edit_status r
 written_status Fill input text ending r = fill_status r
 written_status Fast input text ending r = fast_status r
+written_status (Indent width) input text ending r = text_status r
+written_status Index input text ending r = index_status r
 written_status Lines input text ending r = lines_status r
+written_status Min input text ending r = text_status r
 written_status (Gen n) input text ending r = gen_status r
 
 -- what `gen` writes is so of each input
@@ -171,6 +188,12 @@ written_reply run {command = command} bytes asks read answers = elim (reads_or_g
   | inr (n, e) ↦ (let i = some_input run.before.left in
       record { input = i.0; known = i.1; report = written asks (λ reads. absurd (reads n e)) (of_each_input bytes i.0 _ _ e answers) })
 ]
+
+-- words ask for a number of blanks that `indent` takes
+pub has_width : (words : List (List ℕ)) (before now : Option (List ℕ)) (request : Request) → IsAsked words before now request → HasWidth request
+has_width words before now Usage asked = tt
+has_width words before now Large asked = tt
+has_width words before now (Input command bytes) (asks, read) = λ n e. let own : Asks words (Indent n) = rw e at asks in width_within own
 
 -- what answers the request is such a report
 pub prepared : (run : Session) {text : List ℕ} {ending : Status} (request : Request) → IsAsked run.words run.before.left run.after.left request

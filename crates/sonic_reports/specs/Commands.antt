@@ -1,11 +1,13 @@
 -- The commands, and the words of a command line that ask for them.
 pub mod Edits
+pub mod Entries
 pub mod Fast
 pub mod Fills
 pub mod Generated
 pub mod Get
 pub mod Items
 pub mod Rows
+pub mod Texts
 use Rattle.std.specs.Prelude.{◌≡◌, ◌≢◌, List, [], ◌∷◌, ℕ, ◌≤◌, codes}
 use Rattle.std.specs.Fmt.{decimal}
 use Rattle.sonic_pointer.specs.declared.rule.KeyRule.{KeyRule}
@@ -23,6 +25,10 @@ rule_word Refuse = codes "refuse"
 abbrev pub most_objects : ℕ
 most_objects = 1000000
 
+-- the most blanks for a level of depth that `indent` writes
+abbrev pub most_blanks : ℕ
+most_blanks = 8
+
 -- the words ask for this command: no word asks for `get` by first equal keys, as the one word `get` does
 pub data Asks (words : List (List ℕ)) : Command → Type 0 where
   no_word : words ≡ [] → Asks words (command.Get First)
@@ -32,7 +38,10 @@ pub data Asks (words : List (List ℕ)) : Command → Type 0 where
   edit_word : words ≡ codes "edit" ∷ [] → Asks words command.Edit
   fill_word : words ≡ codes "fill" ∷ [] → Asks words command.Fill
   fast_word : words ≡ codes "fast" ∷ [] → Asks words command.Fast
+  indent_words : {n : ℕ} → words ≡ codes "indent" ∷ decimal n ∷ [] → n ≤ most_blanks → Asks words (command.Indent n)
+  index_word : words ≡ codes "index" ∷ [] → Asks words command.Index
   lines_word : words ≡ codes "lines" ∷ [] → Asks words command.Lines
+  min_word : words ≡ codes "min" ∷ [] → Asks words command.Min
   gen_words : {n : ℕ} → words ≡ codes "gen" ∷ decimal n ∷ [] → 1 ≤ n → n ≤ most_objects → Asks words (command.Gen n)
 
 -- the words ask for some command

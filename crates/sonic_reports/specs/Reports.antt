@@ -7,12 +7,14 @@ use Rattle.sonic_reports.specs.declared.status.Status.{Status}
 use Rattle.sonic_reports.specs.declared.status.Status.TheVariants.{BadUsage, TooLarge}
 use Rattle.sonic_reports.specs.Commands.{Asks, IsListed, Reads, IsReading}
 use Rattle.sonic_reports.specs.Commands.Edits.{IsEditReport}
+use Rattle.sonic_reports.specs.Commands.Entries.{IsIndexReport}
 use Rattle.sonic_reports.specs.Commands.Fast.{IsFastReport}
 use Rattle.sonic_reports.specs.Commands.Fills.{IsFillReport}
 use Rattle.sonic_reports.specs.Commands.Generated.{IsGenReport}
 use Rattle.sonic_reports.specs.Commands.Get.{IsGetReport}
 use Rattle.sonic_reports.specs.Commands.Items.{IsListReport}
 use Rattle.sonic_reports.specs.Commands.Rows.{IsLinesReport}
+use Rattle.sonic_reports.specs.Commands.Texts.{IsMinReport, IsIndentReport}
 
 -- what each command writes of an input
 abbrev pub Writes : Command → List ℕ → List ℕ → Status → Type 0
@@ -21,7 +23,10 @@ Writes command.List input text status = IsListReport input text status
 Writes command.Edit input text status = IsEditReport input text status
 Writes command.Fill input text status = IsFillReport input text status
 Writes command.Fast input text status = IsFastReport input text status
+Writes (command.Indent width) input text status = IsIndentReport width input text status
+Writes command.Index input text status = IsIndexReport input text status
 Writes command.Lines input text status = IsLinesReport input text status
+Writes command.Min input text status = IsMinReport input text status
 Writes (command.Gen n) input text status = IsGenReport n text status
 
 -- what a run with these words writes of an input

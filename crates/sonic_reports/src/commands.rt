@@ -1,7 +1,7 @@
 //! The commands, and the words of a command line that ask for them.
-ghost use Rattle.std.specs.Prelude.{◌≡◌, ◌≢◌, ◌≤◌, ℕ, ◌∷◌, [], map, string_bytes, IfSome, IfNone};
+ghost use Rattle.std.specs.Prelude.{◌≡◌, ◌≢◌, ◌<◌, ◌≤◌, ◌^◌, ℕ, ◌∷◌, [], map, string_bytes, IfSome, IfNone};
 ghost use Rattle.std.specs.Fmt.{decimal};
-ghost use Rattle.sonic_reports.specs.Commands.{Asks, IsListed, rule_word, most_objects};
+ghost use Rattle.sonic_reports.specs.Commands.{Asks, IsListed, rule_word, most_objects, most_blanks};
 
 // What `edit` writes: what the edits of an input's head make of its document.
 pub(crate) mod edit;
@@ -13,10 +13,14 @@ pub(crate) mod fill;
 pub(crate) mod generated;
 // What `get` writes: where the paths of an input's head lead in its document.
 pub(crate) mod get;
+// What `index` writes: where each value of the document is, that an input is.
+pub(crate) mod index;
 // What `lines` writes: the rows of the lines after an input's head, each a document of its own.
 pub(crate) mod lines;
 // What `list` writes: the items of the container that an input is.
 pub(crate) mod list;
+// What `min` and `indent` write: a text of the document that an input is.
+pub(crate) mod texts;
 
 use sonic_pointer::KeyRule;
 
@@ -34,9 +38,17 @@ pub enum Command {
     Fill,
     /// As `get`, of a document that is valid as a whole. The word `fast` asks for it.
     Fast,
+    /// The document over lines, with so many blanks for each level of depth. The word `indent` and their
+    /// number ask for it.
+    Indent(usize),
+    /// A line for each value of the document: where it is, and in which one. The word `index` asks for
+    /// it.
+    Index,
     /// A row for each line after the head that isn't blank: where the paths lead in it. The word
     /// `lines` asks for it.
     Lines,
+    /// The document without white space outside strings. The word `min` asks for it.
+    Min,
     /// Counts over a document of so many objects, which it makes itself. The word `gen` and their
     /// number ask for it, and no input is read.
     Gen(u32),
@@ -44,6 +56,9 @@ pub enum Command {
 
 /// The most objects that `gen` makes.
 pub const MOST: u32 = 1_000_000;
+
+/// The most blanks for each level of depth that `indent` writes.
+pub const MOST_BLANKS: u32 = 8;
 
 // The command that the words ask for.
 pub(crate) fn asked_command(words: &[String]) -> Option<Command>
@@ -70,7 +85,9 @@ fn named_command(word: &str) -> Option<Command>
         "edit" => Some(Command::Edit),
         "fill" => Some(Command::Fill),
         "fast" => Some(Command::Fast),
+        "index" => Some(Command::Index),
         "lines" => Some(Command::Lines),
+        "min" => Some(Command::Min),
         _ => None,
     }
 }
@@ -111,32 +128,51 @@ fn counted_command(word: &str, count: &str) -> Option<Command>
     ensures asked { IfSome result (λ command. Asks (word.now ∷ count.now ∷ []) command) }
     ensures unlisted { IfNone result (¬ IsListed (word.now ∷ count.now ∷ [])) }
 {
-    if word != "gen" {
-        return None;
-    }
-    match asked_count(count) {
-        Some(count) => Some(Command::Gen(count)),
-        None => None,
+    match word {
+        "gen" => Some(Command::Gen(asked_count(count)?)),
+        "indent" => Some(Command::Indent(asked_width(count)?)),
+        _ => None,
     }
 }
 
-// The number of objects that a text asks for: its decimal has no sign and no zero before it.
+// The number of objects that a text asks for.
 fn asked_count(text: &str) -> Option<u32>
     ensures some { IfSome result (λ n. (text.now ≡ decimal n) × (1 ≤ n) × (n ≤ most_objects)) }
     ensures none { IfNone result ((n : ℕ) → text.now ≡ decimal n → 1 ≤ n → ¬ (n ≤ most_objects)) }
 {
-    let Ok(count) = text.parse::<u32>() else {
-        return None;
-    };
+    let count = decimal_number(text)?;
     if count == 0 {
         return None;
     }
     if MOST < count {
         return None;
     }
-    let mut digits = itoa::Buffer::new();
-    if digits.format(count) != text {
+    Some(count)
+}
+
+// The number of blanks for each level of depth that a text asks for.
+fn asked_width(text: &str) -> Option<usize>
+    ensures some { IfSome result (λ n. (text.now ≡ decimal n) × (n ≤ most_blanks)) }
+    ensures none { IfNone result ((n : ℕ) → text.now ≡ decimal n → ¬ (n ≤ most_blanks)) }
+{
+    let width = decimal_number(text)?;
+    if MOST_BLANKS < width {
         return None;
     }
-    Some(count)
+    Some(width as usize)
+}
+
+// The number whose decimal a text is: it has no sign and no zero before it.
+fn decimal_number(text: &str) -> Option<u32>
+    ensures some { IfSome result (λ n. text.now ≡ decimal n) }
+    ensures none { IfNone result ((n : ℕ) → text.now ≡ decimal n → ¬ (n < 2 ^ 32)) }
+{
+    let Ok(number) = text.parse::<u32>() else {
+        return None;
+    };
+    let mut digits = itoa::Buffer::new();
+    if digits.format(number) != text {
+        return None;
+    }
+    Some(number)
 }

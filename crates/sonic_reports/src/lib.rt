@@ -3,6 +3,8 @@
 
 // The commands, and the words that ask for them.
 mod commands;
+// The line of a value of a document.
+mod entry_line;
 // The line of an error.
 mod error_line;
 // The law of the reports.
@@ -16,7 +18,7 @@ mod status;
 // Runs that no fault stops.
 mod sure;
 
-pub use commands::{Command, MOST};
+pub use commands::{Command, MOST, MOST_BLANKS};
 pub use law::input_has_one_report;
 pub use runs::run;
 pub use status::Status;

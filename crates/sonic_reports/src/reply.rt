@@ -5,10 +5,14 @@ ghost use Rattle.std.specs.List.{flat_map};
 ghost use Rattle.sonic_lazy.specs.LazyValues.{raw_bytes};
 ghost use Rattle.sonic_io.specs.Buffers.{held, TookBut};
 ghost use Rattle.sonic_reports.specs.Internal.Replies.{text_of, text_of_lines, line_of_value, line_of_member};
+ghost use Rattle.sonic_reports.specs.Commands.Entries.{line_of_value_at, lines_from};
+ghost use Rattle.sonic_reports.specs.Internal.EntryLines.{HasKeyWithin};
 ghost use Rattle.sonic_reports.specs.Lines.{counted, line_of_text};
 ghost use Rattle.sonic_io.specs.Outside.{Rose, Took, TookPrefix};
 
+use crate::entry_line::{Numbered, Room, SHORT, key, line, words};
 use crate::status::Status;
+use sonic_index::JsonIndex;
 use sonic_io::{Buffer, Failed, Sink};
 use sonic_lazy::LazyValue;
 use std::alloc::{AllocError, Global};
@@ -24,6 +28,8 @@ pub(crate) enum Lines<'i> {
     Values(Vec<Option<LazyValue<'i>>>),
     // Of members, each with its key.
     Members(Vec<(CowStr<'i>, LazyValue<'i>)>),
+    // Of all values of a document.
+    Entries(JsonIndex<'i>),
     // Lines that are made.
     Made(Vec<u8>),
 }
@@ -121,6 +127,7 @@ fn write_lines<K: Sink>(sink: &mut K, buffer: &mut Buffer, lines: &Lines<'_>) ->
     match lines {
         Lines::Values(values) => write_values(sink, buffer, values),
         Lines::Members(members) => write_members(sink, buffer, members),
+        Lines::Entries(index) => write_entries(sink, buffer, index),
         Lines::Made(bytes) => buffer.write(sink, bytes),
     }
 }
@@ -161,6 +168,62 @@ fn write_entry<K: Sink>(
         Some(value) => write_value(sink, buffer, value),
         None => buffer.write(sink, b"-\n"),
     }
+}
+
+// Writes the lines of all values of a document, through a buffer.
+fn write_entries<K: Sink>(
+    sink: &mut K,
+    buffer: &mut Buffer,
+    index: &JsonIndex<'_>,
+) -> Result<(), Failed>
+    ensures all { OnOk result (TookBut (K.written sink.old) (K.written sink.new)
+        (held buffer.new) (held buffer.old ++ lines_from index.now.text 0 index.now.entries)) }
+    ensures prefix { OnErr result (TookPrefix (K.written sink.old) (K.written sink.new)
+        (held buffer.old ++ lines_from index.now.text 0 index.now.entries)) }
+    ensures calm { OnOk result (K.faults sink.new ≡ K.faults sink.old) }
+    ensures cause { OnErr result (Rose (K.faults sink.old) (K.faults sink.new)) }
+{
+    let mut room = [0u8; 192];
+    for number in 0..index.len() {
+        let Some(entry) = index.entry(number) else {
+            unreachable!();
+        };
+        write_entry_line(
+            sink,
+            buffer,
+            &mut room,
+            index.text(),
+            &Numbered { number, entry },
+        )?;
+    }
+    Ok(())
+}
+
+// Writes the line of a value of a document, through a buffer: as one piece, but for a long key.
+fn write_entry_line<K: Sink>(
+    sink: &mut K,
+    buffer: &mut Buffer,
+    room: &mut Room,
+    text: &[u8],
+    value: &Numbered,
+) -> Result<(), Failed>
+    requires { HasKeyWithin text.now value.now.entry.label }
+    ensures all { OnOk result (TookBut (K.written sink.old) (K.written sink.new)
+        (held buffer.new) (held buffer.old ++ line_of_value_at text.now value.now.number value.now.entry)) }
+    ensures prefix { OnErr result (TookPrefix (K.written sink.old) (K.written sink.new)
+        (held buffer.old ++ line_of_value_at text.now value.now.number value.now.entry)) }
+    ensures calm { OnOk result (K.faults sink.new ≡ K.faults sink.old) }
+    ensures cause { OnErr result (Rose (K.faults sink.old) (K.faults sink.new)) }
+{
+    let key = key(text, value.entry.label);
+    if key.len() <= SHORT {
+        let start = line(room, value, key);
+        return buffer.write(sink, &room[start..]);
+    }
+    let start = words(room, value);
+    buffer.write(sink, &room[start..])?;
+    buffer.write(sink, key)?;
+    buffer.write(sink, b"\n")
 }
 
 // Writes the lines of the members, through a buffer.

@@ -2,11 +2,13 @@
 ghost use Rattle.std.specs.Prelude.{◌≡◌, map, string_bytes, IsOk, IfOk, IsErrOf, IsOkAnd};
 ghost use Rattle.sonic_reports.specs.Commands.{IsListed, IsReading};
 ghost use Rattle.sonic_reports.specs.Internal.Replies.{text_of};
-ghost use Rattle.sonic_reports.specs.Internal.Requests.{IsAsked, IsAnswered};
+ghost use Rattle.sonic_reports.specs.Internal.Requests.{HasWidth, IsAsked, IsAnswered};
 ghost use Rattle.sonic_io.specs.Outside.{Rose};
 ghost use Rattle.sonic_reports.specs.Sessions.{outside_of, session_of, IsRun};
 
-use crate::commands::{Command, asked_command, edit, fast, fill, generated, get, lines, list};
+use crate::commands::{
+    Command, asked_command, edit, fast, fill, generated, get, index, lines, list, texts,
+};
 use crate::reply::{Reply, deliver};
 use crate::status::Status;
 use sonic_io::{Failed, ReadError, Sink, Source, read_all};
@@ -19,11 +21,13 @@ use std::borrow::CowStr;
 /// `get` ask for the command that follows the paths of the input's head, by first equal keys; the three
 /// words `get`, `--keys` and `first`, `last` or `refuse` for the same under that rule; `list` for the items of
 /// the container that the input is, `edit` for the document as the edits of the input's head make it,
-/// `fill` for the schema in the first line as the rest fills it, and `fast` for what `get` asks for
-/// where the document is valid as a whole. The two words `gen` and a number from 1 to `MOST` ask for
-/// counts over a document of so many objects that the command makes itself. All others are answered
-/// by `! usage`. There and for `gen` the source isn't read. All memory is taken before the first byte
-/// is written.
+/// `fill` for the schema in the first line as the rest fills it, `fast` for what `get` asks for where
+/// the document is valid as a whole, `index` for where each of its values is, `lines` for where the
+/// paths of the head lead in each line after it, and `min` for the document without white space. The
+/// two words `indent` and a number up to `MOST_BLANKS` ask for the document over lines, and `gen` and a
+/// number from 1 to `MOST` for counts over a document of so many objects that the command makes itself.
+/// All others are answered by `! usage`. There and for `gen` the source isn't read. All memory is taken
+/// before the first byte is written.
 ///
 /// `IsRun` says for each status what the run has done, over the words and the outside before and
 /// after. Of no words and the input `[2,1]`, an empty line and `[1, null, [20, 300]]` it writes the
@@ -107,6 +111,7 @@ fn prepare<S: Source>(
 
 // Makes the report. All memory that it takes is taken here.
 fn answer<'i>(alloc: Global, request: &'i Request) -> Result<Reply<'i>, AllocError>
+    requires width { HasWidth request.now }
     ensures answered { IfOk result (λ reply. IsAnswered request.now (text_of reply) reply.status) }
     ensures usage { request.now ≡ Request.Usage → IsOk result }
 {
@@ -118,7 +123,10 @@ fn answer<'i>(alloc: Global, request: &'i Request) -> Result<Reply<'i>, AllocErr
         Request::Input(Command::Edit, input) => edit::report(alloc, input),
         Request::Input(Command::Fill, input) => fill::report(alloc, input),
         Request::Input(Command::Fast, input) => fast::report(alloc, input),
+        Request::Input(Command::Indent(width), input) => texts::wide(alloc, input, *width),
+        Request::Input(Command::Index, input) => index::report(alloc, input),
         Request::Input(Command::Lines, input) => lines::report(alloc, input),
+        Request::Input(Command::Min, input) => texts::small(alloc, input),
         Request::Input(Command::Gen(count), _) => generated::report(alloc, *count),
     }
 }

@@ -7,7 +7,7 @@ use std::test::Fail;
 // Words, an input, its report, and the status.
 type Example = (&'static [&'static str], &'static [u8], &'static str, Status);
 
-const EXAMPLES: [Example; 45] = [
+const EXAMPLES: [Example; 52] = [
     (
         &[],
         b"[\"a\"]\n[\"b\",1]\n[\"c\"]\n\n{\"a\": \"x\", \"b\": [2, 30]}",
@@ -242,6 +242,43 @@ const EXAMPLES: [Example; 45] = [
         "! paths 2\n",
         Status::BadLines,
     ),
+    (
+        &["index"],
+        b"{\"a\":[1,{}]}",
+        "0 0 object 0 12 root\n1 0 array 5 11 key \"a\"\n2 1 number 6 7 at 0\n3 1 object 8 10 at 1\n",
+        Status::Done,
+    ),
+    (
+        &["index"],
+        b"[1",
+        "! eof EofWhileParsing 1 2 1\n",
+        Status::DocumentError,
+    ),
+    (
+        &["min"],
+        b"{ \"a\" : [ 1 , \"x \\\" y\" ] }",
+        "{\"a\":[1,\"x \\\" y\"]}\n",
+        Status::Done,
+    ),
+    (
+        &["min"],
+        b"{} x",
+        "! syntax TrailingCharacters 1 4 3\n",
+        Status::DocumentError,
+    ),
+    (
+        &["indent", "2"],
+        b"{\"a\":[1,{}],\"b\":[]}",
+        "{\n  \"a\": [\n    1,\n    {}\n  ],\n  \"b\": []\n}\n",
+        Status::Done,
+    ),
+    (
+        &["indent", "1"],
+        b"[1",
+        "! eof EofWhileParsing 1 2 1\n",
+        Status::DocumentError,
+    ),
+    (&["indent", "9"], b"[1]", "! usage\n", Status::BadUsage),
     (
         &["gen", "2"],
         b"",

@@ -26,6 +26,12 @@ mod format;
 // Runs of `gen`.
 #[cfg(test)]
 mod generated;
+// Runs of `indent`.
+#[cfg(test)]
+mod indents;
+// Runs of `index`.
+#[cfg(test)]
+mod index;
 // Runs of `get --keys`.
 #[cfg(test)]
 mod keys;
@@ -47,6 +53,9 @@ mod rows;
 // Assertions as calls.
 #[cfg(test)]
 mod same;
+// Runs of `min`.
+#[cfg(test)]
+mod small;
 // By which calls a report goes out.
 #[cfg(test)]
 mod writing;

@@ -17,6 +17,7 @@ mod OrdinaryLemmas
 pub mod Outcomes
 pub mod PartItems
 pub mod Parts
+pub mod PlacedLemmas
 pub mod Places
 pub mod PlainStrings
 pub mod Same

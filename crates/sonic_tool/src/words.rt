@@ -9,22 +9,22 @@ use std::io;
 use std::io::ErrorKind;
 
 // The words, by the arguments that the system gives: all but the first, which is the program's name. Where
-// one is no text they are one empty word, which is no command. The only error is that of the system, as
-// running out of memory.
-pub(crate) fn words_of(alloc: Global, arguments: io::Result<Args>) -> io::Result<Vec<String>>
+// one is no text they are one empty word, which is no command. The only error is that memory ran out, which
+// is also the one other error of the system.
+pub(crate) fn words_of(
+    alloc: Global,
+    arguments: io::Result<Args>,
+) -> Result<Vec<String>, AllocError>
     ensures { IfOk result (λ words. IsWords arguments (map string_bytes words.items)) }
 {
     match arguments {
-        Ok(arguments) => {
-            let words = after_name(alloc, arguments)?;
-            Ok(words)
-        }
+        Ok(arguments) => after_name(alloc, arguments),
         Err(error) if error.kind() == ErrorKind::InvalidData => {
             let mut words = Vec::new(alloc);
             words.push(String::new(alloc))?;
             Ok(words)
         }
-        Err(error) => Err(error),
+        Err(_) => Err(AllocError),
     }
 }
 

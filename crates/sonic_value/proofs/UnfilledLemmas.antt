@@ -8,7 +8,7 @@ use Rattle.sonic_error.specs.declared.code.ErrorCode.TheVariants.{InvalidUTF8}
 use Rattle.sonic_error.specs.declared.error.Error.{Error}
 use Rattle.sonic_find.proofs.Utf8Lemmas.{utf8_of_span, utf8_up_to}
 use Rattle.sonic_lazy.specs.Scalars.{scalar_of_tree, container as a_container}
-use Rattle.sonic_owned.proofs.PlacedLemmas.{slice_means}
+use Rattle.sonic_text.proofs.PlacedLemmas.{slice_means}
 use Rattle.sonic_parser.specs.Faults.{IsStopFor, IsErrorOf}
 use Rattle.sonic_parser.specs.declared.fault.Fault.{Fault}
 use Rattle.sonic_parser.specs.declared.fault.Fault.TheVariants.{OutOfMemory, At}

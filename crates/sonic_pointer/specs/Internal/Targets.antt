@@ -9,4 +9,5 @@ use Rattle.sonic_pointer.specs.declared.target.Target.TheVariants as variant
 -- it is looked for
 abbrev pub IsTarget : Target → Node → Type 0
 IsTarget (variant.Node target) node = node ≡ node_of target
+IsTarget (variant.Bytes bytes) node = node ≡ key bytes.now
 IsTarget (variant.Text text start end) node = (b : List ℕ) × IsString strict text.now start end b × (node ≡ key b)

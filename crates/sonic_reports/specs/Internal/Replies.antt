@@ -13,9 +13,10 @@ use Rattle.sonic_error.specs.Errors.{error_code, error_line, error_column, error
 use Rattle.sonic_lazy.specs.declared.lazyvalue.LazyValue.{LazyValue}
 use Rattle.sonic_lazy.specs.LazyValues.{raw_bytes}
 use Rattle.sonic_reports.specs.declared.reply.Lines.{Lines}
-use Rattle.sonic_reports.specs.declared.reply.Lines.TheVariants.{Values, Members, Made}
+use Rattle.sonic_reports.specs.declared.reply.Lines.TheVariants.{Values, Members, Entries, Made}
 use Rattle.sonic_reports.specs.declared.reply.Reply.{Reply}
 use Rattle.sonic_reports.specs.declared.status.Status.TheVariants.{Done, DocumentError, BadLines}
+use Rattle.sonic_reports.specs.Commands.Entries.{lines_from}
 use Rattle.sonic_reports.specs.ErrorLines.{position_text, error_text}
 use Rattle.sonic_reports.specs.Lines.{counted, line_of_text}
 
@@ -32,6 +33,7 @@ line_of_member member = counted (cow_str_bytes member.0) ++ codes " " ++ line_of
 abbrev pub text_of_lines : Lines → List ℕ
 text_of_lines (Values values) = flat_map line_of_value values.items
 text_of_lines (Members members) = flat_map line_of_member members.items
+text_of_lines (Entries index) = lines_from index.text 0 index.entries
 text_of_lines (Made bytes) = bytes.items
 
 -- the bytes of a report

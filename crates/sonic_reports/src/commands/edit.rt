@@ -7,7 +7,7 @@ ghost use Rattle.sonic_owned.specs.Views.{form};
 ghost use Rattle.sonic_reports.specs.Commands.Edits.{IsEditReport, ReportsEdits, ReportsMade};
 ghost use Rattle.sonic_reports.specs.Internal.Replies.{text_of};
 
-use crate::error_line::error_line;
+use crate::error_line::error_reply;
 use crate::reply::Reply;
 use crate::status::Status;
 use sonic_edits::{Edit, EditHead, edit_all, read_edits};
@@ -40,10 +40,7 @@ fn report_edits<'i>(
 {
     match read(alloc, document) {
         Ok(value) => report_made(alloc, value, edits),
-        Err(error) => {
-            let line = error_line(alloc, &error)?;
-            Ok(Reply::one(alloc, Status::DocumentError, line))
-        }
+        Err(error) => error_reply(alloc, &error),
     }
 }
 

@@ -5,7 +5,7 @@ ghost use Rattle.sonic_reports.specs.Internal.Replies.{text_of};
 ghost use Rattle.sonic_paths.specs.Heads.{line_end};
 ghost use Rattle.sonic_value.specs.Views.{tree};
 
-use crate::error_line::error_line;
+use crate::error_line::error_reply;
 use crate::reply::Reply;
 use crate::status::Status;
 use sonic_error::ErrorCode;
@@ -48,9 +48,6 @@ fn report_filled<'i>(alloc: Global, document: &[u8], schema: Value) -> Result<Re
             let text = format!(in alloc; "{value}\n")?;
             Ok(Reply::one(alloc, Status::Done, CowStr::Owned(text)))
         }
-        Err(error) => {
-            let line = error_line(alloc, &error)?;
-            Ok(Reply::one(alloc, Status::DocumentError, line))
-        }
+        Err(error) => error_reply(alloc, &error),
     }
 }

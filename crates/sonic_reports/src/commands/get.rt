@@ -3,7 +3,7 @@ ghost use Rattle.std.specs.Prelude.{IfOk};
 ghost use Rattle.sonic_reports.specs.Commands.Get.{IsGetReport, ReportsPathsBy};
 ghost use Rattle.sonic_reports.specs.Internal.Replies.{text_of, IsBadLineReply, IsAnswerReply};
 
-use crate::error_line::error_line;
+use crate::error_line::error_reply;
 use crate::reply::{Lines, Reply};
 use crate::status::Status;
 use sonic_error::Error;
@@ -59,9 +59,6 @@ pub(crate) fn report_answer<'i>(
             let lines = Lines::Values(values);
             Reply::of_lines(alloc, Status::Done, lines, CowStr::Borrowed(""))
         }
-        Err(error) => {
-            let line = error_line(alloc, &error)?;
-            Ok(Reply::one(alloc, Status::DocumentError, line))
-        }
+        Err(error) => error_reply(alloc, &error),
     }
 }

@@ -48,38 +48,38 @@ follow-returns-then-count-eq0-clause-marks t c =
     let later = value-longer c.in_ok-status.ensures.value in
     rw (c.keep.ensures.kept, c.in_ok-status.ensures.moved) (keeps_later c.requires.marks (omega (arith, later)))
 
-pub follow-returns-then-gathers-clause-err : goal.follow-returns-then-gathers-clause-err
-follow-returns-then-gathers-clause-err t c =
+pub follow_children-returns-then-gathers-clause-err : goal.follow_children-returns-then-gathers-clause-err
+follow_children-returns-then-gathers-clause-err t c =
     IfErr-weaker c.follow_whole.result _ _ (λ fault e. stop_weaker fault (λ s f. stop_anyway f) e) c.follow_whole.ensures.err
 
-pub follow-returns-in_err-items-clause-err : goal.follow-returns-in_err-items-clause-err
-follow-returns-in_err-items-clause-err t c =
-    let p = err_from_is_err_and c.from_residual-in_err-items.result c.from_residual-in_err-items.ensures.1 in
+pub follow_children-returns-in_err-items-clause-err : goal.follow_children-returns-in_err-items-clause-err
+follow_children-returns-in_err-items-clause-err t c =
+    let p = err_from_is_err_and c.from_residual.result c.from_residual.ensures.1 in
     let e = rw c.place-start.ensures.place at c.in_err-items.ensures.err in
     rw (p.1, p.2) (stop_weaker c.in_err-items.field-0.0 (λ s f. asked_stops c.orders-orders.ensures c.is_asked.ensures.asked f) e)
 
-pub follow-returns-then-not-branch-clause-settled : goal.follow-returns-then-not-branch-clause-settled
-follow-returns-then-not-branch-clause-settled t c =
+pub follow_children-returns-then-not-branch-clause-settled : goal.follow_children-returns-then-not-branch-clause-settled
+follow_children-returns-then-not-branch-clause-settled t c =
     let unneeded = c.in_ok-items.ensures.unneeded c.if-not-branch.true in
     early_settled (point_at c.args.walk.now c.args.view.now) c.orders-orders.ensures (c.is_asked.ensures.unasked unneeded.0).1 c.in_ok-items.ensures.settled
 
-pub follow-keep-requires-2-clause-known : goal.follow-keep-requires-2-clause-known
-follow-keep-requires-2-clause-known t c = λ k h. order_within k c.orders-orders.ensures c.in_ok-items.ensures.later.are h
+pub follow_children-keep-requires-clause-known : goal.follow_children-keep-requires-clause-known
+follow_children-keep-requires-clause-known t c = λ k h. order_within k c.orders-orders.ensures c.in_ok-items.ensures.later.are h
 
-pub follow-returns-clause-later : goal.follow-returns-clause-later
-follow-returns-clause-later t c =
+pub follow_children-returns-clause-later : goal.follow_children-returns-clause-later
+follow_children-returns-clause-later t c =
     let value = c.in_ok-items.ensures.whole c.if-not-branch.false in
-    let filled = rw c.place-start.ensures.place at c.keep-2.ensures.filled in
+    let filled = rw c.place-start.ensures.place at c.keep.ensures.filled in
     let later = c.in_ok-items.ensures.later in
-    rw c.keep-2.ensures.kept (later_twice later (filled_later c.requires.comes value c.orders-orders.ensures later.are filled))
+    rw c.keep.ensures.kept (later_twice later (filled_later c.requires.comes value c.orders-orders.ensures later.are filled))
 
-pub follow-returns-clause-settled : goal.follow-returns-clause-settled
-follow-returns-clause-settled t c =
+pub follow_children-returns-clause-settled : goal.follow_children-returns-clause-settled
+follow_children-returns-clause-settled t c =
     let value = c.in_ok-items.ensures.whole c.if-not-branch.false in
-    let filled = rw c.place-start.ensures.place at c.keep-2.ensures.filled in
+    let filled = rw c.place-start.ensures.place at c.keep.ensures.filled in
     let point = point_at c.args.walk.now c.args.view.now in
     let later = filled_later c.requires.comes value c.orders-orders.ensures c.in_ok-items.ensures.later.are filled in
-    rw c.keep-2.ensures.kept (filled_settled point c.requires.comes value c.orders-orders.ensures filled later c.in_ok-items.ensures.settled)
+    rw c.keep.ensures.kept (filled_settled point c.requires.comes value c.orders-orders.ensures filled later c.in_ok-items.ensures.settled)
 
 pub item-returns-in_err-child-clause-err : goal.item-returns-in_err-child-clause-err
 item-returns-in_err-child-clause-err t c =

@@ -5,13 +5,16 @@ use Rattle.sonic_find.specs.Internal.Walk.{IsFollowed, IsWanted, IsLater}
 use Rattle.sonic_find.proofs.walk.+walk.Given as goal
 
 abbrev pub decreases-follow : goal.decreases-follow
-decreases-follow l = 3 * (length l.walk.now.text - l.walk.now.place) + 1
+decreases-follow l = 4 * (length l.walk.now.text - l.walk.now.place) + 2
+
+abbrev pub decreases-follow_children : goal.decreases-follow_children
+decreases-follow_children l = 4 * (length l.walk.now.text - l.walk.now.place) + 1
 
 abbrev pub decreases-items : goal.decreases-items
-decreases-items l = 3 * (length l.walk.now.text - l.walk.now.place)
+decreases-items l = 4 * (length l.walk.now.text - l.walk.now.place)
 
 abbrev pub decreases-item : goal.decreases-item
-decreases-item l = 3 * (length l.walk.now.text - l.walk.now.place) + 2
+decreases-item l = 4 * (length l.walk.now.text - l.walk.now.place) + 3
 
 abbrev pub invariant-items-items : goal.invariant-items-items
 invariant-items-items l = record {

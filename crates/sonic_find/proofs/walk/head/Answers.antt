@@ -1,6 +1,6 @@
-use Rattle.std.proofs.Common.{◌≡◌, ℕ, List, refl, arith}
+use Rattle.std.proofs.Common.{◌≡◌, ◌↔◌, ℕ, Bool, false, IsTrue, List, refl, arith}
 use Rattle.std.specs.Prelude.{Option, Some, None, slice_get, IfSome, IfNone}
-use Rattle.sonic_text.specs.Strings.{IsString, strict}
+use Rattle.sonic_text.specs.Strings.{IsEscapedString, IsString, strict}
 use Rattle.sonic_text.specs.Paths.{key, index}
 use Rattle.sonic_pointer.specs.Paths.{HasNextNode}
 use Rattle.sonic_find.specs.Internal.Walk.{Container, IsChildOf}
@@ -23,28 +23,51 @@ index_child : (a : Container) (o : Option ℕ) (n : ℕ) → IfSome o (λ i. sli
 index_child a (Some c) n some none = some
 index_child a None n some none = none
 
-pub returns-in_err-end-in-Object-clause-err : goal.returns-in_err-end-in-Object-clause-err
-returns-in_err-end-in-Object-clause-err c =
-    let p = err_from_is_err_and c.from_residual.result c.from_residual.ensures.1 in
-    rw (p.1, p.2) (c.in-Object.is, c.in_err-end-in-Object.ensures.err)
+-- no backslash is in a key that was found to have none
+plain_key : (t : List ℕ) (start end : ℕ) (escaped : Bool) → IsTrue escaped ↔ IsEscapedString t start end → escaped ≡ false → ¬ IsEscapedString t start end
+plain_key t start end escaped both none h = absurd (let yes = both.1 h in cc)
 
-pub returns-in_ok-end-in-Object-clause-item : goal.returns-in_ok-end-in-Object-clause-item
-returns-in_ok-end-in-Object-clause-item c =
-    let x = c.in_ok-end-in-Object.ensures.ok in
-    let some = rw (c.text.ensures, c.in_ok-end-in-Object.ensures.moved, c.place-start.ensures.place) at c.of_key.ensures.some in
-    let none = rw (c.text.ensures, c.in_ok-end-in-Object.ensures.moved, c.place-start.ensures.place) at c.of_key.ensures.none in
+pub returns-in_err-key-clause-err : goal.returns-in_err-key-clause-err
+returns-in_err-key-clause-err c =
+    let p = err_from_is_err_and c.from_residual.result c.from_residual.ensures.1 in
+    rw (p.1, p.2) (c.in-Object.is, c.in_err-key.ensures.err)
+
+pub returns-then-key-clause-item : goal.returns-then-key-clause-item
+returns-then-key-clause-item c =
+    let x = c.in_ok-key.ensures.ok in
+    let some = rw (c.text.ensures, c.in_ok-key.ensures.moved, c.place-start.ensures.place) at c.of_key.ensures.some in
+    let none = rw (c.text.ensures, c.in_ok-key.ensures.moved, c.place-start.ensures.place) at c.of_key.ensures.none in
     record {
       node = key x.0;
       head = rw c.in-Object.is record { label = Some x.0; head = key_head x.2; name = refl };
       is = key_child (container_at c.args.walk.now.rule c.args.walk.now.text c.args.level.now) c.of_key.result x.0 x.1 some none;
     }
 
-pub returns-in_ok-end-in-Object-clause-later : goal.returns-in_ok-end-in-Object-clause-later
-returns-in_ok-end-in-Object-clause-later c = omega (arith, key-longer c.in_ok-end-in-Object.ensures.ok.2)
+pub returns-then-key-clause-later : goal.returns-then-key-clause-later
+returns-then-key-clause-later c = omega (arith, key-longer c.in_ok-key.ensures.ok.2)
 
-pub returns-in-Array-clause-item : goal.returns-in-Array-clause-item
-returns-in-Array-clause-item c = record {
+pub of_plain_key-requires-clause-plain : goal.of_plain_key-requires-clause-plain
+of_plain_key-requires-clause-plain c =
+    rw (c.text-2.ensures, c.in_ok-key.ensures.moved, c.place-start.ensures.place)
+    (plain_key _ _ _ c.in_ok-key.key.escaped c.in_ok-key.ensures.escaped c.if-key.false)
+
+pub returns-clause-item : goal.returns-clause-item
+returns-clause-item c =
+    let x = c.in_ok-key.ensures.ok in
+    let some = rw (c.text-2.ensures, c.in_ok-key.ensures.moved, c.place-start.ensures.place) at c.of_plain_key.ensures.some in
+    let none = rw (c.text-2.ensures, c.in_ok-key.ensures.moved, c.place-start.ensures.place) at c.of_plain_key.ensures.none in
+    record {
+      node = key x.0;
+      head = rw c.in-Object.is record { label = Some x.0; head = key_head x.2; name = refl };
+      is = key_child (container_at c.args.walk.now.rule c.args.walk.now.text c.args.level.now) c.of_plain_key.result x.0 x.1 some none;
+    }
+
+pub returns-clause-later : goal.returns-clause-later
+returns-clause-later c = omega (arith, key-longer c.in_ok-key.ensures.ok.2)
+
+pub returns-in_default-clause-item : goal.returns-in_default-clause-item
+returns-in_default-clause-item c = record {
   node = index c.args.passed;
-  head = rw c.in-Array.is record { label = None; head = no_head refl; name = refl };
+  head = rw c.in_default.is record { label = None; head = no_head refl; name = refl };
   is = index_child (container_at c.args.walk.now.rule c.args.walk.now.text c.args.level.now) c.of_index.result c.args.passed c.of_index.ensures.some c.of_index.ensures.none;
 }

@@ -13,6 +13,7 @@ line-preserved c =
       passed =
           one_passed c.line_end-end.result _ row.0 c.in_ok-add_row.field-0 c.if-branch.has_error c.line.invariant.passed c.line_end-end.ensures.line row.1
           c.in_ok-add_row.ensures.error both c.add_row.new.out.items row.2;
+      text = λ e. (c.line_end-end.ensures.text (c.line.invariant.text e)).1;
     }
 
 pub returns-clause-rows : goal.returns-clause-rows

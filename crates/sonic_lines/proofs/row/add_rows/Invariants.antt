@@ -1,4 +1,5 @@
-use Rattle.std.proofs.Common.{◌≤◌, ◌+◌, ◌-◌, length}
+use Rattle.std.proofs.Common.{◌≡◌, ◌≤◌, ◌+◌, ◌-◌, true, drop, length}
+use Rattle.std.specs.Str.{IsUtf8}
 use Rattle.sonic_lines.proofs.RowLemmas.{ArePassed}
 use Rattle.sonic_lines.proofs.row.add_rows.Given as goal
 
@@ -7,6 +8,7 @@ abbrev pub invariant-line : goal.invariant-line
 invariant-line l = record {
   few : l.number ≤ l.lines.before + l.start;
   passed : ArePassed l.tree l.lines.before l.lines.stream.now l.number l.start l.has_error l.fn.out.items l.out.items;
+  text : l.is_text ≡ true → IsUtf8 (drop l.start l.lines.stream.now);
 }
 
 abbrev pub decreases-line : goal.decreases-line

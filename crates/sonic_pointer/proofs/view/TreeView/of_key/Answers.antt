@@ -1,11 +1,8 @@
-use Rattle.std.proofs.Common.{Some, None, Option, IfNone, refl}
+use Rattle.std.proofs.Common.{refl}
 use Rattle.std.proofs.lemmas.Option.{IfSome_then}
 use Rattle.sonic_text.specs.Paths.{key}
+use Rattle.sonic_pointer.proofs.TargetLemmas.{IfNone_then}
 use Rattle.sonic_pointer.proofs.view.TreeView.of_key.Goals as goal
-
-IfNone_then : {X P Q : Type 0} (r : Option X) → IfNone r P → (P → Q) → IfNone r Q
-IfNone_then None h f = f h
-IfNone_then (Some x) h f = tt
 
 pub number_of-requires : goal.number_of-requires
 number_of-requires c = (key c.requires.0, (c.requires.0, c.requires.1, refl))

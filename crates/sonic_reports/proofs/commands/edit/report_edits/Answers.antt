@@ -6,5 +6,5 @@ use Rattle.sonic_reports.specs.Commands.Edits.{valid}
 pub returns-in-Ok : goal.returns-in-Ok
 returns-in-Ok c = if_ok c.report_made.result (λ reply reports. valid c.in-Ok.ensures.valid c.in-Ok.ensures.ok reports) c.report_made.ensures
 
-pub returns-in_ok-line-in-Err : goal.returns-in_ok-line-in-Err
-returns-in_ok-line-in-Err c = rw c.one.ensures.text (report_invalid c.in-Err.ensures.err c.in_ok-line-in-Err.ensures c.one.ensures.status)
+pub returns-in-Err : goal.returns-in-Err
+returns-in-Err c = if_ok c.error_reply.result (λ reply e. report_invalid c.in-Err.ensures.err e.line e.status) c.error_reply.ensures

@@ -1,0 +1,41 @@
+use Rattle.std.proofs.Common.{◌∙◌, arith}
+use Rattle.sonic_input.specs.Slices.{slice_bytes}
+use Rattle.sonic_text.proofs.Values.{value-longer}
+use Rattle.sonic_lazy.proofs.WholeLemmas.{whole_of_part}
+use Rattle.sonic_index.specs.Internal.Cells.{entry_of}
+use Rattle.sonic_index.proofs.CellLemmas.{read_entry}
+use Rattle.sonic_index.proofs.PathLemmas.{cell_within, entry_part}
+use Rattle.sonic_index.proofs.index.JsonIndex.value.Goals as goal
+
+pub with_status-status-requires : goal.with_status-status-requires
+with_status-status-requires c =
+    let v = c.self.inside in
+    let read = cell_within (slice_bytes v.json) v.cells.items c.args.i c.index-cell.result.now (rw (← c.self.view_is) at c.requires) c.index-cell.ensures in
+    rw c.bytes.ensures (entry_part v.cells.items c.self.invariant.entries c.self.invariant.valid c.args.i c.index-cell.result.now read).value
+
+pub part-requires-clause-order : goal.part-requires-clause-order
+part-requires-clause-order c =
+    let v = c.self.inside in
+    let read = cell_within (slice_bytes v.json) v.cells.items c.args.i c.index-cell.result.now (rw (← c.self.view_is) at c.requires) c.index-cell.ensures in
+    let part = entry_part v.cells.items c.self.invariant.entries c.self.invariant.valid c.args.i c.index-cell.result.now read in
+    omega (arith, value-longer part.value)
+
+pub part-requires-clause-inside : goal.part-requires-clause-inside
+part-requires-clause-inside c =
+    let v = c.self.inside in
+    let read = cell_within (slice_bytes v.json) v.cells.items c.args.i c.index-cell.result.now (rw (← c.self.view_is) at c.requires) c.index-cell.ensures in
+    (entry_part v.cells.items c.self.invariant.entries c.self.invariant.valid c.args.i c.index-cell.result.now read).inside
+
+pub whole-requires : goal.whole-requires
+whole-requires c =
+    let v = c.self.inside in
+    let read = cell_within (slice_bytes v.json) v.cells.items c.args.i c.index-cell.result.now (rw (← c.self.view_is) at c.requires) c.index-cell.ensures in
+    let part = entry_part v.cells.items c.self.invariant.entries c.self.invariant.valid c.args.i c.index-cell.result.now read in
+    let status = rw c.bytes.ensures at c.with_status-status.ensures.status in
+    whole_of_part c.part.ensures.bytes part status c.has_escaped.ensures
+
+pub returns : goal.returns
+returns c =
+    let v = c.self.inside in
+    let read = cell_within (slice_bytes v.json) v.cells.items c.args.i c.index-cell.result.now (rw (← c.self.view_is) at c.requires) c.index-cell.ensures in
+    rw (← c.self.view_is) (entry_of (slice_bytes v.json) v.cells.items c.index-cell.result.now, read_entry (slice_bytes v.json) v.cells.items c.args.i read, c.whole.ensures.text ∙ c.part.ensures.bytes)

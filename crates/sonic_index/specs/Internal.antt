@@ -1,0 +1,6 @@
+-- What serves private clauses and invariants alone.
+pub mod Cells
+pub mod IndexViews
+pub mod Items
+pub mod Members
+pub mod Walks

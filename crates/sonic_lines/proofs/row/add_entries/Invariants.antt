@@ -1,8 +1,0 @@
-use Rattle.std.proofs.Common.{◌≡◌, ◌++◌, take}
-use Rattle.sonic_find.specs.Spans.{pairs_of}
-use Rattle.sonic_lines.specs.LineRows.{entries_text}
-use Rattle.sonic_lines.proofs.row.add_entries.Given as goal
-
--- the entries of the slots before are appended
-abbrev pub invariant-loop-number : goal.invariant-loop-number
-invariant-loop-number l = l.out.items ≡ l.fn.out.items ++ entries_text l.line (pairs_of (take l.number l.room))

@@ -1,0 +1,108 @@
+// The entries of a line, where they are short: they are put together from the end to the start.
+ghost use Rattle.std.specs.Prelude.{◌≡◌, ◌+◌, ◌<◌, ◌≤◌, ◌++◌, codes, decimal, drop, length, IfSome, option_map};
+ghost use Rattle.sonic_find.specs.Spans.{pair_of, pairs_of};
+ghost use Rattle.sonic_lines.specs.Internal.Rows.{AreWithin, tab_before};
+ghost use Rattle.sonic_lines.specs.LineRows.{entries_text, entry_text};
+
+use itoa::write_digits;
+use sonic_find::{Room, Span};
+
+// How many bytes there is room for.
+pub(crate) const SHORT: usize = 128;
+
+// What an entry takes beside its text, at most: a tab, a blank, and 20 digits.
+const BESIDE: usize = 22;
+
+// Puts the entries of a line with a tab between two of them, and a line feed, so that they end with
+// the room: where they start, or `None` where they may need more room.
+pub(crate) fn put_entries(short: &mut [u8; SHORT], line: &[u8], room: &Room) -> Option<usize>
+    requires { AreWithin line.now room.now }
+    ensures within { IfSome result (λ start. start ≤ 128) }
+    ensures text { IfSome result (λ start. drop start short.new
+        ≡ entries_text line.now (pairs_of room.now) ++ codes "\n") }
+{
+    let mut at = put(short, SHORT, b"\n");
+    let mut number = room.len();
+    while 0 < number {
+        at = put_tab(short, at, room.len() - number);
+        number -= 1;
+        match put_entry(short, at, line, room.at(number)) {
+            Some(start) => at = start,
+            None => return None,
+        }
+    }
+    Some(at)
+}
+
+// Puts a tab before a place, unless no entry follows.
+#[inline(always)]
+fn put_tab(room: &mut [u8], end: usize, following: usize) -> usize
+    requires room { 0 < end }
+    requires inside { end ≤ length room.old }
+    ensures start { result ≤ end }
+    ensures text { drop result room.new ≡ tab_before following ++ drop end room.old }
+{
+    if following == 0 {
+        return end;
+    }
+    put(room, end, b"\t")
+}
+
+// Puts one entry before a place: where it starts, or `None` where it may not fit with a tab before it.
+#[inline(always)]
+fn put_entry(room: &mut [u8], end: usize, line: &[u8], slot: Option<Span>) -> Option<usize>
+    requires inside { end ≤ length room.old }
+    requires within { IfSome slot (λ span. (span.start ≤ span.end) × (span.end ≤ length line.now)) }
+    ensures start { IfSome result (λ start. (0 < start) × (start ≤ end)) }
+    ensures text { IfSome result (λ start. drop start room.new
+        ≡ entry_text line.now (option_map pair_of slot) ++ drop end room.old) }
+{
+    match slot {
+        Some(Span { start, end: stop }) => put_counted(room, end, &line[start..stop]),
+        None if 1 < end => Some(put(room, end, b"-")),
+        None => None,
+    }
+}
+
+// Puts a text after its length before a place.
+#[inline(always)]
+fn put_counted(room: &mut [u8], end: usize, text: &[u8]) -> Option<usize>
+    requires { end ≤ length room.old }
+    ensures start { IfSome result (λ start. (0 < start) × (start ≤ end)) }
+    ensures text { IfSome result (λ start. drop start room.new
+        ≡ (decimal (length text.now) ++ codes " " ++ text.now) ++ drop end room.old) }
+{
+    if end < BESIDE || end - BESIDE < text.len() {
+        return None;
+    }
+    let at = put(room, end, text);
+    let at = put(room, at, b" ");
+    Some(put_number(room, at, text.len()))
+}
+
+// Puts a number, which mostly has one digit, before a place: where it starts.
+#[inline(always)]
+fn put_number(room: &mut [u8], end: usize, number: usize) -> usize
+    requires room { 21 ≤ end }
+    requires inside { end ≤ length room.old }
+    ensures start { (0 < result) × (result ≤ end) }
+    ensures text { drop result room.new ≡ decimal number ++ drop end room.old }
+{
+    if number < 10 {
+        return put(room, end, &[b'0' + number as u8]);
+    }
+    write_digits(number as u64, room, end)
+}
+
+// Puts bytes before a place: where they start.
+#[inline(always)]
+fn put(room: &mut [u8], end: usize, piece: &[u8]) -> usize
+    requires room { length piece.now ≤ end }
+    requires inside { end ≤ length room.old }
+    ensures start { result + length piece.now ≡ end }
+    ensures text { drop result room.new ≡ piece.now ++ drop end room.old }
+{
+    let start = end - piece.len();
+    room[start..end].copy_from_slice(piece);
+    start
+}

@@ -1,0 +1,15 @@
+use Rattle.std.proofs.Common.{◌≡◌, ◌+◌, ◌-◌, ◌≤◌, ◌++◌, length, take}
+use Rattle.sonic_blocks.specs.Bits.{is_set}
+use Rattle.sonic_min.specs.Internal.Kept.{picked}
+use Rattle.sonic_min.proofs.keep.keep_last.Given as goal
+
+abbrev pub invariant-loop-k : goal.invariant-loop-k
+invariant-loop-k l = record {
+  bytes : take l.end l.room ≡ take l.at l.fn.room ++ picked (is_set l.bits) l.bytes l.k;
+  few : l.end ≤ l.at + l.k;
+  within : l.k ≤ length l.bytes;
+  len : length l.room ≡ length l.fn.room;
+}
+
+abbrev pub decreases-loop-k : goal.decreases-loop-k
+decreases-loop-k l = length l.bytes - l.k

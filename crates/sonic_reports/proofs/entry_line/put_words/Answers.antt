@@ -1,0 +1,7 @@
+use Rattle.std.proofs.Common.{append_assoc}
+use Rattle.sonic_reports.proofs.entry_line.put_words.Goals as goal
+
+pub returns-clause-text : goal.returns-clause-text
+returns-clause-text c =
+    rw (c.put_number.ensures.text, c.put_number-at-3.ensures.text, c.put_type-at.ensures.text, c.put_number-at-2.ensures.text, c.put_number-at.ensures.text, c.put_label-at.ensures.text)
+    (simp append_assoc)

@@ -1,0 +1,135 @@
+// The line of a value of a document, put together from its end to its start.
+ghost use Rattle.std.specs.Prelude.{◌≡◌, ◌+◌, ◌≤◌, ◌++◌, codes, decimal, drop, length};
+ghost use Rattle.sonic_reports.specs.Commands.Entries.{word_of_type, words_of_value};
+ghost use Rattle.sonic_reports.specs.Internal.EntryLines.{HasKeyWithin, key_of_label, word_of_label};
+
+use itoa::write_digits;
+use sonic_error::JsonType;
+use sonic_index::{Entry, Label};
+
+// A value of a document with its number, from 0.
+#[derive(Drop)]
+pub(crate) struct Numbered {
+    pub(crate) number: usize,
+    pub(crate) entry: Entry,
+}
+
+// Room for a line with a key of at most `SHORT` bytes. Five numbers of at most 20 digits and the words take
+// less than 128.
+pub(crate) type Room = [u8; 192];
+
+pub(crate) const SHORT: usize = 63;
+
+// Puts the line of a value, whose key is short, so that it ends with the room: where it starts.
+pub(crate) fn line(room: &mut Room, value: &Numbered, key: &[u8]) -> usize
+    requires { length key.now ≤ 63 }
+    ensures within { result ≤ 192 }
+    ensures text { drop result room.new ≡ (words_of_value value.now.number value.now.entry
+        ++ word_of_label value.now.entry.label) ++ (key.now ++ codes "\n") }
+{
+    let at = put(room, 192, b"\n");
+    let at = put(room, at, key);
+    put_words(room, at, value)
+}
+
+// Puts the words of a value's line, up to its key where it has one, so that they end with the room:
+// where they start.
+pub(crate) fn words(room: &mut Room, value: &Numbered) -> usize
+    ensures within { result ≤ 192 }
+    ensures text { drop result room.new
+        ≡ words_of_value value.now.number value.now.entry ++ word_of_label value.now.entry.label }
+{
+    put_words(room, 192, value)
+}
+
+// Puts the words of a value's line, up to its key where it has one, before a place: where they start.
+#[inline(always)]
+fn put_words(room: &mut [u8], end: usize, value: &Numbered) -> usize
+    requires room { 128 ≤ end }
+    requires inside { end ≤ length room.old }
+    ensures start { result ≤ end }
+    ensures text { drop result room.new ≡ (words_of_value value.now.number value.now.entry
+        ++ word_of_label value.now.entry.label) ++ drop end room.old }
+{
+    let at = put_label(room, end, value.entry.label);
+    let at = put_number(room, at, value.entry.end);
+    let at = put_number(room, at, value.entry.start);
+    let at = put_type(room, at, value.entry.kind);
+    let at = put_number(room, at, value.entry.parent);
+    put_number(room, at, value.number)
+}
+
+// Puts the label without the key before a place: where it starts.
+#[inline(always)]
+fn put_label(room: &mut [u8], end: usize, label: Label) -> usize
+    requires room { 23 ≤ end }
+    requires inside { end ≤ length room.old }
+    ensures start { result ≤ end }
+    ensures near { end ≤ result + 23 }
+    ensures text { drop result room.new ≡ word_of_label label ++ drop end room.old }
+{
+    match label {
+        Label::Root => put(room, end, b"root"),
+        Label::Key { .. } => put(room, end, b"key "),
+        Label::At(number) => {
+            let at = write_digits(number as u64, room, end);
+            put(room, at, b"at ")
+        }
+    }
+}
+
+// Puts the word for a type and a blank before a place: where they start.
+#[inline(always)]
+fn put_type(room: &mut [u8], end: usize, kind: JsonType) -> usize
+    requires room { 8 ≤ end }
+    requires inside { end ≤ length room.old }
+    ensures start { result ≤ end }
+    ensures near { end ≤ result + 8 }
+    ensures text { drop result room.new ≡ word_of_type kind ++ codes " " ++ drop end room.old }
+{
+    match kind {
+        JsonType::Null => put(room, end, b"null "),
+        JsonType::Boolean => put(room, end, b"boolean "),
+        JsonType::Number => put(room, end, b"number "),
+        JsonType::String => put(room, end, b"string "),
+        JsonType::Object => put(room, end, b"object "),
+        JsonType::Array => put(room, end, b"array "),
+    }
+}
+
+// Puts a number and a blank before a place: where they start.
+#[inline(always)]
+fn put_number(room: &mut [u8], end: usize, number: usize) -> usize
+    requires room { 21 ≤ end }
+    requires inside { end ≤ length room.old }
+    ensures start { result ≤ end }
+    ensures near { end ≤ result + 21 }
+    ensures text { drop result room.new ≡ decimal number ++ codes " " ++ drop end room.old }
+{
+    let at = put(room, end, b" ");
+    write_digits(number as u64, room, at)
+}
+
+// Puts bytes before a place: where they start.
+#[inline(always)]
+fn put(room: &mut [u8], end: usize, piece: &[u8]) -> usize
+    requires room { length piece.now ≤ end }
+    requires inside { end ≤ length room.old }
+    ensures start { result + length piece.now ≡ end }
+    ensures text { drop result room.new ≡ piece.now ++ drop end room.old }
+{
+    let start = end - piece.len();
+    room[start..end].copy_from_slice(piece);
+    start
+}
+
+// The key that is the label, with its quotes, or nothing.
+pub(crate) fn key(text: &[u8], label: Label) -> &[u8]
+    requires { HasKeyWithin text.now label }
+    ensures { result.now ≡ key_of_label text.now label }
+{
+    match label {
+        Label::Key { start, end } => &text[start..end],
+        Label::Root | Label::At(_) => b"",
+    }
+}
