@@ -1,26 +1,40 @@
-/* Look-ups in a JSON text (RFC 8259) that is in memory: where paths of keys and indexes lead, without
-   building the document. The calls are proved to tell what the standard says; crates/sonic_c of the
-   repository has their contracts.
+/* Look-ups in a JSON text (RFC 8259) that is in memory: where paths of keys and indexes lead, and what
+   the values are that are found, without building the document. The calls are proved to tell what the
+   standard says; crates/sonic_c of the repository has their contracts, and sonic(3) an example.
 
    What C has to uphold, as no call can check it:
    - A pointer is null only where its length is 0, which is taken as "": that is tested, as what is
-     proved speaks of memory that is there. span and error are never null.
+     proved speaks of memory that is there. A pointer that has no length with it is never null.
    - A length is that of memory that is there, and is below 2^63.
-   - What is written to, spans, *error and room, is initialised, and overlaps nothing else that is given.
+   - What is written to, as *span, spans, *error and room, is initialised, and overlaps nothing else that
+     is given.
    - Nobody writes to the text, or to the paths, while a call runs.
    - sonic_get_unchecked and sonic_get_many_unchecked are called only for a text that sonic_validate
      took, or of which it is known otherwise that it begins with a value in UTF-8.
    - No call is made from a signal handler.
 
-   Nothing is kept between calls, nothing is to be freed, and no pointer is kept. Any number of threads
-   may call at once. The calls take memory by malloc, and give it back before they return. A stack of
-   256 KiB was measured to be enough for each, with paths of 255 nodes; how deep the text is plays no
-   part in it. */
+   Ownership: all memory that is given stays the caller's. No call keeps a pointer, and nothing that a
+   call gives is to be freed: spans are places in the caller's text, and a cursor is the caller's.
+   Memory: where a call takes any, it does so by malloc, and gives it back before it returns; which take
+   none is said with them.
+   Threads: nothing is kept between calls, so any number of threads may call at once, also for one text,
+   a cursor or a room for each.
+   Stack: 256 KiB were measured to be enough for each call, with paths of 255 nodes; how deep the text is
+   plays no part in it.
+   Limits: a path has at most 255 nodes, and an index is below 2^64. How long or deep a text is, and how
+   many paths there are, memory alone limits. */
 #ifndef SONIC_H
 #define SONIC_H
 
 #include <stddef.h>
 #include <stdint.h>
+
+/* The version that this header is of. The name of the shared object, libsonic.so.0, has its first
+   number. */
+#define SONIC_VERSION_MAJOR 0
+#define SONIC_VERSION_MINOR 1
+#define SONIC_VERSION_PATCH 0
+#define SONIC_VERSION "0.1.0"
 
 #ifdef __cplusplus
 extern "C" {
@@ -42,7 +56,8 @@ typedef struct sonic_error {
   size_t offset;
 } sonic_error;
 
-/* What a call comes to. What isn't told is left as it was. */
+/* What a call comes to. What isn't told is left as it was: *span and spans are written where it is
+   SONIC_OK alone, and *error only where the status says so here. */
 enum {
   /* What was asked for is there, and is told. */
   SONIC_OK = 0,
@@ -51,46 +66,139 @@ enum {
   /* There are not as many paths as spans: error->line is the number of paths, and all else in *error
      is 0. */
   SONIC_WRONG_COUNT = 2,
-  /* The path is none; or, of many, error->line is the number of the first line that is none, from 1,
-     and all else in *error is 0. */
+  /* The path is none, and *error is left as it was; or, of many, error->line is the number of the first
+     line that is none, from 1, and all else in *error is 0. */
   SONIC_BAD_LINES = 3,
-  /* Memory ran out. */
-  SONIC_NO_MEMORY = 7
+  /* Memory ran out. The call may be made again, as nothing was changed. */
+  SONIC_NO_MEMORY = 7,
+  /* The value is of another type than the call asks for. */
+  SONIC_WRONG_TYPE = 8,
+  /* The number is no integer that the call can tell. */
+  SONIC_NO_INTEGER = 9,
+  /* No item is left. */
+  SONIC_END = 10
 };
 
-/* Whether the text is one value in UTF-8 with nothing but white space round it. */
+/* The types of values. */
+enum {
+  SONIC_NULL = 0,
+  SONIC_BOOLEAN = 1,
+  SONIC_NUMBER = 2,
+  SONIC_STRING = 3,
+  SONIC_OBJECT = 4,
+  SONIC_ARRAY = 5
+};
+
+/* Whether the text is one value in UTF-8 with nothing but white space round it.
+
+   SONIC_OK: it is, and begins as the calls without a second look ask for.
+   SONIC_DOCUMENT_ERROR: it isn't, and *error says why, and where.
+   SONIC_NO_MEMORY. */
 uint32_t sonic_validate(const uint8_t *json, size_t json_length, sonic_error *error);
 
-/* Where one path leads. The path is a JSON array of keys and indexes, as ["a",1], at most 255, as in all
-   four calls. A path that leads nowhere is SONIC_DOCUMENT_ERROR, also where an object lacks its key. What
-   follows the value in the text may be anything. */
+/* Where one path leads. The path is a JSON array of keys and indexes, as ["a",1]; [] leads to the whole
+   value. Of equal keys the first counts. What follows the value in the text may be anything.
+
+   SONIC_OK: *span has the value.
+   SONIC_DOCUMENT_ERROR: the text is broken before the value ends, or the path leads nowhere, also where an
+   object lacks its key; *error says which.
+   SONIC_BAD_LINES: this is no path, or one of more than 255 nodes.
+   SONIC_NO_MEMORY. */
 uint32_t sonic_get(const uint8_t *json, size_t json_length, const uint8_t *path, size_t path_length,
                    sonic_span *span, sonic_error *error);
 
-/* The same, of a text that is known to begin with a value in UTF-8, without a second look at what is
-   passed: several times as fast. */
+/* The same, with the same statuses, of a text that is known to begin with a value in UTF-8, without a
+   second look at what is passed: several times as fast. */
 uint32_t sonic_get_unchecked(const uint8_t *json, size_t json_length, const uint8_t *path,
                              size_t path_length, sonic_span *span, sonic_error *error);
 
 /* Where many paths lead, by one walk through the text. There is a path on each line, as
    ["a",1]\n["b"]\n, and no blank line among them; spans has span_count elements, one for each. After
    nodes that two lines share both go on with a key, or both with an index: ["a"] and [0] don't go
-   together, and the second of them is SONIC_BAD_LINES. A path whose key an object with members lacks has
-   the span 0, 0; any other that leads nowhere is the error of all, also a key in an object without
-   members. */
+   together, and the second of them is SONIC_BAD_LINES. A path may come twice.
+
+   SONIC_OK: spans has the values, in the order of the lines. A path whose key an object with members
+   lacks has the span 0, 0.
+   SONIC_DOCUMENT_ERROR: the text is broken as far as it is needed, which is to its value's end where a
+   path lacks its key; or a path leads nowhere otherwise, also by a key in an object without members.
+   *error is the error of all.
+   SONIC_WRONG_COUNT: there are more or fewer paths than span_count.
+   SONIC_BAD_LINES: a line is no path, is blank with more after it, or doesn't go with one before it.
+   SONIC_NO_MEMORY. */
 uint32_t sonic_get_many(const uint8_t *json, size_t json_length, const uint8_t *paths,
                         size_t paths_length, sonic_span *spans, size_t span_count, sonic_error *error);
 
-/* The same, of a text that is known to begin with a value in UTF-8: a walk for each path, which is
-   faster for a few. */
+/* The same, with the same statuses, of a text that is known to begin with a value in UTF-8: a walk for
+   each path without a second look, which is faster for a few. */
 uint32_t sonic_get_many_unchecked(const uint8_t *json, size_t json_length, const uint8_t *paths,
                                   size_t paths_length, sonic_span *spans, size_t span_count,
                                   sonic_error *error);
 
+/* What a value is: the calls from here to sonic_items_next take the text of one value, as json + span.start
+   of the length span.end - span.start, or a whole document. White space round it plays no part. A text is
+   SONIC_WRONG_TYPE by its first byte that is no white space, whatever follows. With which no value begins
+   is SONIC_DOCUMENT_ERROR, as a text is that is empty or blank: it ends before a value. Of the type that is
+   asked for, a text that is no value in UTF-8 with nothing but white space round it is
+   SONIC_DOCUMENT_ERROR, with the error that sonic_validate tells of it. */
+
+/* The type of the value that begins the text, one of SONIC_NULL .. SONIC_ARRAY. Its first byte says it, and
+   nothing after that is looked at. It is SONIC_OK or SONIC_DOCUMENT_ERROR, and takes no memory. */
+uint32_t sonic_type(const uint8_t *json, size_t json_length, uint32_t *type, sonic_error *error);
+
+/* The integer that a number is, from 0 to 2^64 - 1. With a fraction, an exponent or a minus sign it is
+   SONIC_NO_INTEGER whatever its value is, as 1.0, 1e3 and -0 are, and so it is above that. Takes no
+   memory. */
+uint32_t sonic_u64(const uint8_t *json, size_t json_length, uint64_t *value, sonic_error *error);
+
+/* The same from -2^63 to 2^63 - 1; -0 is 0. Takes no memory. */
+uint32_t sonic_i64(const uint8_t *json, size_t json_length, int64_t *value, sonic_error *error);
+
+/* The text of a string, in UTF-8, with its escapes undone and with no NUL after it. As much of it as the
+   room takes is written to its start, maybe a part of a character last, and its rest is left as it was.
+   *wanted is the length of all of it, in bytes, so it was cut if that is above room_length; a room of 0 asks
+   for the length alone. No text is longer than its string, quotes included. The text may have a NUL byte in
+   it, from \u0000. Takes memory only for a string with a backslash. */
+uint32_t sonic_string_text(const uint8_t *json, size_t json_length, uint8_t *room, size_t room_length,
+                           size_t *wanted, sonic_error *error);
+
+/* How many elements an array has, or members an object, repeated keys counted each time. All of it is
+   looked at, once. Takes one byte of memory for each container that is open at once inside the items. */
+uint32_t sonic_count(const uint8_t *json, size_t json_length, size_t *count, sonic_error *error);
+
+/* How far the items of an array or an object were gone through. Only the two calls below write to it. It may
+   be copied, and has nothing to be freed. */
+typedef struct sonic_items {
+  size_t place;
+  uint32_t state;
+} sonic_items;
+
+/* An item: its key, with the quotes, or 0, 0 for an element of an array; and its value. Both are spans of the
+   text that the calls are given, which sonic_string_text and the others take. */
+typedef struct sonic_item {
+  sonic_span key;
+  sonic_span value;
+} sonic_item;
+
+/* Begins to go through the items, before the first. It looks at the first byte and at the UTF-8 of the text,
+   whose errors are told before all others. Takes no memory. */
+uint32_t sonic_items_begin(const uint8_t *json, size_t json_length, sonic_items *items, sonic_error *error);
+
+/* The next item, in the order of the text, or SONIC_END after the last one, where nothing but white space
+   follows the container; a key may come twice. What the item needs is looked at, and nothing after it: all
+   calls together read the text once. An error of the text is told in its turn, after the items before it.
+   After SONIC_END and after an error each further call is SONIC_END. After SONIC_NO_MEMORY the cursor is where
+   it was, and the call may be made again. The text has to be the one that sonic_items_begin was given: of any
+   other, and of a cursor that it didn't write, the call says something or other, reads within json_length and
+   writes only to what it is given. Takes one byte of memory for each container that is open at once inside the
+   item. */
+uint32_t sonic_items_next(const uint8_t *json, size_t json_length, sonic_items *items, sonic_item *item,
+                          sonic_error *error);
+
 /* The words of a code, as "Invalid number" of SONIC_CODE_INVALID_NUMBER, in UTF-8 and with no NUL after
-   them. As much of them as the room takes is written to its start, and its rest is left as it was. The
-   length of all of them is returned, as snprintf does, so they were cut if it is above room_length. It
-   is 0 if no code has this number, or if memory ran out; the room is left as it was then. */
+   them. As much of them as the room takes is written to its start, and its rest is left as it was; 128
+   bytes take those of each code. The length of all of them is returned, as snprintf does, so they were
+   cut if it is above room_length. It is 0 if no code has this number, or if memory ran out; the room is
+   left as it was then. */
 size_t sonic_code_text(uint32_t code, uint8_t *room, size_t room_length);
 
 /* The codes of errors. One of the text is at the first byte that doesn't fit, or at the last byte where
@@ -120,7 +228,8 @@ enum {
   SONIC_CODE_CONTROL_CHARACTER_WHILE_PARSING_STRING = 16,
   /* A key or a closing brace is expected, and no quote is here; after a comma, a key. */
   SONIC_CODE_EXPECT_OBJECT_KEY_OR_END = 17,
-  /* Something follows the value that was to be the whole text: of sonic_validate alone. */
+  /* Something follows the value that was to be the whole text: of sonic_validate, and of the calls that read
+     one value. */
   SONIC_CODE_TRAILING_CHARACTERS = 19,
   /* A key of a path comes to an object without members. */
   SONIC_CODE_GET_IN_EMPTY_OBJECT = 21,

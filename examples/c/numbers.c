@@ -137,6 +137,43 @@ static void check_statuses(void) {
   check(status == SONIC_BAD_LINES && is_error(&error, 0, 2, 0, 0) && span.start == 11, "BAD_LINES", "sonic_get");
 }
 
+/* Each status of the calls that read one value, and the types. */
+static void check_values(void) {
+  static const char *const texts[] = {"null", "true", "1", "\"a\"", "{}", "[]"};
+  static const uint32_t types[] = {SONIC_NULL, SONIC_BOOLEAN, SONIC_NUMBER, SONIC_STRING, SONIC_OBJECT, SONIC_ARRAY};
+  sonic_error error = {93, 94, 95, 96};
+  for (size_t i = 0; i < sizeof types / sizeof types[0]; i++) {
+    uint32_t type = 99;
+    check(sonic_type(bytes(texts[i]), strlen(texts[i]), &type, &error) == SONIC_OK && type == types[i], "the type", texts[i]);
+    printf("type %u: %s\n", type, texts[i]);
+  }
+  uint64_t natural = 92;
+  int64_t integer = 92;
+  check(sonic_u64(bytes("18446744073709551615"), 20, &natural, &error) == SONIC_OK && natural == UINT64_MAX, "OK", "sonic_u64");
+  check(sonic_i64(bytes("-9223372036854775808"), 20, &integer, &error) == SONIC_OK && integer == INT64_MIN, "OK", "sonic_i64");
+  natural = 92;
+  uint32_t status = sonic_u64(bytes("\"1\""), 3, &natural, &error);
+  check(status == SONIC_WRONG_TYPE && natural == 92, "WRONG_TYPE", "sonic_u64");
+  printf("status %u: a string\n", status);
+  status = sonic_u64(bytes("-1"), 2, &natural, &error);
+  check(status == SONIC_NO_INTEGER && natural == 92, "NO_INTEGER", "sonic_u64");
+  printf("status %u: a minus sign\n", status);
+  size_t wanted = 91, count = 91;
+  uint8_t room[4] = {'.', '.', '.', '.'};
+  check(sonic_string_text(bytes("\"a\\tb\""), 6, room, 2, &wanted, &error) == SONIC_OK && wanted == 3 && memcmp(room, "a\t..", 4) == 0,
+        "OK", "sonic_string_text");
+  check(sonic_count(bytes("[1,2,3]"), 7, &count, &error) == SONIC_OK && count == 3, "OK", "sonic_count");
+  sonic_items items = {91, 92};
+  sonic_item item = {{91, 92}, {93, 94}};
+  check(sonic_items_begin(bytes("{\"a\":[1]}"), 9, &items, &error) == SONIC_OK, "OK", "sonic_items_begin");
+  check(sonic_items_next(bytes("{\"a\":[1]}"), 9, &items, &item, &error) == SONIC_OK && item.key.start == 1 && item.key.end == 4
+            && item.value.start == 5 && item.value.end == 8,
+        "OK", "sonic_items_next");
+  status = sonic_items_next(bytes("{\"a\":[1]}"), 9, &items, &item, &error);
+  check(status == SONIC_END && item.key.start == 1 && is_error(&error, 93, 94, 95, 96), "END", "sonic_items_next");
+  printf("status %u: after the last item\n", status);
+}
+
 /* Where a length is 0, null is as good as "". */
 static void check_null(void) {
   sonic_span span = {91, 92};
@@ -156,8 +193,17 @@ static void check_null(void) {
   printf("null with length 0 is taken as \"\"\n");
 }
 
+/* The version is said twice. */
+static void check_version(void) {
+  char version[40];
+  snprintf(version, sizeof version, "%d.%d.%d", SONIC_VERSION_MAJOR, SONIC_VERSION_MINOR, SONIC_VERSION_PATCH);
+  check(strcmp(version, SONIC_VERSION) == 0, "the numbers", "SONIC_VERSION");
+}
+
 int main(void) {
+  check_version();
   check_statuses();
+  check_values();
   for (size_t i = 0; i < sizeof rows / sizeof *rows; i++) check_row(&rows[i]);
   check_texts();
   check_null();

@@ -47,12 +47,17 @@ typedef struct cells {
   sonic_span spans[3];
   sonic_error error;
   uint8_t room[64];
+  size_t wanted;
+  sonic_items items;
+  sonic_item item;
 } cells;
 
 static int same(const cells *a, const cells *b) {
   return memcmp(a->spans, b->spans, sizeof a->spans) == 0 && a->error.code == b->error.code &&
          a->error.line == b->error.line && a->error.column == b->error.column &&
-         a->error.offset == b->error.offset && memcmp(a->room, b->room, sizeof a->room) == 0;
+         a->error.offset == b->error.offset && memcmp(a->room, b->room, sizeof a->room) == 0 && a->wanted == b->wanted &&
+         a->items.place == b->items.place && a->items.state == b->items.state &&
+         memcmp(&a->item, &b->item, sizeof a->item) == 0;
 }
 
 /* Keys with escapes, brackets in brackets, and the same cut short. */
@@ -101,6 +106,22 @@ static size_t get_many_unchecked(cells *told) {
 
 static size_t code_text(cells *told) { return sonic_code_text(SONIC_CODE_MISMATCH, told->room, sizeof told->room); }
 
+static size_t string_text(cells *told) {
+  return sonic_string_text(bytes("\"a\\n\\u00e9\""), 11, told->room, sizeof told->room, &told->wanted, &told->error);
+}
+
+static size_t plain_text(cells *told) {
+  return sonic_string_text(bytes("\"abc\""), 5, told->room, sizeof told->room, &told->wanted, &told->error);
+}
+
+static size_t count(cells *told) { return sonic_count(bytes(json), strlen(json), &told->wanted, &told->error); }
+
+static size_t count_cut(cells *told) { return sonic_count(bytes(json), strlen(json) - 1, &told->wanted, &told->error); }
+
+static size_t items_next(cells *told) {
+  return sonic_items_next(bytes(json), strlen(json), &told->items, &told->item, &told->error);
+}
+
 /* What a call is to answer and to leave, unrefused and refused. */
 typedef struct answers {
   size_t plain, refused;
@@ -125,6 +146,8 @@ static int run_once(call *one, const answers *want) {
 static int refuse_each(const char *name, call *one, size_t no_memory) {
   answers want;
   memset(&want.before, 0xA5, sizeof want.before);
+  /* The cursor is one that has begun, which takes no memory. */
+  if (sonic_items_begin(bytes(json), strlen(json), &want.before.items, &want.before.error) != SONIC_OK) return 1;
   memcpy(&want.after, &want.before, sizeof want.after);
   refused = onwards = 0;
   want.plain = one(&want.after);
@@ -152,5 +175,10 @@ int main(void) {
   wrong |= refuse_each("get_many, for two", get_many_for_two, SONIC_NO_MEMORY);
   wrong |= refuse_each("get_many_unchecked", get_many_unchecked, SONIC_NO_MEMORY);
   wrong |= refuse_each("code_text", code_text, 0);
+  wrong |= refuse_each("string_text", string_text, SONIC_NO_MEMORY);
+  wrong |= refuse_each("string_text, plain", plain_text, SONIC_NO_MEMORY);
+  wrong |= refuse_each("count", count, SONIC_NO_MEMORY);
+  wrong |= refuse_each("count, cut", count_cut, SONIC_NO_MEMORY);
+  wrong |= refuse_each("items_next", items_next, SONIC_NO_MEMORY);
   return wrong;
 }

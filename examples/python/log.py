@@ -1,8 +1,8 @@
 """A log reader that takes two fields of each record, and tells a broken record from one that lacks a
-field: log.py LIBSONIC.SO"""
-import sys
+field, or has it in a value of another type."""
+import json
 
-from sonic import Library, SonicError
+import sonic
 
 RECORDS = b"""{"ts": 1, "level": "info", "ms": 12.50}
 {"ts": 2, "ms": 7}
@@ -12,19 +12,13 @@ RECORDS = b"""{"ts": 1, "level": "info", "ms": 12.50}
 ["no record"]
 {"ts": 6, "le"""
 
-sonic = Library(sys.argv[1])
+FIELDS = sonic.Paths([["level"], ["ms"]])
+
 for record in RECORDS.split(b"\n"):
     try:
-        level, ms = sonic.get_many(record, [["level"], ["ms"]])
-        print("record", level, ms)
-    except SonicError as error:
-        print("broken", error)
-
-print("get", sonic.get(b'{"a": [1, 20]} and more', ["a", 1]))
-print("none", sonic.get_many(b"", []))
-sonic.validate(b" [1, 2] ")
-for text, path in [(b"", []), (b"[1] 2", None), (b"[1]", [-1]), (b"[1]", [1.5])]:
-    try:
-        sonic.validate(text) if path is None else sonic.get(text, path)
-    except SonicError as error:
-        print("error", error)
+        level, ms = sonic.get_many(record, FIELDS)
+        print("record", level and json.loads(level), ms)
+    except sonic.BrokenText as error:
+        print("cut" if error.is_cut else "broken", error)
+    except sonic.SonicError as error:
+        print("no record", error)

@@ -1,3 +1,5 @@
+mod BegunLemmas
 mod CodeLemmas
+mod ContainerLemmas
 mod ManyLemmas
 mod ToldLemmas

@@ -1,3 +1,5 @@
 -- What serves private clauses and invariants alone.
+pub mod Begun
+pub mod Items
 pub mod Numbers
 pub mod Told

@@ -20,3 +20,15 @@ status_bad_lines = 3
 -- memory ran out
 abbrev pub status_no_memory : ℕ
 status_no_memory = 7
+
+-- the value is of another type than was asked for
+abbrev pub status_wrong_type : ℕ
+status_wrong_type = 8
+
+-- the number is no integer of those that were asked for
+abbrev pub status_no_integer : ℕ
+status_no_integer = 9
+
+-- no item is left
+abbrev pub status_end : ℕ
+status_end = 10

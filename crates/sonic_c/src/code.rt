@@ -115,7 +115,7 @@ pub(crate) fn number(code: ErrorCode) -> u32
 }
 
 // The number of the kind that was found.
-fn found_number(found: JsonType) -> u32
+pub(crate) fn found_number(found: JsonType) -> u32
     ensures number { result ≡ number_of found }
     ensures low { result ≤ 5 }
 {

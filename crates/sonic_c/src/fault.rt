@@ -1,12 +1,14 @@
 // The errors that a caller is told.
-ghost use Rattle.std.specs.Prelude.{◌≡◌};
+ghost use Rattle.std.specs.Prelude.{◌≡◌, ◌≤◌, length};
 ghost use Rattle.sonic_c.specs.Internal.Numbers.{numbers_of};
-ghost use Rattle.sonic_c.specs.Told.{at_line};
+ghost use Rattle.sonic_c.specs.Statuses.{status_document_error};
+ghost use Rattle.sonic_c.specs.Told.{at_line, AreNumbersOf};
 ghost use Rattle.sonic_c.specs.Internal.Told.{TellsError};
 
 use crate::code::number;
 use crate::status::{DOCUMENT_ERROR, NO_MEMORY};
 use sonic_error::{Error, ErrorCode};
+use sonic_text::Stop;
 
 /// What is wrong and where, in numbers.
 #[repr(C)]
@@ -57,5 +59,15 @@ pub(crate) fn tell(told: &mut Fault, error: &Error) -> u32
         return NO_MEMORY;
     }
     *told = Fault::of(error);
+    DOCUMENT_ERROR
+}
+
+// Tells an error of a text that is at a stop, and gives the status.
+pub(crate) fn tell_stop(told: &mut Fault, text: &[u8], stop: Stop) -> u32
+    requires { stop.place ≤ length text.now }
+    ensures numbers { AreNumbersOf text.now stop told.new }
+    ensures status { result ≡ status_document_error }
+{
+    *told = Fault::of(&Error::syntax(stop.code, text, stop.place));
     DOCUMENT_ERROR
 }

@@ -3,24 +3,40 @@
 //! Nothing is kept between calls, nothing is to be freed, and no pointer of the caller's is kept.
 #![tactic(auto)]
 
+// What begins a text, and why it is refused.
+mod begun;
 // The numbers that stand for the codes of errors.
 mod code;
+// How many items a container has.
+mod count;
 // The errors that a caller is told.
 mod fault;
 // One path.
 mod get;
+// A way through the items of a container.
+mod items;
+// The type of a value.
+mod kind;
 // Many paths.
 mod many;
+// The integer that a number is.
+mod number;
 // The spans that a caller is told.
 mod span;
 // What a call comes to.
 mod status;
+// The text of a string.
+mod string;
 #[cfg(test)]
 mod tests;
 // The words of an error.
 mod text;
 // Whether a text is a document.
 mod validate;
+// One item of a container after the other.
+mod walk;
 
 pub use fault::Fault;
+pub use items::Items;
 pub use span::Span;
+pub use walk::Item;

@@ -10,3 +10,9 @@ pub(crate) const WRONG_COUNT: u32 = 2;
 pub(crate) const BAD_LINES: u32 = 3;
 // Memory ran out.
 pub(crate) const NO_MEMORY: u32 = 7;
+// The value is of another type than was asked for.
+pub(crate) const WRONG_TYPE: u32 = 8;
+// The number is no integer of those that were asked for.
+pub(crate) const NO_INTEGER: u32 = 9;
+// No item is left.
+pub(crate) const END: u32 = 10;

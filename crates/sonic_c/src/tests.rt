@@ -9,6 +9,9 @@ use crate::validate::sonic_validate;
 use std::alloc::Global;
 use std::process::Abort;
 
+// The calls that read one value.
+mod values;
+
 const NOWHERE: Span = Span { start: 9, end: 9 };
 
 // The numbers of an error: the code, the line, the column and the offset.

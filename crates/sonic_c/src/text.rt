@@ -24,7 +24,7 @@ pub extern "C" fn sonic_code_text(alloc: Global, code: u32, room: &mut [u8]) -> 
 }
 
 // Writes as much of the text as the room takes to its start.
-fn place(room: &mut [u8], bytes: &[u8])
+pub(crate) fn place(room: &mut [u8], bytes: &[u8])
     ensures { room.new ≡ placed bytes.now room.old }
 {
     let count = room.len().min(bytes.len());

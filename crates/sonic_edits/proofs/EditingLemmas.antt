@@ -8,7 +8,7 @@ use Rattle.sonic_edits.specs.Edits.{edit_of, StopsAt, stops_here, stops_later, F
 use Rattle.sonic_edits.specs.Internal.Parted.{joined, kind_of_change, nodes_of, place_of, AreShort}
 use Rattle.sonic_edits.specs.declared.edit.Edit as declared
 use Rattle.sonic_owned.specs.Forms.{Form}
-use Rattle.sonic_owned.specs.Reached.{IsKeptAlong, NeedsMemory, way_to_appended}
+use Rattle.sonic_owned.specs.Reached.{IsKeptAlong, NeedsMemory, way_to_item}
 use Rattle.sonic_owned.specs.TreeEdits.{Change, Edit}
 use Rattle.sonic_text.specs.Paths.{Path}
 use Rattle.sonic_pointer.specs.declared.node.PointerNode.{PointerNode}
@@ -55,7 +55,7 @@ comes_to_stop {h = h} {number} comes refused kept = comes.stopped 1 number h (st
 
 -- where there is no memory for the next one, all fail there
 pub comes_to_failure : {all rest : List (Edit Form)} {e : Edit Form} {f g h : Form} {number : ℕ} → ComesOfAll all f number (e ∷ rest) g
-    → NeedsMemory e g → IsKeptAlong (e.path ++ way_to_appended e.change) g h → Fails all f h
+    → NeedsMemory e g → IsKeptAlong (e.path ++ way_to_item e.change) g h → Fails all f h
 comes_to_failure {h = h} comes memory kept = comes.failed h (fails_here memory kept)
 
 -- a list of no length

@@ -4,7 +4,7 @@ use Rattle.sonic_edits.specs.declared.edit.Edit as declared
 use Rattle.sonic_owned.specs.Changes.{change_of}
 use Rattle.sonic_owned.specs.Edits.{IsEdit, IsRefused}
 use Rattle.sonic_owned.specs.Forms.{Form}
-use Rattle.sonic_owned.specs.Reached.{IsKeptAlong, NeedsMemory, way_to_appended}
+use Rattle.sonic_owned.specs.Reached.{IsKeptAlong, NeedsMemory, way_to_item}
 use Rattle.sonic_owned.specs.TreeEdits.{Edit}
 
 -- an edit by its path and the forms of its values
@@ -17,7 +17,7 @@ pub data StopsAt : List (Edit Form) → (f h : Form) → ℕ → Type 0 where
   stops_later : {e : Edit Form} {es : List (Edit Form)} {f g h : Form} {n m : ℕ} → IsEdit e f g → StopsAt es g h m → n ≡ m + 1 → StopsAt (e ∷ es) f h n
 
 -- there is no memory for an edit that takes some, and after it there is h: what the edits before it make of f, in which levels along its path may be opened, and
--- the one that it appends to
+-- the one whose items it changes
 pub data Fails : List (Edit Form) → (f h : Form) → Type 0 where
-  fails_here : {e : Edit Form} {es : List (Edit Form)} {f h : Form} → NeedsMemory e f → IsKeptAlong (e.path ++ way_to_appended e.change) f h → Fails (e ∷ es) f h
+  fails_here : {e : Edit Form} {es : List (Edit Form)} {f h : Form} → NeedsMemory e f → IsKeptAlong (e.path ++ way_to_item e.change) f h → Fails (e ∷ es) f h
   fails_later : {e : Edit Form} {es : List (Edit Form)} {f g h : Form} → IsEdit e f g → Fails es g h → Fails (e ∷ es) f h

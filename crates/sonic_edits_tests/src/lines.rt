@@ -84,7 +84,8 @@ fn shown(alloc: Global, change: &Change) -> Result<String, AllocError> {
     let (key, value) = match change {
         Change::Set(value) | Change::Push(value) => (None, Some(value)),
         Change::Pair(key, value) => (Some(key), Some(value)),
-        Change::Take => (None, None),
+        // No line says the others.
+        _ => (None, None),
     };
     let mut text = String::from_str(alloc, word(change))?;
     if let Some(key) = key {
@@ -235,6 +236,7 @@ fn word(change: &Change) -> &'static str {
         Change::Push(_) => "push",
         Change::Pair(_, _) => "pair",
         Change::Take => "take",
+        _ => "no word of a line",
     }
 }
 

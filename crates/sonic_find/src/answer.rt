@@ -6,7 +6,7 @@ ghost use Rattle.sonic_error.specs.declared.code.ErrorCode.TheVariants.{InvalidU
 ghost use Rattle.sonic_error.specs.Errors.{IsPlainError};
 ghost use Rattle.sonic_error.specs.Texts.{valid_up_to};
 ghost use Rattle.sonic_text.specs.Strings.{strict};
-ghost use Rattle.sonic_parser.specs.Faults.{IsStopFor};
+ghost use Rattle.sonic_parser.specs.Faults.{IsErrorOf, IsStopFor};
 ghost use Rattle.sonic_parser.specs.Honest.{IsHonest};
 ghost use Rattle.sonic_find.specs.Answers.{IsAnswerBy, Answer};
 ghost use Rattle.sonic_find.specs.Causes.{IsAnswerableBy, IsRefusalBy};
@@ -62,11 +62,15 @@ pub fn locate_many<'de, I: JsonInput<'de>>(
         found: Vec::new(alloc),
         opened: None,
     };
-    locate_in(alloc, &mut memory, json, tree, rule)?;
-    Ok(memory.found)
+    let text = json.to_u8_slice();
+    match locate_in(alloc, &mut memory, json, tree, rule) {
+        Ok(()) => Ok(memory.found),
+        Err(fault) => Err(fault.error(text)),
+    }
 }
 
-// The same in memory that is used again, in which nothing is found after an error.
+// The same in memory that is used again, in which nothing is found after a fault. The error would be the
+// one that reports the fault.
 #[inline(always)]
 pub(crate) fn locate_in<'de, I: JsonInput<'de>>(
     alloc: Global,
@@ -74,24 +78,23 @@ pub(crate) fn locate_in<'de, I: JsonInput<'de>>(
     json: I,
     tree: &PointerTree,
     rule: KeyRule,
-) -> Result<(), Error>
+) -> Result<(), Fault>
     ensures ok { OnOk result (IsAnswerBy rule (I.JsonInput.content json) I.JsonInput.is_bytes
         tree.now (Answer.spans (spans_of memory.new.found.items))) }
     ensures statuses { OnOk result (HaveStatuses (I.JsonInput.content json) memory.new.found.items) }
     ensures parts { OnOk result (AreParts (I.JsonInput.content json) memory.new.found.items) }
-    ensures err { IfErr result (λ error. IsRefusalBy rule (I.JsonInput.content json) I.JsonInput.is_bytes
-        tree.now error) }
+    ensures err { IfErr result (λ fault. (error : Error) → IsErrorOf (I.JsonInput.content json) fault error
+        → IsRefusalBy rule (I.JsonInput.content json) I.JsonInput.is_bytes tree.now error) }
+    ensures within { IfErr result (IsStopFor (λ s. s.place ≤ length (I.JsonInput.content json))) }
     ensures cleared { OnErr result (memory.new.found.items ≡ []) }
     ensures complete { IsAnswerableBy rule (I.JsonInput.content json) I.JsonInput.is_bytes tree.now
-        → IfErr result (λ error. IsPlainError error ErrorCode.NoMemory) }
-    ensures honest { IfErr result (IsHonest strict (I.JsonInput.content json) 0) }
+        → IfErr result (λ fault. fault ≡ Fault.OutOfMemory) }
 {
-    let text = json.to_u8_slice();
     match answer(alloc, memory, &json, tree, rule) {
         Ok(()) => Ok(()),
         Err(fault) => {
             memory.found.clear();
-            Err(fault.error(text))
+            Err(fault)
         }
     }
 }
@@ -110,9 +113,11 @@ fn answer<'de, I: JsonInput<'de>>(
     ensures ok { OnOk result (IsAnswerBy rule (I.JsonInput.content json.now) I.JsonInput.is_bytes
         tree.now (Answer.spans (spans_of memory.new.found.items))) }
     ensures statuses { OnOk result (HaveStatuses (I.JsonInput.content json.now) memory.new.found.items) }
+    ensures parts { OnOk result (AreParts (I.JsonInput.content json.now) memory.new.found.items) }
     ensures err { IfErr result (IsStopFor (IsError rule (I.JsonInput.content json.now)
         I.JsonInput.is_bytes tree.now)) }
 {
+    let text = json.to_u8_slice();
     empty_slots(&mut memory.found, tree.size())?;
     if tree.size() == 0 {
         return Ok(());
@@ -120,7 +125,7 @@ fn answer<'de, I: JsonInput<'de>>(
     let read = Read::unscanned(json.to_json_slice());
     let reach = reach(alloc, memory, read, tree, rule)?;
     if json.need_utf8_valid() {
-        check(json.to_u8_slice(), reach)?;
+        check(text, reach)?;
     }
     Ok(())
 }

@@ -1,7 +1,8 @@
 // What many paths find in many texts, one after the other, without memory of its own for each.
-ghost use Rattle.std.specs.Prelude.{◌≡◌, ◌<◌, [], Some, length, option_map, slice_get, IfErr, OnOk, OnErr};
+ghost use Rattle.std.specs.Prelude.{◌≡◌, ◌<◌, ◌≤◌, [], Some, length, option_map, slice_get, IfErr, OnOk, OnErr};
 ghost use Rattle.sonic_error.specs.Errors.{IsPlainError};
 ghost use Rattle.sonic_text.specs.Strings.{strict};
+ghost use Rattle.sonic_parser.specs.Faults.{IsErrorOf, IsStopFor};
 ghost use Rattle.sonic_parser.specs.Honest.{IsHonest};
 ghost use Rattle.sonic_find.specs.Answers.{IsAnswer, Answer};
 ghost use Rattle.sonic_find.specs.Causes.{IsAnswerable, IsRefusal};
@@ -14,6 +15,7 @@ use crate::finding::span_of;
 use crate::span::Span;
 use sonic_error::{Error, ErrorCode};
 use sonic_input::JsonInput;
+use sonic_parser::Fault;
 use sonic_pointer::{KeyRule, PointerTree};
 use std::alloc::Global;
 use std::marker::Model;
@@ -96,6 +98,34 @@ pub fn find_many_in<'de, I: JsonInput<'de>>(
     ensures complete { IsAnswerable (I.JsonInput.content json) I.JsonInput.is_bytes tree.now
         → IfErr result (λ error. IsPlainError error ErrorCode.NoMemory) }
     ensures honest { IfErr result (IsHonest strict (I.JsonInput.content json) 0) }
+{
+    let text = json.to_u8_slice();
+    match fill_room(alloc, room, json, tree) {
+        Ok(()) => Ok(()),
+        Err(fault) => Err(fault.error(text)),
+    }
+}
+
+/// The same with the fault that the error would report, for whom its place and code suffice: neither
+/// line nor column is counted.
+///
+/// With the path `["a"]` over `{"a":tru}` it is `Fault::At` 8, with `ErrorCode::InvalidLiteral`.
+#[inline(always)]
+pub fn fill_room<'de, I: JsonInput<'de>>(
+    alloc: Global,
+    room: &mut Room,
+    json: I,
+    tree: &PointerTree,
+) -> Result<(), Fault>
+    ensures ok { OnOk result (IsAnswer (I.JsonInput.content json) I.JsonInput.is_bytes tree.now
+        (Answer.spans (pairs_of room.new))) }
+    ensures parts { OnOk result (AreSpans (I.JsonInput.content json) room.new) }
+    ensures err { IfErr result (λ fault. (error : Error) → IsErrorOf (I.JsonInput.content json) fault error
+        → IsRefusal (I.JsonInput.content json) I.JsonInput.is_bytes tree.now error) }
+    ensures within { IfErr result (IsStopFor (λ s. s.place ≤ length (I.JsonInput.content json))) }
+    ensures cleared { OnErr result (room.new ≡ []) }
+    ensures complete { IsAnswerable (I.JsonInput.content json) I.JsonInput.is_bytes tree.now
+        → IfErr result (λ fault. fault ≡ Fault.OutOfMemory) }
 {
     locate_in(alloc, &mut room.memory, json, tree, KeyRule::First)
 }

@@ -81,6 +81,11 @@ impl Visited {
         }
     }
 
+    // How many children were visited. No clause says so, as it is a hint.
+    pub(crate) fn count(&self) -> usize {
+        self.count.saturating_sub(self.left)
+    }
+
     // Whether each child was visited.
     pub(crate) fn is_done(&self) -> bool
         ensures done { result ≡ true → ¬ SomeOpen self.now }

@@ -186,7 +186,7 @@ fn item(
     ensures err { IfErr result (IsStopFor (IsStop (container_at walk.old.rule walk.old.text level.now).point
         level.now.needs)) }
 {
-    let child = head(walk, level, passed)?;
+    let child = head(walk, level, passed, visited.count())?;
     let Some(unvisited) = visited.unvisited(child) else {
         walk.skip()?;
         return Ok(());
@@ -208,12 +208,14 @@ fn is_wanted(walk: &Walk<'_>, level: &Level<'_, '_>, visited: &Visited) -> bool
     level.needs || walk.lacks_key() || !visited.is_done()
 }
 
-// Passes what comes before the value of the item at the cursor: the number of the child that it is.
+// Passes what comes before the value of the item at the cursor: the number of the child that it is. An
+// element is found at once where `near` children have a lesser index.
 #[inline(always)]
 pub(crate) fn head(
     walk: &mut Walk<'_>,
     level: &Level<'_, '_>,
     passed: usize,
+    near: usize,
 ) -> Result<Option<usize>, Stop>
     ensures item { IfOk result (λ child. IsChildItem (container_at walk.old.rule walk.old.text level.now) passed
         walk.old.place walk.new.place child) }
@@ -223,7 +225,7 @@ pub(crate) fn head(
         × IsKeyFault strict walk.old.text walk.old.place s) }
 {
     let Kind::Object = level.kind else {
-        return Ok(level.view.of_index(passed));
+        return Ok(level.view.of_index_near(passed, near));
     };
     let start = walk.place();
     let key = walk.key()?;

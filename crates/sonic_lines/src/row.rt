@@ -3,6 +3,7 @@ ghost use Rattle.std.specs.Prelude.{◌≡◌, ◌+◌, ◌-◌, ◌^◌, ◌<�
 ghost use Rattle.std.specs.Str.{IsUtf8};
 ghost use Rattle.sonic_error.specs.Codes.{category_of};
 ghost use Rattle.sonic_error.specs.Errors.{error_code, error_offset};
+ghost use Rattle.sonic_parser.specs.Faults.{IsErrorOf, IsStopFor};
 ghost use Rattle.sonic_find.specs.Answers.{Answer, IsAnswer};
 ghost use Rattle.sonic_find.specs.Causes.{IsRefusal};
 ghost use Rattle.sonic_find.specs.Parts.{AreSpans};
@@ -15,7 +16,8 @@ ghost use Rattle.sonic_lines.specs.Streams.{lines_of};
 use crate::short::{SHORT, put_entries};
 use memchr::memchr;
 use sonic_error::{Error, ErrorCode};
-use sonic_find::{Room, Span, find_many_in};
+use sonic_find::{Room, Span, fill_room};
+use sonic_parser::Fault;
 use sonic_pointer::PointerTree;
 use sonic_text::skip_space;
 use std::alloc::{AllocError, Global};
@@ -132,18 +134,20 @@ fn find_in_line(
     room: &mut Room,
     line: &Line<'_>,
     tree: &PointerTree,
-) -> Result<(), Error>
+) -> Result<(), Fault>
     requires { line.now.is_text ≡ true → IsUtf8 line.now.text.now }
     ensures ok { OnOk result (IsAnswer line.now.text.now true tree.now (Answer.spans (pairs_of room.new))) }
     ensures parts { OnOk result (AreSpans line.now.text.now room.new) }
-    ensures err { IfErr result (IsRefusal line.now.text.now true tree.now) }
+    ensures err { IfErr result (λ fault. (error : Error) → IsErrorOf line.now.text.now fault error
+        → IsRefusal line.now.text.now true tree.now error) }
+    ensures within { IfErr result (IsStopFor (λ s. s.place ≤ length line.now.text.now)) }
 {
     if !line.is_text {
         return find_in_bytes(alloc, room, line.text, tree);
     }
     // SAFETY: the line is UTF-8, as it says.
     let text = unsafe { std::str::from_utf8_unchecked(line.text) };
-    find_many_in(alloc, room, text, tree)
+    fill_room(alloc, room, text, tree)
 }
 
 // The same in a line that may be no UTF-8, out of line.
@@ -153,12 +157,14 @@ fn find_in_bytes(
     room: &mut Room,
     text: &[u8],
     tree: &PointerTree,
-) -> Result<(), Error>
+) -> Result<(), Fault>
     ensures ok { OnOk result (IsAnswer text.now true tree.now (Answer.spans (pairs_of room.new))) }
     ensures parts { OnOk result (AreSpans text.now room.new) }
-    ensures err { IfErr result (IsRefusal text.now true tree.now) }
+    ensures err { IfErr result (λ fault. (error : Error) → IsErrorOf text.now fault error
+        → IsRefusal text.now true tree.now error) }
+    ensures within { IfErr result (IsStopFor (λ s. s.place ≤ length text.now)) }
 {
-    find_many_in(alloc, room, text, tree)
+    fill_room(alloc, room, text, tree)
 }
 
 // Appends the row of one line: whether it is an error. After running out of memory a part of it may
@@ -185,8 +191,8 @@ pub(crate) fn add_row(
             add_entries(text, room, out)?;
             Ok(false)
         }
-        Err(error) => {
-            add_error(line.number, &error, out)?;
+        Err(fault) => {
+            add_error(line.number, &fault.error(text), out)?;
             Ok(true)
         }
     }

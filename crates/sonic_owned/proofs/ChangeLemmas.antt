@@ -10,7 +10,7 @@ use Rattle.sonic_owned.proofs.PutLawLemmas.{put_one}
 use Rattle.sonic_owned.proofs.PutLemmas.{put_part}
 use Rattle.sonic_owned.proofs.ReachLemmas.{kept_along, put_along, put_same}
 use Rattle.sonic_owned.specs.Puts.{put_in, IsPartOf, IsPut, put_here, put_on}
-use Rattle.sonic_owned.specs.Reached.{IsOpenedAlong, IsKeptAlong, way_to_appended, LeadsNowhere, IsUnreached, out_of_memory, Appends, NeedsMemory, for_an_item}
+use Rattle.sonic_owned.specs.Reached.{IsOpenedAlong, IsKeptAlong, way_to_item, LeadsNowhere, IsUnreached, out_of_memory, ChangeNeedsMemory, NeedsMemory, for_an_item}
 use Rattle.sonic_owned.specs.Internal.Changed.{IsChanged, change_made, change_refused, change_failed}
 use Rattle.sonic_pointer.specs.Nodes.{node_of, path_of}
 use Rattle.sonic_pointer.specs.declared.node.PointerNode.{PointerNode}
@@ -82,7 +82,7 @@ edit_same (Ok false) put (change_refused none same) = λ e. kept_along (put_same
 edit_same (Err e) put (change_failed plain appends along) = tt
 
 pub edit_failed : {path : Path} {c : Change Form} {f m g h : Form} (r : Result Bool Error) → IsPut path f m g h → IsChanged c m g r
-    → IfErr r (λ e. IsPlainError e NoMemory) × OnErr r (IsKeptAlong (path ++ way_to_appended c) f h)
+    → IfErr r (λ e. IsPlainError e NoMemory) × OnErr r (IsKeptAlong (path ++ way_to_item c) f h)
 edit_failed (Ok true) put (change_made change) = (tt, tt)
 edit_failed (Ok false) put (change_refused none same) = (tt, tt)
 edit_failed (Err e) put (change_failed plain appends along) = (plain, kept_along (put_along put along))
@@ -107,7 +107,7 @@ edit_nowhere m none h edit =
 
 -- an error for want of memory is that of a change that failed
 pub change_stopped : {c : Change Form} {f g : Form} (r : Result Bool Error) → IsErr r → IfErr r (λ e. IsPlainError e NoMemory)
-    → Appends c f → IsOpenedAlong (way_to_appended c) f g → IsChanged c f g r
+    → ChangeNeedsMemory c f → IsOpenedAlong (way_to_item c) f g → IsChanged c f g r
 change_stopped (Ok b) is plain appends along = absurd cc
 change_stopped (Err e) is plain appends along = change_failed plain appends along
 

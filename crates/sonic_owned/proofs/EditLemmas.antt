@@ -1,30 +1,28 @@
 -- What edits make of forms is what they make of the trees that the forms mean.
-use Rattle.std.proofs.Common.{◌≡◌, ◌⊎◌, ◌+◌, ◌∙◌, sym, refl, ℕ, suc, List, [], ◌∷◌, length, Option, Some, None, inl, inr, arith, codes}
+use Rattle.std.proofs.Common.{◌≡◌, ◌⊎◌, ◌+◌, ◌∙◌, sym, refl, ap, nat_eq, ℕ, zero, suc, List, [], ◌∷◌, length, Option, Some, None, inl, inr, arith, codes}
+use Rattle.std.proofs.lemmas.Bool.{cases_Bool}
+use Rattle.std.specs.Cmp.Lexicographic.{pointwise}
 use Rattle.std.specs.Prelude.{◌↔◌}
 use Rattle.sonic_lazy.proofs.WholeLemmas.{null_is_whole}
-use Rattle.sonic_owned.proofs.Lists.{none_not_some}
+use Rattle.sonic_owned.proofs.Lists.{none_not_some, some_or_none}
 use Rattle.sonic_owned.proofs.OpenedLemmas.{opened_one, level_some, opened_sound}
 use Rattle.sonic_owned.proofs.OpeningLemmas.{opened_means}
 use Rattle.sonic_owned.proofs.PutLawLemmas.{put_one, put_some, put_sound}
 use Rattle.sonic_owned.proofs.PutLemmas.{put_part}
 use Rattle.sonic_owned.proofs.ValueLemmas.{sound_means}
-use Rattle.sonic_owned.specs.Edits.{append_member, IsChange, is_set, is_pushed, is_paired, is_taken, IsEdit, IsRefused, AreEdits, no_edit, one_more_edit, IsFirstRefused, refused_here, refused_later, IsSoundChange, ChangeMeans, set_means, push_means, pair_means, take_means, EditMeans, EditsMean, no_edit_means, edit_means}
+use Rattle.sonic_owned.specs.Edits.{append_member, insert_member, members_without_at, members_without_of, members_without, IsChange, is_set, is_pushed, is_paired, is_taken, is_inserted, is_removed, IsEdit, IsRefused, AreEdits, no_edit, one_more_edit, IsFirstRefused, refused_here, refused_later, IsSoundChange, ChangeMeans, set_means, push_means, pair_means, take_means, insert_means, remove_means, EditMeans, EditsMean, no_edit_means, edit_means}
 use Rattle.sonic_owned.specs.Internal.SoundEdits.{AreSoundEdits}
-use Rattle.sonic_owned.specs.Forms.{Form, level, Members, IsLabel, IsSound, raw_sound, level_sound, AreSound, none_sound, item_sound, FormMeans, raw_means, level_means, MembersMean, no_member_means, member_means}
+use Rattle.sonic_owned.specs.Forms.{Form, level, Members, member, IsLabel, IsSound, raw_sound, level_sound, AreSound, none_sound, item_sound, FormMeans, raw_means, level_means, MembersMean, no_member_means, member_means}
 use Rattle.sonic_owned.specs.Opened.{IsOpened}
-use Rattle.sonic_owned.specs.TreeEdits.{Change, set, push, pair, take, Edit, append_item, change_tree, edit_tree, edit_tree_all}
+use Rattle.sonic_owned.specs.TreeEdits.{Change, set, push, pair, take, insert, remove, Edit, append_item, insert_item, without_at, without_of, change_tree, edit_tree, edit_tree_all}
 use Rattle.sonic_owned.specs.TreePuts.{put}
 use Rattle.sonic_text.specs.Literals.{IsLiteral}
+use Rattle.sonic_text.specs.Paths.{Node, key, index}
 use Rattle.sonic_text.specs.TreePaths.{leads}
-use Rattle.sonic_text.specs.Trees.{Tree, container, Items}
+use Rattle.sonic_text.specs.Trees.{Tree, container, Items, item}
 use Rattle.sonic_text.specs.Trees.Means.{means_null}
 use Rattle.sonic_text.specs.declared.kind.Kind.{Kind}
 use Rattle.sonic_text.specs.declared.kind.Kind.TheVariants.{Array, Object}
-
--- there is one, or none
-some_or_none : {X : Type 0} (o : Option X) → (o ≡ None) ⊎ ((x : X) × (o ≡ Some x))
-some_or_none None = inl refl
-some_or_none (Some x) = inr (x, refl)
 
 -- one level comes of a form
 level_one : {f g : Form} {kind : Kind} {ms ns : Members} → f ≡ g → IsOpened f (level kind ms) → IsOpened g (level kind ns) → ms ≡ ns
@@ -33,12 +31,27 @@ level_one {f} {g} {kind} {ms} {ns} e o d =
     let same : level kind ms ≡ level kind ns = opened_one o own in
     cc
 
+level_same : {f g : Form} {kind other : Kind} {ms ns : Members} → f ≡ g → IsOpened f (level kind ms) → IsOpened g (level other ns)
+    → level kind ms ≡ level other ns
+level_same {f} {g} {kind} {other} {ms} {ns} e o d = let own : IsOpened f (level other ns) = rw e d in opened_one o own
+
 -- a change makes one form
 change_one : {m n g h : Form} {c : Change Form} → m ≡ n → IsChange m g c → IsChange n h c → g ≡ h
 change_one same (is_set e) (is_set d) = e ∙ sym d
 change_one same (is_pushed o e) (is_pushed p d) = rw (e, d, level_one same o p) refl
 change_one same (is_paired o e) (is_paired p d) = rw (e, d, level_one same o p) refl
 change_one same (is_taken e) (is_taken d) = e ∙ sym d
+change_one same (is_inserted {n} {w} {ns = ns} o b e) (is_inserted {ns = ks} p c d) =
+    let both : ◌≡◌ {A = Option Members} (Some ns) (Some ks) = sym b ∙ ap (insert_member n w) (level_one same o p) ∙ c in
+    let one : ns ≡ ks = cc in
+    rw (e, d, one) refl
+change_one same (is_removed {node} {kind} {ms} {ns} o b e) (is_removed {kind = other} {ms = ls} {ns = ks} p c d) =
+    let levels = level_same same o p in
+    let kinds : kind ≡ other = cc in
+    let members : ms ≡ ls = cc in
+    let both : ◌≡◌ {A = Option Members} (Some ns) (Some ks) = sym b ∙ ap (λ (z : Kind). members_without node z ms) kinds ∙ ap (members_without node other) members ∙ c in
+    let one : ns ≡ ks = cc in
+    rw (e, d, kinds, one) refl
 
 -- and so does an edit
 pub edit_one : {e : Edit Form} {f g h : Form} → IsEdit e f g → IsEdit e f h → g ≡ h
@@ -50,6 +63,88 @@ append_means : (l : Option (List ℕ)) {ms : Members} {xs : Items} {f : Form} {v
 append_means l no_member_means x = member_means x no_member_means
 append_means l (member_means y ys) x = member_means y (append_means l ys x)
 
+-- what one item more, or one less, makes
+data MakesItems (ns : Members) (o : Option Items) : Type 0 where
+  makes_items : (ys : Items) → o ≡ Some ys → MembersMean ns ys → MakesItems ns o
+
+insert_means_items : (n : ℕ) {ms ns : Members} {xs : Items} {f : Form} {v : Tree} → MembersMean ms xs → FormMeans f v → insert_member n f ms ≡ Some ns
+    → MakesItems ns (insert_item n v xs)
+insert_means_items zero {ms} {ns} {f = f} y x e = let q : ns ≡ member None f ms = cc in makes_items _ refl (rw q (member_means x y))
+insert_means_items (suc n) no_member_means x e = absurd (none_not_some e)
+insert_means_items (suc n) {ns = ns} {f = f} (member_means {l} {f = g} {ms} {v = u} y ys) x e = elim (some_or_none (insert_member n f ms)) [
+  | inl none ↦ absurd (none_not_some (rw none at e))
+  | inr (ks, is) ↦
+      let made : ◌≡◌ {A = Option Members} (Some (member l g ks)) (Some ns) = rw is at e in
+      let q : ns ≡ member l g ks = cc in
+      elim (insert_means_items n ys x is) [ makes_items zs o means ↦ makes_items (item l u zs) (rw o refl) (rw q (member_means y means)) ]
+]
+
+without_at_means : (n : ℕ) {ms ns : Members} {xs : Items} → MembersMean ms xs → members_without_at n ms ≡ Some ns → MakesItems ns (without_at n xs)
+without_at_means n no_member_means e = absurd (none_not_some e)
+without_at_means zero {ns = ns} (member_means {ms = ms} y ys) e = let q : ns ≡ ms = cc in makes_items _ refl (rw q ys)
+without_at_means (suc n) {ns = ns} (member_means {l} {f = g} {ms} {v = u} y ys) e = elim (some_or_none (members_without_at n ms)) [
+  | inl none ↦ absurd (none_not_some (rw none at e))
+  | inr (ks, is) ↦
+      let made : ◌≡◌ {A = Option Members} (Some (member l g ks)) (Some ns) = rw is at e in
+      let q : ns ≡ member l g ks = cc in
+      elim (without_at_means n ys is) [ makes_items zs o means ↦ makes_items (item l u zs) (rw o refl) (rw q (member_means y means)) ]
+]
+
+without_of_means : (k : List ℕ) {ms ns : Members} {xs : Items} → MembersMean ms xs → members_without_of k ms ≡ Some ns → MakesItems ns (without_of k xs)
+without_of_means k no_member_means e = absurd (none_not_some e)
+without_of_means k {ns = ns} (member_means {l = None} {f = g} {ms} {v = u} y ys) e = elim (some_or_none (members_without_of k ms)) [
+  | inl none ↦ absurd (none_not_some (rw none at e))
+  | inr (ks, is) ↦
+      let made : ◌≡◌ {A = Option Members} (Some (member None g ks)) (Some ns) = rw is at e in
+      let q : ns ≡ member None g ks = cc in
+      elim (without_of_means k ys is) [ makes_items zs o means ↦ makes_items (item None u zs) (rw o refl) (rw q (member_means y means)) ]
+]
+without_of_means k {ns = ns} (member_means {l = Some l} {f = g} {ms} {v = u} {xs} y ys) e = elim (cases_Bool (pointwise nat_eq l k)) [
+  | inl same ↦
+      let made : ◌≡◌ {A = Option Members} (Some ms) (Some ns) = rw same at e in
+      let q : ns ≡ ms = cc in
+      makes_items xs (rw same refl) (rw q ys)
+  | inr other ↦ elim (some_or_none (members_without_of k ms)) [
+    | inl none ↦ absurd (none_not_some (rw (other, none) at e))
+    | inr (ks, is) ↦
+        let made : ◌≡◌ {A = Option Members} (Some (member (Some l) g ks)) (Some ns) = rw (other, is) at e in
+        let q : ns ≡ member (Some l) g ks = cc in
+        elim (without_of_means k ys is) [ makes_items zs o means ↦ makes_items (item (Some l) u zs) (rw (other, o) refl) (rw q (member_means y means)) ]
+  ]
+]
+
+-- where there is one item more, or one less, in the tree, there is in the form
+some_inserted : (n : ℕ) {ms : Members} {xs ys : Items} (f : Form) (v : Tree) → MembersMean ms xs → insert_item n v xs ≡ Some ys
+    → (ns : Members) × (insert_member n f ms ≡ Some ns)
+some_inserted zero f v y e = (_, refl)
+some_inserted (suc n) f v no_member_means e = absurd (none_not_some e)
+some_inserted (suc n) f v (member_means {l} {f = g} {xs = xs} y ys) e = elim (some_or_none (insert_item n v xs)) [
+  | inl none ↦ absurd (none_not_some (rw none at e))
+  | inr (zs, is) ↦ let (ks, o) = some_inserted n f v ys is in (member l g ks, rw o refl)
+]
+
+some_without_at : (n : ℕ) {ms : Members} {xs ys : Items} → MembersMean ms xs → without_at n xs ≡ Some ys → (ns : Members) × (members_without_at n ms ≡ Some ns)
+some_without_at n no_member_means e = absurd (none_not_some e)
+some_without_at zero (member_means y ys) e = (_, refl)
+some_without_at (suc n) (member_means {l} {f = g} {xs = xs} y ys) e = elim (some_or_none (without_at n xs)) [
+  | inl none ↦ absurd (none_not_some (rw none at e))
+  | inr (zs, is) ↦ let (ks, o) = some_without_at n ys is in (member l g ks, rw o refl)
+]
+
+some_without_of : (k : List ℕ) {ms : Members} {xs ys : Items} → MembersMean ms xs → without_of k xs ≡ Some ys → (ns : Members) × (members_without_of k ms ≡ Some ns)
+some_without_of k no_member_means e = absurd (none_not_some e)
+some_without_of k (member_means {l = None} {f = g} {xs = xs} y ys) e = elim (some_or_none (without_of k xs)) [
+  | inl none ↦ absurd (none_not_some (rw none at e))
+  | inr (zs, is) ↦ let (ks, o) = some_without_of k ys is in (member None g ks, rw o refl)
+]
+some_without_of k (member_means {l = Some l} {f = g} {ms} {xs = xs} y ys) e = elim (cases_Bool (pointwise nat_eq l k)) [
+  | inl same ↦ (ms, rw same refl)
+  | inr other ↦ elim (some_or_none (without_of k xs)) [
+    | inl none ↦ absurd (none_not_some (rw (other, none) at e))
+    | inr (zs, is) ↦ let (ks, o) = some_without_of k ys is in (member (Some l) g ks, rw (other, o) refl)
+  ]
+]
+
 -- null stands in its own text
 null_stands : IsLiteral (codes "null") (codes "null") 0 (length (codes "null"))
 null_stands = ((omega arith, λ k l. let same : 0 + k ≡ k = omega arith in rw same refl), refl)
@@ -57,6 +152,10 @@ null_stands = ((omega arith, λ k l. let same : 0 + k ≡ k = omega arith in rw 
 -- what is made of the tree is something, and the form means it
 abbrev Makes : Option Tree → Form → Type 0
 Makes o h = (w : Tree) × (o ≡ Some w) × FormMeans h w
+
+-- the items of a level mean those of its tree
+members_of : {kind other : Kind} {ms : Members} {xs : Items} → FormMeans (level kind ms) (container other xs) → MembersMean ms xs
+members_of (level_means xs) = xs
 
 -- so a changed form means the changed tree
 pushed_makes : {ms : Members} {w : Form} {u x : Tree} → FormMeans (level Array ms) u → FormMeans w x
@@ -67,10 +166,23 @@ paired_makes : (k : List ℕ) {ms : Members} {w : Form} {u x : Tree} → FormMea
     → Makes (change_tree (pair k x) u) (level Object (append_member ms (Some k) w))
 paired_makes k (level_means xs) x = (_, refl, level_means (append_means (Some k) xs x))
 
+inserted_makes : (n : ℕ) {ms ns : Members} {w : Form} {u x : Tree} → FormMeans (level Array ms) u → FormMeans w x → insert_member n w ms ≡ Some ns
+    → Makes (change_tree (insert n x) u) (level Array ns)
+inserted_makes n (level_means xs) x e = elim (insert_means_items n xs x e) [ makes_items ys o means ↦ (container Array ys, rw o refl, level_means means) ]
+
+removed_makes : (node : Node) (kind : Kind) {ms ns : Members} {u : Tree} → FormMeans (level kind ms) u → members_without node kind ms ≡ Some ns
+    → Makes (change_tree (remove node) u) (level kind ns)
+removed_makes (index n) Array (level_means xs) e = elim (without_at_means n xs e) [ makes_items ys o means ↦ (container Array ys, rw o refl, level_means means) ]
+removed_makes (index n) Object (level_means xs) e = absurd (none_not_some e)
+removed_makes (key k) Array (level_means xs) e = absurd (none_not_some e)
+removed_makes (key k) Object (level_means xs) e = elim (without_of_means k xs e) [ makes_items ys o means ↦ (container Object ys, rw o refl, level_means means) ]
+
 change_makes : {c : Change Form} {d : Change Tree} {m g : Form} {u : Tree} → ChangeMeans c d → FormMeans m u → IsChange m g c → Makes (change_tree d u) g
 change_makes (set_means x) there (is_set e) = (_, refl, rw e x)
 change_makes (push_means x) there (is_pushed o e) = rw e (pushed_makes (opened_means o there) x)
 change_makes (pair_means {k = k} x) there (is_paired o e) = rw e (paired_makes k (opened_means o there) x)
+change_makes (insert_means {n} x) there (is_inserted o b e) = rw e (inserted_makes n (opened_means o there) x b)
+change_makes (remove_means {node}) there (is_removed {kind = kind} o b e) = rw e (removed_makes node kind (opened_means o there) b)
 change_makes take_means there (is_taken e) = (_, refl, rw e (raw_means (means_null null_stands)))
 
 -- and an edited form the edited tree
@@ -90,13 +202,44 @@ object_paired : (k : List ℕ) (x u : Tree) {y : Tree} → change_tree (pair k x
 object_paired k x (container Object xs) e = (xs, refl)
 object_paired k x u e = absurd (none_not_some e)
 
--- where the tree can be changed, so can the form
+array_inserted : (n : ℕ) (x u : Tree) {y : Tree} → change_tree (insert n x) u ≡ Some y → (xs : Items) × (ys : Items) × (u ≡ container Array xs) × (insert_item n x xs ≡ Some ys)
+array_inserted n x (container Array xs) e = elim (some_or_none (insert_item n x xs)) [
+  | inl none ↦ absurd (none_not_some (rw none at e))
+  | inr (ys, is) ↦ (xs, ys, refl, is)
+]
+array_inserted n x u e = absurd (none_not_some e)
 
+-- so with what an item is removed from
+some_removed : (node : Node) {m : Form} (u : Tree) {y : Tree} → FormMeans m u → change_tree (remove node) u ≡ Some y → (g : Form) × IsChange m g (remove node)
+some_removed (index n) (container Array xs) there e = elim (some_or_none (without_at n xs)) [
+  | inl none ↦ absurd (none_not_some (rw none at e))
+  | inr (ys, is) ↦
+      let (ms, o) = level_some there in
+      let (ns, made) = some_without_at n (members_of (opened_means o there)) is in
+      (_, is_removed o made refl)
+]
+some_removed (key k) (container Object xs) there e = elim (some_or_none (without_of k xs)) [
+  | inl none ↦ absurd (none_not_some (rw none at e))
+  | inr (ys, is) ↦
+      let (ms, o) = level_some there in
+      let (ns, made) = some_without_of k (members_of (opened_means o there)) is in
+      (_, is_removed o made refl)
+]
+some_removed node u there e = absurd (none_not_some e)
+
+-- where the tree can be changed, so can the form
 change_some : {c : Change Form} {d : Change Tree} {m : Form} {u y : Tree} → ChangeMeans c d → FormMeans m u → change_tree d u ≡ Some y
     → (g : Form) × IsChange m g c
 change_some (set_means x) there e = (_, is_set refl)
 change_some {u = u} (push_means {v = x} p) there e = let (ms, o) = level_some (rw (array_pushed x u e).1 at there) in (_, is_pushed o refl)
 change_some {u = u} (pair_means {k} {v = x} p) there e = let (ms, o) = level_some (rw (object_paired k x u e).1 at there) in (_, is_paired o refl)
+change_some {u = u} (insert_means {n} {w} {v = x} p) there e =
+    let (xs, ys, is, made) = array_inserted n x u e in
+    let own = rw is at there in
+    let (ms, o) = level_some own in
+    let (ns, b) = some_inserted n w x (members_of (opened_means o own)) made in
+    (_, is_inserted o b refl)
+change_some {u = u} (remove_means {node}) there e = some_removed node u there e
 change_some take_means there e = (_, is_taken refl)
 
 -- where the tree can be edited, so can the form
@@ -133,11 +276,68 @@ level_appends : (l : Option (List ℕ)) {kind : Kind} {ms : Members} {f : Form} 
     → IsSound (level kind (append_member ms l f))
 level_appends l (level_sound ms) label s = level_sound (append_sound l ms label s)
 
+-- and so it is with one item more at a place, or one less
+insert_sound : (n : ℕ) {ms ns : Members} {f : Form} → AreSound Array ms → IsSound f → insert_member n f ms ≡ Some ns → AreSound Array ns
+insert_sound zero {ms} {ns} {f} s x e = let q : ns ≡ member None f ms = cc in rw q (item_sound refl x s)
+insert_sound (suc n) none_sound x e = absurd (none_not_some e)
+insert_sound (suc n) {ns = ns} {f} (item_sound {l = l} {f = g} {ms} label y s) x e = elim (some_or_none (insert_member n f ms)) [
+  | inl none ↦ absurd (none_not_some (rw none at e))
+  | inr (ks, is) ↦
+      let made : ◌≡◌ {A = Option Members} (Some (member l g ks)) (Some ns) = rw is at e in
+      let q : ns ≡ member l g ks = cc in
+      rw q (item_sound label y (insert_sound n s x is))
+]
+
+without_at_sound : (n : ℕ) {kind : Kind} {ms ns : Members} → AreSound kind ms → members_without_at n ms ≡ Some ns → AreSound kind ns
+without_at_sound n none_sound e = absurd (none_not_some e)
+without_at_sound zero {ns = ns} (item_sound {ms = ms} label y s) e = let q : ns ≡ ms = cc in rw q s
+without_at_sound (suc n) {ns = ns} (item_sound {l = l} {f = g} {ms} label y s) e = elim (some_or_none (members_without_at n ms)) [
+  | inl none ↦ absurd (none_not_some (rw none at e))
+  | inr (ks, is) ↦
+      let made : ◌≡◌ {A = Option Members} (Some (member l g ks)) (Some ns) = rw is at e in
+      let q : ns ≡ member l g ks = cc in
+      rw q (item_sound label y (without_at_sound n s is))
+]
+
+without_of_sound : (k : List ℕ) {kind : Kind} {ms ns : Members} → AreSound kind ms → members_without_of k ms ≡ Some ns → AreSound kind ns
+without_of_sound k none_sound e = absurd (none_not_some e)
+without_of_sound k {ns = ns} (item_sound {l = None} {f = g} {ms} label y s) e = elim (some_or_none (members_without_of k ms)) [
+  | inl none ↦ absurd (none_not_some (rw none at e))
+  | inr (ks, is) ↦
+      let made : ◌≡◌ {A = Option Members} (Some (member None g ks)) (Some ns) = rw is at e in
+      let q : ns ≡ member None g ks = cc in
+      rw q (item_sound label y (without_of_sound k s is))
+]
+without_of_sound k {ns = ns} (item_sound {l = Some l} {f = g} {ms} label y s) e = elim (cases_Bool (pointwise nat_eq l k)) [
+  | inl same ↦
+      let made : ◌≡◌ {A = Option Members} (Some ms) (Some ns) = rw same at e in
+      let q : ns ≡ ms = cc in
+      rw q s
+  | inr other ↦ elim (some_or_none (members_without_of k ms)) [
+    | inl none ↦ absurd (none_not_some (rw (other, none) at e))
+    | inr (ks, is) ↦
+        let made : ◌≡◌ {A = Option Members} (Some (member (Some l) g ks)) (Some ns) = rw (other, is) at e in
+        let q : ns ≡ member (Some l) g ks = cc in
+        rw q (item_sound label y (without_of_sound k s is))
+  ]
+]
+
+inserted_sound : (n : ℕ) {ms ns : Members} {f : Form} → IsSound (level Array ms) → IsSound f → insert_member n f ms ≡ Some ns → IsSound (level Array ns)
+inserted_sound n (level_sound s) x e = level_sound (insert_sound n s x e)
+
+removed_sound : (node : Node) (kind : Kind) {ms ns : Members} → IsSound (level kind ms) → members_without node kind ms ≡ Some ns → IsSound (level kind ns)
+removed_sound (index n) Array (level_sound s) e = level_sound (without_at_sound n s e)
+removed_sound (index n) Object s e = absurd (none_not_some e)
+removed_sound (key k) Array s e = absurd (none_not_some e)
+removed_sound (key k) Object (level_sound s) e = level_sound (without_of_sound k s e)
+
 -- so do changes, and edits
 change_sound : {c : Change Form} {m g : Form} → IsChange m g c → IsSoundChange c → IsSound m → IsSound g
 change_sound (is_set e) c s = rw e c
 change_sound (is_pushed o e) c s = rw e (level_appends None (opened_sound o s) refl c)
 change_sound (is_paired {k} o e) c s = rw e (level_appends (Some k) (opened_sound o s) (_, refl, c.0) c.1)
+change_sound (is_inserted {n} o b e) c s = rw e (inserted_sound n (opened_sound o s) c b)
+change_sound (is_removed {node} {kind} o b e) c s = rw e (removed_sound node kind (opened_sound o s) b)
 change_sound (is_taken e) c s = rw e (raw_sound null_is_whole.value null_is_whole.utf8)
 
 pub edit_sound : {e : Edit Form} {f h : Form} → IsEdit e f h → IsSoundChange e.change → IsSound f → IsSound h
@@ -149,6 +349,8 @@ change_means {c = set w} s = let (v, means) = sound_means s in (set v, set_means
 change_means {c = push w} s = let (v, means) = sound_means s in (push v, push_means means)
 change_means {c = pair k w} s = let (v, means) = sound_means s.1 in (pair k v, pair_means means)
 change_means {c = take} s = (take, take_means)
+change_means {c = insert n w} s = let (v, means) = sound_means s in (insert n v, insert_means means)
+change_means {c = remove node} s = (remove node, remove_means)
 
 -- edits in order make one form, or one of them is the first that is refused
 pub edits_one : {es : List (Edit Form)} {f g h : Form} → AreEdits es f g → AreEdits es f h → g ≡ h

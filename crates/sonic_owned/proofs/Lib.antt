@@ -5,6 +5,7 @@ pub mod DocumentLemmas
 pub mod EditLemmas
 mod Folds
 mod IntegerLemmas
+mod ItemLemmas
 mod KeptTextLemmas
 mod LeadingLemmas
 mod Lent

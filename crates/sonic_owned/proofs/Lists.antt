@@ -1,5 +1,5 @@
 -- The lists of a level, item by item.
-use Rattle.std.proofs.Common.{◌≡◌, ◌∙◌, ap, sym, inl, inr, refl, ℕ, zero, suc, true, false, nat_eq, ◌∷◌, ◌+◌, ◌<◌, ◌≤◌, List, [], length, get_or, map, Option, Some, None, option_map, arith}
+use Rattle.std.proofs.Common.{◌≡◌, ◌⊎◌, ◌∙◌, ap, sym, inl, inr, refl, ℕ, zero, suc, true, false, nat_eq, ◌∷◌, ◌+◌, ◌<◌, ◌≤◌, List, [], length, get_or, map, Option, Some, None, option_map, arith}
 use Rattle.std.proofs.lemmas.Bool.{cases_eq, cases_lt, and_parts, eqb-true}
 use Rattle.std.specs.Cmp.Lexicographic.{pointwise, nat_list_eq_equiv}
 use Rattle.std.specs.Option.{option_map_or}
@@ -7,6 +7,7 @@ use Rattle.sonic_owned.specs.Owned.{HasKeyAt}
 use Rattle.sonic_owned.specs.Forms.{Form}
 use Rattle.std.proofs.lemmas.List.{length-map}
 use Rattle.std.proofs.lemmas.Option.{slice_get_past, slice_get-get_or, slice_get-map}
+use Rattle.std.specs.List as list
 use Rattle.std.specs.List.{slice_get, slice_set}
 use Rattle.sonic_owned.specs.Puts.{with_value}
 use Rattle.sonic_owned.proofs.Folds.{formed, elements_of, members_of}
@@ -46,6 +47,11 @@ texts_differ xs ys e same =
 pub none_not_some : {X : Type 0} {x : X} → ◌≡◌ {A = Option X} None (Some x) → ⊥
 none_not_some e = cc
 
+-- there is one, or none
+pub some_or_none : {X : Type 0} (o : Option X) → (o ≡ None) ⊎ ((x : X) × (o ≡ Some x))
+some_or_none None = inl refl
+some_or_none (Some x) = inr (x, refl)
+
 -- a member with the key
 pub key_here : (ms : List (MadeText × OwnedLazyValue)) (i : ℕ) (d : MadeText × OwnedLazyValue) (k : List ℕ) → i < length ms → (get_or ms i d).0.text ≡ k → HasKeyAt (members_of ms) k i
 key_here ms i d k l e = (form (get_or ms i d).1, members-at ms i d l ∙ ap (λ t. Some (t, form (get_or ms i d).1)) e)
@@ -80,3 +86,28 @@ pub members-set : (ms : List (MadeText × OwnedLazyValue)) (n : ℕ) (d : MadeTe
 members-set [] n d w l e = absurd (omega arith)
 members-set (m ∷ ms) zero d w l e = rw e refl
 members-set (m ∷ ms) (suc n) d w l e = ap (λ l. pair_of (formed m) ∷ l) (members-set ms n d w (omega arith) e)
+
+-- one item more, or one less
+pub elements-insert : (vs : List OwnedLazyValue) (n : ℕ) (w : OwnedLazyValue) → elements_of (list.insert vs n w) ≡ list.insert (elements_of vs) n (form w)
+elements-insert vs zero w = refl
+elements-insert [] (suc n) w = refl
+elements-insert (v ∷ vs) (suc n) w = ap (λ l. form v ∷ l) (elements-insert vs n w)
+
+pub elements-remove : (vs : List OwnedLazyValue) (n : ℕ) → elements_of (list.remove vs n) ≡ list.remove (elements_of vs) n
+elements-remove [] zero = refl
+elements-remove [] (suc n) = refl
+elements-remove (v ∷ vs) zero = refl
+elements-remove (v ∷ vs) (suc n) = ap (λ l. form v ∷ l) (elements-remove vs n)
+
+pub members-remove : (ms : List (MadeText × OwnedLazyValue)) (n : ℕ) → members_of (list.remove ms n) ≡ list.remove (members_of ms) n
+members-remove [] zero = refl
+members-remove [] (suc n) = refl
+members-remove (m ∷ ms) zero = refl
+members-remove (m ∷ ms) (suc n) = ap (λ l. pair_of (formed m) ∷ l) (members-remove ms n)
+
+-- past the last there is none to remove
+pub remove-past : {X : Type 0} (xs : List X) (n : ℕ) → length xs ≤ n → list.remove xs n ≡ xs
+remove-past [] zero past = refl
+remove-past [] (suc n) past = refl
+remove-past (x ∷ xs) zero past = absurd (omega (arith, past))
+remove-past (x ∷ xs) (suc n) past = ap (λ ys. x ∷ ys) (remove-past xs n (omega (arith, past)))

@@ -3,11 +3,11 @@ use Rattle.std.proofs.Common.{◌≡◌, refl, subst, ℕ, ◌+◌, Bool, List, 
 use Rattle.std.proofs.lemmas.List.{append-nil}
 use Rattle.std.specs.Str.{IsUtf8}
 use Rattle.sonic_lazy.proofs.RawNumberLemmas.{whole_utf8}
-use Rattle.sonic_lazy.proofs.WholeLemmas.{null_is_whole, whole_had}
+use Rattle.sonic_lazy.proofs.WholeLemmas.{null_is_whole, whole_had, false_not_true}
 use Rattle.sonic_lazy.specs.Wholes.{IsWholeValue}
 use Rattle.sonic_owned.proofs.Folds.{elements_of, elements-roll, members_of, members-roll, node_form, node-roll, form-node, form-roll}
 use Rattle.sonic_owned.proofs.IntegerLemmas.{integer_number}
-use Rattle.sonic_owned.specs.Forms.{Form, raw, Members, IsSound, raw_sound, level_sound, AreSound, none_sound, item_sound, text, FormMeans, raw_means, level_means, MembersMean, no_member_means, member_means, unnamed, named}
+use Rattle.sonic_owned.specs.Forms.{Form, raw, level, Members, IsSound, raw_sound, level_sound, AreSound, none_sound, item_sound, text, FormMeans, raw_means, level_means, MembersMean, no_member_means, member_means, unnamed, named}
 use Rattle.sonic_owned.specs.Integers.{value as integer}
 use Rattle.sonic_owned.specs.Views.{form, elements, members}
 use Rattle.sonic_owned.specs.declared.made.MadeText.{MadeText}
@@ -22,7 +22,7 @@ use Rattle.sonic_owned.proofs.TextLemmas.{text_means}
 use Rattle.sonic_text.proofs.Places.{after_space_later}
 use Rattle.sonic_text.proofs.Values.{value_starts}
 use Rattle.sonic_text.proofs.Within.{after_space_within}
-use Rattle.sonic_text.specs.Places.{after_space}
+use Rattle.sonic_text.specs.Places.{byte, after_space}
 use Rattle.sonic_text.specs.Values.{IsValue}
 use Rattle.sonic_text.proofs.TreeLemmas.{tree_of, value_of}
 use Rattle.sonic_text.proofs.WrittenLemmas.{string_stands}
@@ -99,11 +99,33 @@ mutual
   sound_mean none_sound = (no_item, no_member_means)
   sound_mean (item_sound {l} label f ms) = let x = sound_means f in let xs = sound_mean ms in (item l x.0 xs.0, member_means x.1 xs.1)
 
--- and its text is a valid document
+-- and its text is one value, which isn't opened and means the same
+text_value : {f : Form} → IsSound f → IsValue strict (text f) 0 (length (text f))
+text_value is = value_of (text_means is (sound_means is).1)
+
+pub closed_sound : {f : Form} → IsSound f → IsSound (raw (text f))
+closed_sound is = raw_sound (text_value is) (text_utf8 is)
+
+pub closed_means : {f : Form} → IsSound f → (x : Tree) → FormMeans f x → FormMeans (raw (text f)) x
+closed_means is x means = raw_means (text_means is means)
+
+-- and of a level no string
+no_quote : (kind : Kind) (ms : Members) → byte (text (level kind ms)) 0 ≡ 34 → ⊥
+no_quote Array ms e = omega (arith, e)
+no_quote Object ms e = omega (arith, e)
+
+pub level_whole : {f : Form} {kind : Kind} {ms : Members} → f ≡ level kind ms → IsSound f → IsWholeValue (text f) false
+level_whole {f} {kind} {ms} shape is = record {
+  value = text_value is;
+  utf8 = text_utf8 is;
+  escapes = (λ e. absurd (false_not_true e), λ escaped. absurd (no_quote kind ms (rw shape at escaped.0)));
+}
+
+-- and so a valid document
 pub sound_valid : {f : Form} → IsSound f → IsValidDocument (text f)
 sound_valid {f} is =
     let t = text f in
-    let value : IsValue strict t 0 (length t) = value_of (text_means is (sound_means is).1) in
+    let value : IsValue strict t 0 (length t) = text_value is in
     let start : after_space t 0 ≡ 0 = value_starts value in
     let end : after_space t (length t) ≡ length t = omega (arith, after_space_later t (length t), after_space_within t (length t) (omega arith)) in
     record { alone = record { end = length t; root = rw start value; place = end }; utf8 = text_utf8 is }

@@ -1,11 +1,14 @@
 -- What edits make of a form.
-use Rattle.std.specs.Prelude.{◌≡◌, ◌+◌, ℕ, List, [], ◌∷◌, Option, Some, None, codes, ⊤}
+use Rattle.std.specs.Prelude.{◌≡◌, ◌+◌, ℕ, zero, suc, nat_eq, if◌then◌else◌, List, [], ◌∷◌, Option, Some, None, option_map, codes, ⊤}
+use Rattle.std.specs.Cmp.Lexicographic.{pointwise}
 use Rattle.std.specs.Str.{IsUtf8}
 use Rattle.sonic_owned.specs.Forms.{Form, raw, level, Members, no_member, member, IsSound, FormMeans}
 use Rattle.sonic_owned.specs.Opened.{IsOpened}
 use Rattle.sonic_owned.specs.Puts.{IsPut}
-use Rattle.sonic_owned.specs.TreeEdits.{Change, set, push, pair, take, Edit}
+use Rattle.sonic_owned.specs.TreeEdits.{Change, set, push, pair, take, insert, remove, Edit}
+use Rattle.sonic_text.specs.Paths.{Node, key, index}
 use Rattle.sonic_text.specs.Trees.{Tree}
+use Rattle.sonic_text.specs.declared.kind.Kind.{Kind}
 use Rattle.sonic_text.specs.declared.kind.Kind.TheVariants.{Array, Object}
 
 -- the items of a level, and one more after them
@@ -13,12 +16,39 @@ abbrev pub append_member : Members → Option (List ℕ) → Form → Members
 append_member no_member l f = member l f no_member
 append_member (member k g ms) l f = member k g (append_member ms l f)
 
--- the change makes g of the form f: a form that isn't opened is opened before an item is appended
+-- the items with one more before the one at a position, or after the last
+abbrev pub insert_member : ℕ → Form → Members → Option Members
+insert_member zero f ms = Some (member None f ms)
+insert_member (suc n) f no_member = None
+insert_member (suc n) f (member l g ms) = option_map (member l g) (insert_member n f ms)
+
+-- the items without the one at a position, and without the first with a key
+abbrev pub members_without_at : ℕ → Members → Option Members
+members_without_at n no_member = None
+members_without_at zero (member l f ms) = Some ms
+members_without_at (suc n) (member l f ms) = option_map (member l f) (members_without_at n ms)
+
+abbrev pub members_without_of : List ℕ → Members → Option Members
+members_without_of k no_member = None
+members_without_of k (member None f ms) = option_map (member None f) (members_without_of k ms)
+members_without_of k (member (Some l) f ms) = if pointwise nat_eq l k then Some ms else option_map (member (Some l) f) (members_without_of k ms)
+
+-- the items of a level of this kind without the one that a node names
+abbrev pub members_without : Node → Kind → Members → Option Members
+members_without (index n) Array ms = members_without_at n ms
+members_without (index n) Object ms = None
+members_without (key k) Array ms = None
+members_without (key k) Object ms = members_without_of k ms
+
+-- the change makes g of the form f: a form that isn't opened is opened before an item is appended, inserted or removed
 pub data IsChange (f g : Form) : Change Form → Type 0 where
   is_set : {w : Form} → g ≡ w → IsChange f g (set w)
   is_pushed : {w : Form} {ms : Members} → IsOpened f (level Array ms) → g ≡ level Array (append_member ms None w) → IsChange f g (push w)
   is_paired : {k : List ℕ} {w : Form} {ms : Members} → IsOpened f (level Object ms) → g ≡ level Object (append_member ms (Some k) w) → IsChange f g (pair k w)
   is_taken : g ≡ raw (codes "null") → IsChange f g take
+  is_inserted : {n : ℕ} {w : Form} {ms ns : Members} → IsOpened f (level Array ms) → insert_member n w ms ≡ Some ns → g ≡ level Array ns → IsChange f g (insert n w)
+  is_removed : {node : Node} {kind : Kind} {ms ns : Members} → IsOpened f (level kind ms) → members_without node kind ms ≡ Some ns → g ≡ level kind ns
+      → IsChange f g (remove node)
 
 -- the edit makes h of the form f: what is changed is the part to which its path leads, and all else is as it was
 pub record IsEdit (e : Edit Form) (f h : Form) : Type 0 where
@@ -47,6 +77,8 @@ IsSoundChange (set w) = IsSound w
 IsSoundChange (push w) = IsSound w
 IsSoundChange (pair k w) = IsUtf8 k × IsSound w
 IsSoundChange take = ⊤
+IsSoundChange (insert n w) = IsSound w
+IsSoundChange (remove node) = ⊤
 
 -- the change of a form means the change of a tree: what it puts means what is put there
 pub data ChangeMeans : Change Form → Change Tree → Type 0 where
@@ -54,6 +86,8 @@ pub data ChangeMeans : Change Form → Change Tree → Type 0 where
   push_means : {w : Form} {v : Tree} → FormMeans w v → ChangeMeans (push w) (push v)
   pair_means : {k : List ℕ} {w : Form} {v : Tree} → FormMeans w v → ChangeMeans (pair k w) (pair k v)
   take_means : ChangeMeans take take
+  insert_means : {n : ℕ} {w : Form} {v : Tree} → FormMeans w v → ChangeMeans (insert n w) (insert n v)
+  remove_means : {node : Node} → ChangeMeans (remove node) (remove node)
 
 -- so with an edit, along the same path
 pub record EditMeans (e : Edit Form) (d : Edit Tree) : Type 0 where

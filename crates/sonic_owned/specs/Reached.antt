@@ -9,7 +9,7 @@ use Rattle.sonic_owned.specs.Forms.{Form, FormMeans, scalar_of_form}
 use Rattle.sonic_owned.specs.Leading.{LeadsTo, item_in}
 use Rattle.sonic_owned.specs.Opened.{IsOpened, IsClosedOf}
 use Rattle.sonic_owned.specs.Puts.{put_in, IsPartOf, IsPut}
-use Rattle.sonic_owned.specs.TreeEdits.{Change, Edit, set, push, pair, take}
+use Rattle.sonic_owned.specs.TreeEdits.{Change, Edit, set, push, pair, take, insert, remove}
 use Rattle.sonic_owned.specs.Views.{form}
 use Rattle.sonic_owned.specs.declared.value.OwnedLazyValue.{OwnedLazyValue}
 use Rattle.sonic_text.specs.Paths.{Node, key, index, Path}
@@ -35,12 +35,14 @@ pub data IsOpenedAlong : Path → (before after : Form) → Type 0 where
 abbrev pub IsKeptAlong : Path → (before after : Form) → Type 0
 IsKeptAlong path before after = MeansStill before after × IsOpenedAlong path before after
 
--- the way to what a change appends: an array is opened for an element, and an object for a member
-abbrev pub way_to_appended : Change Form → Path
-way_to_appended (push w) = index 0 ∷ []
-way_to_appended (pair k w) = key k ∷ []
-way_to_appended (set w) = []
-way_to_appended take = []
+-- the way to the item that a change adds or removes: an array is opened for an element, and an object for a member
+abbrev pub way_to_item : Change Form → Path
+way_to_item (push w) = index 0 ∷ []
+way_to_item (pair k w) = key k ∷ []
+way_to_item (insert n w) = index n ∷ []
+way_to_item (remove node) = node ∷ []
+way_to_item (set w) = []
+way_to_item take = []
 
 -- on its way the path comes to a container that isn't opened, of the kind that the next node asks for
 pub data IsOpenedOn : Path → Form → Type 0 where
@@ -59,14 +61,16 @@ pub data IsUnreached (path : Path) (e : Error) : Type 0 where
   too_long : 255 < length path → IsPlainError e RecursionLimitExceeded → IsUnreached path e
   out_of_memory : length path ≤ 255 → IsPlainError e NoMemory → IsUnreached path e
 
--- the change appends to the form, which is of the kind that it asks for
-abbrev pub Appends : Change Form → Form → Type 0
-Appends (push w) f = scalar_of_form f ≡ container Array
-Appends (pair k w) f = scalar_of_form f ≡ container Object
-Appends (set w) f = ⊥
-Appends take f = ⊥
+-- the change needs memory: it adds an item to the form, which is of the kind that it asks for, or removes one of it, which is to be opened
+abbrev pub ChangeNeedsMemory : Change Form → Form → Type 0
+ChangeNeedsMemory (push w) f = scalar_of_form f ≡ container Array
+ChangeNeedsMemory (pair k w) f = scalar_of_form f ≡ container Object
+ChangeNeedsMemory (insert n w) f = scalar_of_form f ≡ container Array
+ChangeNeedsMemory (remove node) f = IsClosedOf (kind_of node) f
+ChangeNeedsMemory (set w) f = ⊥
+ChangeNeedsMemory take f = ⊥
 
--- the edit takes memory: a level on the way of its path is to be opened, or it appends to what that leads to
+-- the edit needs memory: a level on the way of its path is to be opened, or its change needs some at what that leads to
 pub data NeedsMemory (e : Edit Form) (f : Form) : Type 0 where
   for_a_level : IsOpenedOn e.path f → NeedsMemory e f
-  for_an_item : {part : Form} → IsPartOf e.path f part → Appends e.change part → NeedsMemory e f
+  for_an_item : {part : Form} → IsPartOf e.path f part → ChangeNeedsMemory e.change part → NeedsMemory e f

@@ -1,5 +1,5 @@
 // Integers of 64 bits.
-ghost use Rattle.std.specs.Prelude.{◌≡◌, ◌<◌, ◌^◌, FitsSigned, unsigned_abs, pos};
+ghost use Rattle.std.specs.Prelude.{◌≡◌, ◌<◌, ◌^◌, FitsSigned, unsigned_abs};
 ghost use Rattle.std.proofs.Props.{props};
 ghost use Rattle.std.specs.Int.{w64};
 ghost use Rattle.std.specs.Option.{SomeIff};
@@ -11,7 +11,7 @@ use std::fmt::Write;
 
 // An integer as its type keeps it.
 #[derive(Drop, Clone, Copy)]
-enum Kept {
+pub(crate) enum Kept {
     Unsigned(u64),
     Signed(i64),
 }
@@ -19,34 +19,11 @@ enum Kept {
 // An integer of 64 bits, with a sign or without one.
 #[derive(Drop)]
 pub(crate) struct Integer {
-    kept: Kept,
+    pub(crate) kept: Kept,
     ghost short: { unsigned_abs (value kept) < 2 ^ 64 } by { Prim.hlevel props },
 }
 
 impl Integer {
-    pub(crate) fn unsigned(n: u64) -> Integer
-        ensures { value result.kept ≡ pos n }
-    {
-        Integer {
-            kept: Kept::Unsigned(n),
-        }
-    }
-
-    pub(crate) fn signed(z: i64) -> Integer
-        ensures { value result.kept ≡ z }
-    {
-        Integer {
-            kept: Kept::Signed(z),
-        }
-    }
-
-    // Another one.
-    pub(crate) fn copy(&self) -> Integer
-        ensures { value result.kept ≡ value self.now.kept }
-    {
-        Integer { kept: self.kept }
-    }
-
     // The value where it fits with a sign.
     pub(crate) fn as_i64(&self) -> Option<i64>
         ensures { SomeIff result (FitsSigned w64 (value self.now.kept)) (value self.now.kept) }

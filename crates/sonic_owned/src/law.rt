@@ -3,10 +3,11 @@ ghost use Rattle.std.specs.Prelude.{◌≡◌, ◌↔◌, ◌⊎◌, ℕ, List, 
 ghost use Rattle.sonic_find.specs.Documents.{IsValidDocument};
 ghost use Rattle.sonic_lazy.specs.Scalars.{scalar_of_tree};
 ghost use Rattle.sonic_owned.specs.Edits.{IsSoundChange, IsEdit, IsRefused, AreEdits, IsFirstRefused, EditMeans, EditsMean};
-ghost use Rattle.sonic_owned.specs.Forms.{Form, IsSound, FormMeans, scalar_of_form, text};
+ghost use Rattle.sonic_owned.specs.Forms.{Form, raw, IsSound, FormMeans, scalar_of_form, text};
 ghost use Rattle.sonic_owned.specs.Leading.{LeadsTo, StandsIn};
 ghost use Rattle.sonic_owned.specs.Opened.{IsOpened};
 ghost use Rattle.sonic_owned.specs.Puts.{IsPut};
+ghost use Rattle.sonic_owned.specs.Reached.{MeansStill};
 ghost use Rattle.sonic_owned.specs.TreeEdits.{Edit, edit_tree, edit_tree_all};
 ghost use Rattle.sonic_owned.specs.TreePuts.{put};
 ghost use Rattle.sonic_owned.specs.Views.{form, array_in, object_in, IsLevelOf};
@@ -36,6 +37,17 @@ pub fn text_is_a_document()
     ensures means { (f : Form) (x : Tree) → IsSound f → FormMeans f x
         → Means (text f) 0 (length (text f)) x }
     ensures valid { (f : Form) → IsSound f → IsValidDocument (text f) }
+{}
+
+/// The law of closing: the text of a sound form is itself the text of a value that isn't opened, which
+/// means what the form means.
+///
+/// So what [`OwnedView::closed`] gives can be put in the place of the value.
+///
+/// [`OwnedView::closed`]: crate::OwnedView::closed
+pub fn closing_keeps_the_value()
+    ensures sound { (f : Form) → IsSound f → IsSound (raw (text f)) }
+    ensures means { (f : Form) → IsSound f → MeansStill f (raw (text f)) }
 {}
 
 /// The law of parts: the text of what a path leads to stands in the text of the whole, byte for byte.

@@ -10,29 +10,11 @@ use std::alloc::Global;
 // A key, or the text of a string: UTF-8, as it is denoted, without quotes and escapes.
 #[derive(Drop)]
 pub(crate) struct MadeText {
-    text: FastStr,
+    pub(crate) text: FastStr,
     ghost utf8: { IsUtf8 text } by { Prim.hlevel props },
 }
 
 impl MadeText {
-    pub(crate) fn new(text: FastStr) -> MadeText
-        ensures { result.text ≡ text }
-    {
-        MadeText { text }
-    }
-
-    pub(crate) fn text(&self) -> &FastStr
-        ensures { result.now ≡ self.now.text }
-    {
-        &self.text
-    }
-
-    pub(crate) fn into_text(self) -> FastStr
-        ensures { result ≡ self.text }
-    {
-        self.text
-    }
-
     // Another owner of the text.
     pub(crate) fn clone(&self, alloc: Global) -> Result<MadeText>
         ensures ok { IfOk result (λ made. made.text ≡ self.now.text) }

@@ -124,7 +124,7 @@ impl OwnedLazyValue {
         ensures { form result ≡ raw (quoted text) }
     {
         OwnedLazyValue {
-            node: Node::Text(MadeText::new(text)),
+            node: Node::Text(MadeText { text }),
         }
     }
 }

@@ -5,6 +5,9 @@
 // Edits of values.
 #[cfg(test)]
 mod edits;
+// Items that are put between others, and removed.
+#[cfg(test)]
+mod items;
 // Values that are lent.
 #[cfg(test)]
 mod lending;

@@ -1,6 +1,6 @@
 -- Rules by which the beginning of a value, a key and an item are read.
 use Rattle.std.proofs.Common.{◌≡◌, ◌≢◌, ◌↔◌, ℕ, ◌<◌, ◌≤◌, Bool, List, length, arith, refl}
-use Rattle.std.specs.Prelude.{Option, Some, None, IfSome, MatchOption}
+use Rattle.std.specs.Prelude.{Some, None}
 use Rattle.sonic_text.specs.declared.kind.Kind.{Kind}
 use Rattle.sonic_text.specs.declared.kind.Kind.TheVariants.{Array, Object}
 use Rattle.sonic_text.specs.Places.{byte}
@@ -14,9 +14,7 @@ use Rattle.sonic_parser.specs.declared.begin.Begun.TheVariants.{Inside}
 use Rattle.sonic_parser.specs.declared.container.Next.TheVariants.{Item, End}
 use Rattle.sonic_parser.specs.declared.status.ParseStatus.TheVariants.{HasEscaped, None as NoNeed}
 use Rattle.sonic_parser.specs.Internal.Containers.{IsAfterBracket}
-use Rattle.sonic_parser.specs.declared.quick.Ahead.{Ahead}
-use Rattle.sonic_parser.specs.declared.quick.Ahead.TheVariants.{Value, Other}
-use Rattle.sonic_parser.specs.Internal.Skipping.{IsComplete, IsBegun, IsItem, IsAhead, IsValueEnd}
+use Rattle.sonic_parser.specs.Internal.Skipping.{IsComplete, IsBegun, IsItem}
 
 -- what begins with another byte is no string with a backslash
 pub no_escape : (t : List ℕ) (i e : ℕ) → byte t i ≢ 34 → (NoNeed ≡ HasEscaped) ↔ IsEscapedString t i e
@@ -55,12 +53,6 @@ member_item {b = b} l w y = record { later = omega arith; within = w; label = So
 -- a word with letters leads on
 pub literal_ended : (word t : List ℕ) {i j : ℕ} → 0 < length word → IsLiteral word t i j → (i < j) × (j ≤ length t)
 literal_ended word t some l = (omega (arith, l.1), omega (arith, l.0.0, l.1))
-
--- a value that ends, or something else
-pub value_ahead : (m : Bool) (t : List ℕ) (i : ℕ) (end : Option ℕ) (x : Ahead) → MatchOption end (x ≡ Other) (λ e. x ≡ Value e) → IfSome end (IsValueEnd m t i)
-    → IsAhead m t i x
-value_ahead m t i (Some e) x is ends = rw is ends
-value_ahead m t i None x is ends = rw is tt
 
 pub ruleset beginnings = (plain_value, empty_begun, filled_begun, null_literal, true_literal, false_literal, number, string, no_value, null_fault, true_fault, false_fault, number_fault, string_fault)
 

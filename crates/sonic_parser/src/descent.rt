@@ -123,7 +123,9 @@ impl<'de> Descent<'de> {
     {
         match Kind::opened_by(byte_at(self.parser.text(), self.parser.offset())) {
             None => {
-                self.parser.skip_value(alloc)?;
+                if !self.parser.pass_scalar() {
+                    self.parser.skip_value(alloc)?;
+                }
                 Ok(Step::Passed)
             }
             Some(kind) => self.enter(kind),

@@ -31,6 +31,8 @@ mod mismatch;
 mod strings;
 // What is known to be whole, passed without a second look.
 mod unchecked;
+// Values, passed as they come.
+mod values;
 
 /// A parser that reads the values of a text one after the other.
 ///
@@ -323,107 +325,6 @@ impl<'de> Parser<'de> {
         let key = key_end(self.read.as_u8_slice(), self.read.index(), self.lossy)?;
         self.read.set_index(key.value);
         Ok(key.string)
-    }
-
-    /// Skips the value that begins at the cursor, however deep it is.
-    ///
-    /// The cursor moves past the value's last byte. After an error it is where it was. Only a
-    /// container with items takes memory, one byte for each that is open at once. What comes after
-    /// the value isn't read, and nothing is said of its UTF-8.
-    #[inline(always)]
-    pub fn skip_value(&mut self, alloc: Global) -> Result<ParseStatus, Fault>
-        ensures ok { IfOk result (λ needs. IsPassed self.old self.new needs) }
-        ensures cursor { self.new ≡ moved self.old self.new.place }
-        ensures err { IfErr result (IsStopFor (λ s.
-            IsFault self.old.lossy self.old.text self.old.place s)) }
-        ensures memory { IsErrOf result Fault.OutOfMemory
-            → IsFilledContainer self.old.text self.old.place }
-        ensures within { IfErr result (IsStopFor (λ s. s.place ≤ length self.old.text)) }
-        ensures kept { OnErr result (self.new ≡ self.old) }
-    {
-        let Some(end) = digits_ahead(self.read.as_u8_slice(), self.read.index()) else {
-            return self.skip_other(alloc);
-        };
-        self.read.set_index(end);
-        Ok(ParseStatus::None)
-    }
-
-    // The same, where the value may be any.
-    fn skip_other(&mut self, alloc: Global) -> Result<ParseStatus, Fault>
-        ensures ok { IfOk result (λ needs. IsPassed self.old self.new needs) }
-        ensures cursor { self.new ≡ moved self.old self.new.place }
-        ensures err { IfErr result (IsStopFor (λ s.
-            IsFault self.old.lossy self.old.text self.old.place s)) }
-        ensures memory { IsErrOf result Fault.OutOfMemory
-            → IsFilledContainer self.old.text self.old.place }
-        ensures within { IfErr result (IsStopFor (λ s. s.place ≤ length self.old.text)) }
-        ensures kept { OnErr result (self.new ≡ self.old) }
-    {
-        let text = self.read.as_u8_slice();
-        let start = self.read.index();
-        match begin(text, start, self.lossy)? {
-            Begun::Complete(Skipped { end, status }) => {
-                self.read.set_index(end);
-                Ok(status)
-            }
-            Begun::Inside(kind, first) => {
-                let end = self.close(alloc, kind, first)?;
-                self.read.set_index(end);
-                Ok(ParseStatus::None)
-            }
-        }
-    }
-
-    // The end of the container that begins at the cursor, whose first item is expected at a place.
-    fn close(&mut self, alloc: Global, kind: Kind, first: usize) -> Result<usize, Fault>
-        requires within { first ≤ length self.old.text }
-        requires item { ItemsFit self.old.lossy self.old.text kind self.old.place 0 first }
-        ensures within { IfOk result (λ end. end ≤ length self.old.text) }
-        ensures ok { IfOk result (λ end. IsValue self.old.lossy self.old.text self.old.place end) }
-        ensures err { IfErr result (IsStopFor (λ s.
-            IsFault self.old.lossy self.old.text self.old.place s)) }
-        ensures kept { self.new ≡ self.old }
-    {
-        let mut opened = match self.opened.take() {
-            Some(opened) => opened,
-            None => Vec::new(alloc),
-        };
-        let (text, start) = (self.read.as_u8_slice(), self.read.index());
-        opened.clear();
-        let end = match opened.push(kind) {
-            Ok(()) => close(text, start, &mut opened, first, self.lossy),
-            Err(_) => Err(Fault::OutOfMemory),
-        };
-        self.opened = Some(opened);
-        end
-    }
-
-    /// Passes the value that is expected, however deep it is, and gives its text.
-    ///
-    /// The text begins with the value's first byte and ends with its last: of ` [1, 2] x` it is
-    /// `[1, 2]`. Only a container with items takes memory, one byte for each that is open at once.
-    /// What follows the value isn't read, and nothing is said of its UTF-8. After an error
-    /// the cursor is where the text's fault is, or, where memory ran out, where it was.
-    #[tactic(auto, using(crate::proofs::RefusalLemmas::refusals))]
-    pub fn skip_one(&mut self, alloc: Global) -> Result<(&'de [u8], ParseStatus), Error>
-        ensures ok { IfOk result (λ found. IsSkipped self.old self.new found.0.now found.1) }
-        ensures err { IfErr result (λ error. IsUnskipped self.old self.new error) }
-        ensures memory { IfErr result (λ error.
-            error_code error ≡ ErrorCode.NoMemory
-            → IsOutOfMemory (value_start self.old) self.old self.new error) }
-        ensures honest { IfErr result (IsHonest self.old.lossy self.old.text self.old.place) }
-    {
-        let place = self.read.index();
-        self.skip_space_peek();
-        let start = self.read.index();
-        match self.skip_value(alloc) {
-            Ok(status) => Ok((self.read.slice(start, self.read.index()), status)),
-            Err(Fault::OutOfMemory) => {
-                self.read.set_index(place);
-                Err(Error::plain(ErrorCode::NoMemory))
-            }
-            Err(Fault::At(stop)) => Err(self.stop(stop)),
-        }
     }
 }
 

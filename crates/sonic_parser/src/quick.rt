@@ -38,21 +38,6 @@ fn value_place(text: &[u8], place: usize, kind: Kind, lossy: bool) -> Option<usi
     }
 }
 
-// The end of the literal or the number with a minus sign at a place, unless none is there.
-#[inline(always)]
-fn scalar_end(text: &[u8], place: usize, lossy: bool) -> Option<usize>
-    requires { place ≤ length text.now }
-    ensures { IfSome result (IsValueEnd lossy text.now place) }
-{
-    match byte_at(text, place) {
-        b'-' => skip_number(text, place),
-        b'n' => skip_literal(text, place, "null"),
-        b't' => skip_literal(text, place, "true"),
-        b'f' => skip_literal(text, place, "false"),
-        _ => None,
-    }
-}
-
 // What the container is whose bracket is at a place.
 #[inline(always)]
 fn inside(text: &[u8], place: usize, kind: Kind) -> Ahead
@@ -63,17 +48,6 @@ fn inside(text: &[u8], place: usize, kind: Kind) -> Ahead
     match first_item(text, place, kind) {
         Next::Item(first) => Ahead::Inside(kind, first),
         Next::End(end) => Ahead::Value(end),
-    }
-}
-
-// The value that ends here, if there is one.
-#[inline(always)]
-fn ahead_of_value(end: Option<usize>) -> Ahead
-    ensures { MatchOption end (result ≡ Ahead.Other) (λ e. result ≡ Ahead.Value e) }
-{
-    match end {
-        Some(end) => Ahead::Value(end),
-        None => Ahead::Other,
     }
 }
 
@@ -95,26 +69,44 @@ pub(crate) fn digits_ahead(text: &[u8], place: usize) -> Option<usize>
     }
 }
 
+// The end of the string, the number or the literal at a place, unless none fits there.
+#[inline(always)]
+pub(crate) fn scalar_end(text: &[u8], place: usize, lossy: bool) -> Option<usize>
+    requires { place ≤ length text.now }
+    ensures { IfSome result (IsValueEnd lossy text.now place) }
+{
+    let byte = byte_at(text, place);
+    if byte == b'"' {
+        return skip_string(text, place, lossy);
+    }
+    if byte.is_ascii_digit() {
+        return match digits_ahead(text, place) {
+            Some(end) => Some(end),
+            None => skip_number(text, place),
+        };
+    }
+    match byte {
+        b'-' => skip_number(text, place),
+        b'n' => skip_literal(text, place, "null"),
+        b't' => skip_literal(text, place, "true"),
+        b'f' => skip_literal(text, place, "false"),
+        _ => None,
+    }
+}
+
 // What is at the place of a value.
 #[inline(always)]
 fn look(text: &[u8], place: usize, lossy: bool) -> Ahead
     requires { place ≤ length text.now }
     ensures { IsAhead lossy text.now place result }
 {
-    let byte = byte_at(text, place);
-    if byte == b'"' {
-        return ahead_of_value(skip_string(text, place, lossy));
+    if let Some(end) = scalar_end(text, place, lossy) {
+        return Ahead::Value(end);
     }
-    if byte.is_ascii_digit() {
-        return match digits_ahead(text, place) {
-            Some(end) => Ahead::Value(end),
-            None => ahead_of_value(skip_number(text, place)),
-        };
+    match Kind::opened_by(byte_at(text, place)) {
+        Some(kind) => inside(text, place, kind),
+        None => Ahead::Other,
     }
-    if let Some(kind) = Kind::opened_by(byte) {
-        return inside(text, place, kind);
-    }
-    ahead_of_value(scalar_end(text, place, lossy))
 }
 
 // Whether an array is the first item of the array that is open, and has an array for its own.

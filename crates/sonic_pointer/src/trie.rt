@@ -1,5 +1,5 @@
 // A tree as its calls read it.
-ghost use Rattle.std.specs.Prelude.{◌≡◌, ◌≢◌, ℕ, ◌<◌, ◌↔◌, IsTrue, IfOk, IfErr, IfSome, IfNone, Some, length, slice_get};
+ghost use Rattle.std.specs.Prelude.{◌≡◌, ◌≢◌, ℕ, ◌<◌, ◌≤◌, ◌↔◌, IsTrue, IfOk, IfErr, IfSome, IfNone, Some, length, slice_get};
 ghost use Rattle.sonic_text.specs.Paths.{Node, Path, key};
 ghost use Rattle.sonic_pointer.specs.Nodes.{node_of};
 ghost use Rattle.sonic_pointer.specs.Paths.{HasNextNode, IsMixed};
@@ -28,6 +28,22 @@ pub(crate) struct InsertionPoint {
     pub(crate) at: usize,
     pub(crate) depth: usize,
     pub(crate) position: usize,
+}
+
+// Which of the places from `low` to before `high` is looked at next: the one that is near, then the one
+// before it, and else the middle.
+#[inline(always)]
+fn probe(low: usize, high: usize, near: usize) -> usize
+    requires { low < high }
+    ensures { (low ≤ result) × (result < high) }
+{
+    if low <= near && near < high {
+        return near;
+    }
+    if high == near {
+        return high - 1;
+    }
+    low + (high - low) / 2
 }
 
 impl<'t> Trie<'t> {
@@ -87,9 +103,9 @@ impl<'t> Trie<'t> {
         }
     }
 
-    // The number of the child with this node, or where it would go.
+    // The number of the child with this node, or where it would go, sooner where that is `near`.
     #[inline(always)]
-    pub(crate) fn search(&self, at: usize, target: &Target<'_>) -> Result<usize, usize>
+    pub(crate) fn search(&self, at: usize, target: &Target<'_>, near: usize) -> Result<usize, usize>
         requires trie { HoldsTree self.now }
         requires inside { at < length (entries_of self.now) }
         requires known { (node : Node) × IsTarget target.now node }
@@ -102,7 +118,7 @@ impl<'t> Trie<'t> {
         let mut low = 0;
         let mut high = children.len();
         while low < high {
-            let middle = low + (high - low) / 2;
+            let middle = probe(low, high, near);
             match target.compare(self.label(children.get(middle))) {
                 Ordering::Less => high = middle,
                 Ordering::Equal => return Ok(middle),
@@ -178,7 +194,7 @@ impl<'t> Trie<'t> {
         let mut at = 0;
         for depth in 0..path.len() {
             let node = path.node(depth);
-            match self.search(at, &Target::Node(node)) {
+            match self.search(at, &Target::Node(node), usize::MAX) {
                 Ok(i) => at = self.children(at).get(i),
                 Err(position) => return self.point_at(at, depth, position, node),
             }

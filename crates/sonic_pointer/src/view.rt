@@ -132,16 +132,16 @@ impl<'t> TreeView<'t> {
         (node, below)
     }
 
-    // The number of the child that is looked for, or `None`.
+    // The number of the child that is looked for, or `None`, sooner where it is `near`.
     #[inline(always)]
-    fn number_of(&self, target: &Target<'_>) -> Option<usize>
+    fn number_of(&self, target: &Target<'_>, near: usize) -> Option<usize>
         requires { (node : Node) × IsTarget target.now node }
         ensures some { IfSome result (λ i. (node : Node) → IsTarget target.now node
             → slice_get self.now.children i ≡ Some node) }
         ensures none { IfNone result ((node : Node) → IsTarget target.now node
             → ¬ HasNextNode self.now.paths self.now.prefix node) }
     {
-        match self.trie.search(self.at, target) {
+        match self.trie.search(self.at, target, near) {
             Ok(i) => Some(i),
             Err(_) => None,
         }
@@ -158,7 +158,7 @@ impl<'t> TreeView<'t> {
         ensures none { IfNone result ((b : List ℕ) → IsString strict text.now start end b
             → ¬ HasNextNode self.now.paths self.now.prefix (key b)) }
     {
-        self.number_of(&Target::Text { text, start, end })
+        self.number_of(&Target::Text { text, start, end }, usize::MAX)
     }
 
     /// The same of a string that has no backslash, whose bytes are those of its key.
@@ -195,7 +195,7 @@ impl<'t> TreeView<'t> {
         ensures some { IfSome result (λ i. slice_get self.now.children i ≡ Some (key bytes.now)) }
         ensures none { IfNone result (¬ HasNextNode self.now.paths self.now.prefix (key bytes.now)) }
     {
-        self.number_of(&Target::Bytes(bytes))
+        self.number_of(&Target::Bytes(bytes), usize::MAX)
     }
 
     /// The number of the child that is this index, or `None`.
@@ -203,6 +203,17 @@ impl<'t> TreeView<'t> {
         ensures some { IfSome result (λ i. slice_get self.now.children i ≡ Some (index number)) }
         ensures none { IfNone result (¬ HasNextNode self.now.paths self.now.prefix (index number)) }
     {
-        self.number_of(&Target::Node(PointerNode::Index(number)))
+        self.of_index_near(number, usize::MAX)
+    }
+
+    /// The same, found at once where `near` is the number of children with a lesser index, as for who
+    /// goes over the items of an array in order.
+    ///
+    /// After the paths `[1]` and `[5]` no child is the index 3, and near 1 two of them are looked at.
+    pub fn of_index_near(&self, number: usize, near: usize) -> Option<usize>
+        ensures some { IfSome result (λ i. slice_get self.now.children i ≡ Some (index number)) }
+        ensures none { IfNone result (¬ HasNextNode self.now.paths self.now.prefix (index number)) }
+    {
+        self.number_of(&Target::Node(PointerNode::Index(number)), near)
     }
 }

@@ -197,8 +197,12 @@ fn keeps_repeated_and_empty_paths(rt: HostRuntime) {
     check_index(&rt, &tree.view(), 2, None);
 }
 
+// From wherever it is looked for.
 fn check_index(rt: &impl Abort, view: &TreeView<'_>, number: usize, found: Option<usize>) {
     same(rt, view.of_index(number), found);
+    for near in 0..4 {
+        same(rt, view.of_index_near(number, near), found);
+    }
 }
 
 #[test]

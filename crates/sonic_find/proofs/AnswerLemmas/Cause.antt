@@ -96,10 +96,14 @@ refusal_of OutOfMemory h e = out_of_memory e
 refusal_of (At s) h e = answered s h.answer e
 
 -- and where there is an answer of spans, memory ran out
-pub only_memory : {t : List ℕ} {is_bytes : Bool} {paths : List Path} {e : Error} {rule : KeyRule} (fault : Fault) → IsAnswerableBy rule t is_bytes paths
-    → IsStopFor (IsError rule t is_bytes paths) fault → IsErrorOf t fault e → IsPlainError e NoMemory
-only_memory OutOfMemory can h e = e
-only_memory (At s) can h e = absurd (never_refused can h.answer)
+pub only_out : {t : List ℕ} {is_bytes : Bool} {paths : List Path} {rule : KeyRule} (fault : Fault) → IsAnswerableBy rule t is_bytes paths
+    → IsStopFor (IsError rule t is_bytes paths) fault → fault ≡ OutOfMemory
+only_out OutOfMemory can h = refl
+only_out (At s) can h = absurd (never_refused can h.answer)
+
+-- of which the error says no more
+pub only_memory : (t : List ℕ) {e : Error} (fault : Fault) → fault ≡ OutOfMemory → IsErrorOf t fault e → IsPlainError e NoMemory
+only_memory t fault out e = rw out at e
 
 -- each value that is reported of an answer's spans is a part of the text
 pub parts_reported : {t : List ℕ} {is_bytes : Bool} {paths : List Path} {rule : KeyRule} (xs : List (Option Located)) → IsAnswerBy rule t is_bytes paths (Answer.spans (spans_of xs))

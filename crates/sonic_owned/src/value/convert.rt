@@ -1,6 +1,6 @@
 // Values that are made of scalars and levels.
 use super::{LazyArray, LazyObject, Node, OwnedLazyValue};
-use crate::integer::Integer;
+use crate::integer::{Integer, Kept};
 
 /// The value `null`.
 impl Default for OwnedLazyValue {
@@ -53,8 +53,9 @@ impl From<u64> for OwnedLazyValue {
     ghost from_gives = { λ n value. form value ≡ raw (decimal n) };
 
     fn from(n: u64) -> OwnedLazyValue {
+        let kept = Kept::Unsigned(n);
         OwnedLazyValue {
-            node: Node::Integer(Integer::unsigned(n)),
+            node: Node::Integer(Integer { kept }),
         }
     }
 }
@@ -69,8 +70,9 @@ impl From<i64> for OwnedLazyValue {
     ghost from_gives = { λ z value. form value ≡ raw (signed_decimal z) };
 
     fn from(z: i64) -> OwnedLazyValue {
+        let kept = Kept::Signed(z);
         OwnedLazyValue {
-            node: Node::Integer(Integer::signed(z)),
+            node: Node::Integer(Integer { kept }),
         }
     }
 }

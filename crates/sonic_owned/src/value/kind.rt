@@ -1,6 +1,5 @@
 // What a value is, and the level that it is opened to.
-ghost use Rattle.std.specs.Prelude.{◌≡◌, ◌↔◌, length, IsSome, IsTrue, IfSome, IfOk, IfErr, OnErr, None, Some};
-ghost use Rattle.std.specs.Fmt.{signed_decimal};
+ghost use Rattle.std.specs.Prelude.{◌≡◌, ◌↔◌, length, IsSome, IsTrue, IfSome, IfOk, IfErr, OnErr, None};
 ghost use Rattle.std.specs.Cow.{cow_str_bytes};
 ghost use Rattle.sonic_error.specs.Errors.{IsPlainError};
 ghost use Rattle.sonic_lazy.specs.RawNumbers.{IsNumberText};
@@ -8,14 +7,12 @@ ghost use Rattle.sonic_find.specs.Paths.{kind_of};
 ghost use Rattle.sonic_lazy.specs.Scalars.{container, text as a_text};
 ghost use Rattle.sonic_lazy.specs.StringTexts.{IsEscapedText};
 ghost use Rattle.sonic_owned.specs.Forms.{text, scalar_of_form};
-ghost use Rattle.sonic_owned.specs.Integers.{value};
 ghost use Rattle.sonic_owned.specs.Seen.{IsLentText};
 ghost use Rattle.sonic_owned.specs.Views.{form, made_text};
 ghost use Rattle.sonic_pointer.specs.Nodes.{node_of};
 ghost use Rattle.sonic_text.specs.Strings.{strict, IsString};
 
 use super::{LazyArray, LazyObject, Node, OwnedLazyValue};
-use crate::integer::Integer;
 use sonic_error::{Error, ErrorCode, JsonType, Result};
 use sonic_lazy::{JsonContainerTrait, JsonValueTrait, RawNumber};
 use sonic_pointer::PointerNode;
@@ -96,7 +93,7 @@ impl OwnedLazyValue {
             Node::Text(text) => {
                 // The law by which the value's text, the quoted one, denotes this.
                 quoted_text_is_a_string();
-                Ok(Some(CowStr::Borrowed(text.text().as_str())))
+                Ok(Some(CowStr::Borrowed(text.text.as_str())))
             }
             Node::Raw(raw) => raw.as_lazy().as_str(alloc),
             Node::Integer(_) => Ok(None),
@@ -113,25 +110,18 @@ impl OwnedLazyValue {
         ensures err { IfErr result (λ error. IsPlainError error ErrorCode.NoMemory) }
         ensures memory { OnErr result (IsNumberText (text (form self.now))) }
     {
-        match &self.node {
-            Node::Integer(integer) => written(alloc, integer),
-            Node::Raw(raw) => raw.as_lazy().as_raw_number(alloc),
-            _ => Ok(None),
+        let integer = match &self.node {
+            Node::Integer(integer) => integer,
+            Node::Raw(raw) => return raw.as_lazy().as_raw_number(alloc),
+            _ => return Ok(None),
+        };
+        let Ok(text) = format!(in alloc; "{integer}") else {
+            return Err(Error::plain(ErrorCode::NoMemory));
+        };
+        match RawNumber::from_str(alloc, &text) {
+            Ok(number) => Ok(Some(number)),
+            Err(error) => Err(error),
         }
-    }
-}
-
-// The number that an integer is, with its text.
-fn written(alloc: Global, integer: &Integer) -> Result<Option<RawNumber>>
-    ensures text { IfOk result (λ found. found ≡ Some (signed_decimal (value integer.now.kept))) }
-    ensures err { IfErr result (λ error. IsPlainError error ErrorCode.NoMemory) }
-{
-    let Ok(text) = format!(in alloc; "{integer}") else {
-        return Err(Error::plain(ErrorCode::NoMemory));
-    };
-    match RawNumber::from_str(alloc, &text) {
-        Ok(number) => Ok(Some(number)),
-        Err(error) => Err(error),
     }
 }
 

@@ -1,5 +1,6 @@
 // The levels of a value that are opened.
 ghost use Rattle.std.specs.Prelude.{◌≡◌, ℕ, None, IfSome, ◌+◌, ◌≤◌, ◌==◌, ◌++◌, ◌∷◌, [], length, option_map, slice_get, IsOk, IfOk, OnOk, IfErr, OnErr};
+ghost use Rattle.std.specs.List.{insert, remove};
 ghost use Rattle.sonic_error.specs.Errors.{IsPlainError};
 ghost use Rattle.sonic_owned.specs.Owned.{HasKeyAt, IsFirstOfKey};
 ghost use Rattle.sonic_owned.specs.Views.{form, elements, members, array_spare, object_spare};
@@ -62,6 +63,46 @@ impl LazyArray {
         }
     }
 
+    /// Puts an element before the one at a position, or after the last one. It comes back where memory
+    /// runs out, and the array is unchanged then.
+    ///
+    /// The elements from that position on move, which takes time for each of them. Into `[1,2]` the
+    /// element `3` is put at 1 as `[1,3,2]`, and at 2 as `[1,2,3]`.
+    pub fn insert(
+        &mut self,
+        i: usize,
+        value: OwnedLazyValue,
+    ) -> std::result::Result<(), OwnedLazyValue>
+        requires { i ≤ length (elements self.old) }
+        ensures ok { OnOk result (elements self.new ≡ insert (elements self.old) i (form value)) }
+        ensures err { IfErr result (λ back. back ≡ value) }
+        ensures same { OnErr result (elements self.new ≡ elements self.old) }
+        ensures room { 1 ≤ array_spare self.old → IsOk result }
+        ensures spare { array_spare self.old ≤ array_spare self.new + 1 }
+    {
+        match self.elements.insert(i, value) {
+            Ok(()) => Ok(()),
+            Err(refused) => Err(refused.value),
+        }
+    }
+
+    /// Removes the element at a position, and gives it; `None` past the last one, and the array is
+    /// unchanged then.
+    ///
+    /// The elements after it move up, which takes time for each of them, and no memory. Of `[1,2,3]`
+    /// the element at 1 is `2`, and `[1,3]` stays.
+    pub fn remove(&mut self, i: usize) -> Option<OwnedLazyValue>
+        ensures removed { option_map form result ≡ slice_get (elements self.old) i }
+        ensures rest { elements self.new ≡ remove (elements self.old) i }
+        ensures spare { array_spare self.old ≤ array_spare self.new }
+    {
+        if i < self.elements.len() {
+            Some(self.elements.remove(i))
+        } else {
+            None
+        }
+    }
+
     /// The element at a position, and `None` past the last one.
     pub fn at(&self, i: usize) -> Option<&OwnedLazyValue>
         ensures { option_map (λ value. form value.now) result ≡ slice_get (elements self.now) i }
@@ -121,12 +162,31 @@ impl LazyObject {
         ensures room { 1 ≤ object_spare self.old → IsOk result }
         ensures spare { object_spare self.old ≤ object_spare self.new + 1 }
     {
-        match self.members.push((MadeText::new(key), value)) {
+        match self.members.push((MadeText { text: key }, value)) {
             Ok(()) => Ok(()),
             Err(refused) => {
                 let (key, value) = refused.value;
-                Err((key.into_text(), value))
+                Err((key.text, value))
             }
+        }
+    }
+
+    /// Removes the member at a position, and gives its key and its value; `None` past the last one,
+    /// and the object is unchanged then.
+    ///
+    /// The members after it move up, which takes time for each of them, and no memory. Of
+    /// `{"a":1,"b":2}` the member at 0 is `"a"` with `1`, and `{"b":2}` stays.
+    pub fn remove(&mut self, i: usize) -> Option<(FastStr, OwnedLazyValue)>
+        ensures removed { option_map (λ pair. (pair.0, form pair.1)) result
+            ≡ slice_get (members self.old) i }
+        ensures rest { members self.new ≡ remove (members self.old) i }
+        ensures spare { object_spare self.old ≤ object_spare self.new }
+    {
+        if i < self.members.len() {
+            let (key, value) = self.members.remove(i);
+            Some((key.text, value))
+        } else {
+            None
         }
     }
 
@@ -136,7 +196,7 @@ impl LazyObject {
             ≡ slice_get (members self.now) i }
     {
         match self.members.get(i) {
-            Some((key, value)) => Some((key.text(), value)),
+            Some((key, value)) => Some((&key.text, value)),
             None => None,
         }
     }
@@ -151,7 +211,7 @@ impl LazyObject {
         let members = &self.members;
         let mut i = 0;
         while i < members.len() {
-            if members[i].0.text().as_str() == key {
+            if members[i].0.text.as_str() == key {
                 return Some(i);
             }
             i += 1;

@@ -104,13 +104,13 @@ fn open_members(
         let Ok((key, value)) = member else {
             return Err(AllocError);
         };
-        let Ok(key) = FastStr::new(alloc, key.as_str()) else {
+        let Ok(text) = FastStr::new(alloc, key.as_str()) else {
             return Err(AllocError);
         };
         let Ok(value) = OwnedLazyValue::from_lazy(alloc, &value) else {
             return Err(AllocError);
         };
-        members.push((MadeText::new(key), value))?;
+        members.push((MadeText { text }, value))?;
     }
     Ok(LazyObject { members })
 }

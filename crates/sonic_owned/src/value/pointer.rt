@@ -1,13 +1,13 @@
 // What a path leads to in a value.
 ghost use Rattle.std.specs.Prelude.{◌≡◌, ◌∷◌, [], option_map, IfSome, None};
-ghost use Rattle.sonic_owned.specs.Forms.{Form, named};
-ghost use Rattle.sonic_owned.specs.Leading.{item_in, item_of, LeadsTo};
-ghost use Rattle.sonic_owned.specs.Views.{form, members};
+ghost use Rattle.sonic_owned.specs.Forms.{Form};
+ghost use Rattle.sonic_owned.specs.Leading.{item_in, LeadsTo};
+ghost use Rattle.sonic_owned.specs.Views.{form};
 ghost use Rattle.sonic_owned.specs.Seen.{view_form};
 ghost use Rattle.sonic_owned.specs.Internal.Seen.{IsStep};
 ghost use Rattle.sonic_pointer.specs.Nodes.{node_of, path_of};
 
-use super::{LazyObject, Node, OwnedLazyValue};
+use super::{Node, OwnedLazyValue};
 use crate::raw::RawValue;
 use crate::view::{OwnedView, look_into};
 use sonic_pointer::PointerNode;
@@ -70,24 +70,12 @@ impl OwnedLazyValue {
     {
         match (&self.node, node) {
             (Node::Array(level), PointerNode::Index(i)) => level.at(i),
-            (Node::Object(level), PointerNode::Key(key)) => level.value_of(key),
+            (Node::Object(level), PointerNode::Key(key)) => {
+                let i = level.first_of_key(key)?;
+                let (_, value) = level.at(i)?;
+                Some(value)
+            }
             _ => None,
-        }
-    }
-}
-
-impl LazyObject {
-    // The value of the first member with a key.
-    fn value_of(&self, key: &str) -> Option<&OwnedLazyValue>
-        ensures { option_map (λ value. form value.now) result
-            ≡ item_of key.now (named (members self.now)) }
-    {
-        let Some(i) = self.first_of_key(key) else {
-            return None;
-        };
-        match self.at(i) {
-            Some((_, value)) => Some(value),
-            None => None,
         }
     }
 }

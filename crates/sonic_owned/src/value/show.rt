@@ -1,14 +1,18 @@
 // The text of a value, written piece by piece.
 ghost use Rattle.std.specs.Prelude.{◌≡◌, ◌++◌, ◌∷◌, [], string_bytes, IfOk, IfErr};
+ghost use Rattle.std.specs.Cow.{cow_str_bytes};
 ghost use Rattle.std.specs.Fmt.{WritesOnOk};
 ghost use Rattle.sonic_error.specs.Errors.{IsPlainError};
 ghost use Rattle.sonic_owned.specs.Forms.{text, members_text, unnamed, named};
+ghost use Rattle.sonic_owned.specs.Seen.{view_form};
 ghost use Rattle.sonic_owned.specs.Views.{form, elements, members};
 
 use super::{LazyArray, LazyObject, Node, OwnedLazyValue};
+use crate::view::OwnedView;
 use sonic_error::{Error, ErrorCode, Result};
 use sonic_text::write_quoted;
 use std::alloc::Global;
+use std::borrow::CowStr;
 use std::fmt;
 use std::fmt::Write;
 
@@ -25,6 +29,26 @@ impl OwnedLazyValue {
         match format!(in alloc; "{self}") {
             Ok(text) => Ok(text),
             Err(_) => Err(Error::plain(ErrorCode::NoMemory)),
+        }
+    }
+}
+
+impl<'a> OwnedView<'a> {
+    /// The text of the value, as [`OwnedLazyValue::to_string`] writes it.
+    ///
+    /// What isn't opened is borrowed, and only else memory is taken. The only error is
+    /// `ErrorCode::NoMemory`. Where `["a"]` leads in `{"a":[1, 2]}` it is `[1, 2]`.
+    pub fn text(&self, alloc: Global) -> Result<CowStr<'a>>
+        ensures ok { IfOk result (λ shown. cow_str_bytes shown ≡ text (view_form self.now)) }
+        ensures err { IfErr result (λ error. IsPlainError error ErrorCode.NoMemory) }
+    {
+        let value: &'a OwnedLazyValue = match self {
+            OwnedView::Node(value) => value,
+            OwnedView::Raw(value) => return Ok(value.as_raw_cow()),
+        };
+        match &value.node {
+            Node::Raw(raw) => Ok(CowStr::Borrowed(raw.as_str())),
+            _ => Ok(CowStr::Owned(value.to_string(alloc)?)),
         }
     }
 }
@@ -92,7 +116,7 @@ fn show<W: Write>(value: &OwnedLazyValue, f: &mut fmt::Formatter<W>) -> fmt::Res
         Node::Bool(true) => f.write_str("true"),
         Node::Bool(false) => f.write_str("false"),
         Node::Integer(integer) => write!(f, "{integer}"),
-        Node::Text(text) => write_quoted(text.text().as_str(), f),
+        Node::Text(text) => write_quoted(text.text.as_str(), f),
         Node::Raw(raw) => f.write_str(raw.as_str()),
         Node::Array(level) => show_elements(level, f),
         Node::Object(level) => show_members(level, f),
@@ -123,7 +147,7 @@ fn show_members<W: Write>(level: &LazyObject, f: &mut fmt::Formatter<W>) -> fmt:
     let mut before = "";
     for (key, value) in &level.members {
         f.write_str(before)?;
-        write_quoted(key.text().as_str(), f)?;
+        write_quoted(key.text.as_str(), f)?;
         f.write_str(":")?;
         show(value, f)?;
         before = ",";

@@ -2,6 +2,7 @@ use Rattle.sonic_find.proofs.answer.answer.Goals as goal
 use Rattle.std.proofs.Common.{◌≡◌, ◌∙◌, sym, true, false}
 use Rattle.std.proofs.lemmas.Result.{err_from_is_err_and}
 use Rattle.sonic_find.proofs.AnswerLemmas.Walk.{answers_spans, answers_broken, stop_answers, no_paths}
+use Rattle.sonic_find.proofs.AnswerLemmas.Cause.{parts_reported}
 use Rattle.sonic_parser.proofs.FaultLemmas.{stop_weaker}
 use Rattle.sonic_find.proofs.WalkLemmas.Start.{none_counted}
 
@@ -21,13 +22,13 @@ pub returns-in_err-check-clause-err : goal.returns-in_err-check-clause-err
 returns-in_err-check-clause-err g c =
     let p = err_from_is_err_and c.from_residual-in_err-check.result c.from_residual-in_err-check.ensures.1 in
     let reached = rw (c.unscanned-read.ensures.text, c.to_json_slice.ensures.bytes) at c.in_ok-reach.ensures.reached in
-    let e = rw c.to_u8_slice.ensures.bytes at c.in_err-check.ensures.err in
+    let e = rw c.to_u8_slice-text.ensures.bytes at c.in_err-check.ensures.err in
     rw (p.1, p.2) (answers_broken reached (sym c.need_utf8_valid.ensures ∙ c.if-need_utf8_valid.true) e.0 e.1 e.2)
 
 pub returns-in_ok-check-clause-ok : goal.returns-in_ok-check-clause-ok
 returns-in_ok-check-clause-ok g c =
     let reached = rw (c.unscanned-read.ensures.text, c.to_json_slice.ensures.bytes) at c.in_ok-reach.ensures.reached in
-    let utf8 = rw c.to_u8_slice.ensures.bytes at c.in_ok-check.ensures.ok in
+    let utf8 = rw c.to_u8_slice-text.ensures.bytes at c.in_ok-check.ensures.ok in
     answers_spans reached (λ e. utf8)
 
 pub returns-in_ok-check-clause-statuses : goal.returns-in_ok-check-clause-statuses
@@ -40,3 +41,14 @@ returns-else-need_utf8_valid-clause-ok g c =
 
 pub returns-else-need_utf8_valid-clause-statuses : goal.returns-else-need_utf8_valid-clause-statuses
 returns-else-need_utf8_valid-clause-statuses g c = rw (c.unscanned-read.ensures.text, c.to_json_slice.ensures.bytes) at c.in_ok-reach.ensures.statuses
+
+pub returns-in_ok-check-clause-parts : goal.returns-in_ok-check-clause-parts
+returns-in_ok-check-clause-parts g c =
+    let reached = rw (c.unscanned-read.ensures.text, c.to_json_slice.ensures.bytes) at c.in_ok-reach.ensures.reached in
+    let utf8 = rw c.to_u8_slice-text.ensures.bytes at c.in_ok-check.ensures.ok in
+    parts_reported c.reach.new.memory.found.items (answers_spans {is_bytes = g.I.JsonInput.is_bytes} reached (λ e. utf8)) c.to_u8_slice-text.ensures.utf8
+
+pub returns-else-need_utf8_valid-clause-parts : goal.returns-else-need_utf8_valid-clause-parts
+returns-else-need_utf8_valid-clause-parts g c =
+    let reached = rw (c.unscanned-read.ensures.text, c.to_json_slice.ensures.bytes) at c.in_ok-reach.ensures.reached in
+    parts_reported c.reach.new.memory.found.items (answers_spans reached (λ e. (let clash : true ≡ false = sym e ∙ (sym c.need_utf8_valid.ensures ∙ c.if-need_utf8_valid.false) in absurd cc))) c.to_u8_slice-text.ensures.utf8

@@ -1,7 +1,12 @@
-use Rattle.std.proofs.lemmas.Result.{err_from_is_err_and}
+use Rattle.sonic_find.proofs.AnswerLemmas.Cause.{only_memory}
+use Rattle.sonic_find.proofs.HonestLemmas.{honest_of_refusal}
 use Rattle.sonic_find.proofs.answer.locate_many.Goals as goal
 
-pub returns-in_err-locate_in-clause-complete : goal.returns-in_err-locate_in-clause-complete
-returns-in_err-locate_in-clause-complete g c = λ can.
-    let p = err_from_is_err_and c.from_residual.result c.from_residual.ensures.1 in
-    rw (p.1, p.2) (c.in_err-locate_in.ensures.complete can)
+pub returns-in-Err-clause-err : goal.returns-in-Err-clause-err
+returns-in-Err-clause-err g c = c.in-Err.ensures.err c.error.result (rw c.to_u8_slice-text.ensures.bytes at c.error.ensures)
+
+pub returns-in-Err-clause-complete : goal.returns-in-Err-clause-complete
+returns-in-Err-clause-complete g c = λ can. only_memory _ c.in-Err.fault (c.in-Err.ensures.complete can) c.error.ensures
+
+pub returns-in-Err-clause-honest : goal.returns-in-Err-clause-honest
+returns-in-Err-clause-honest g c = honest_of_refusal (c.in-Err.ensures.err c.error.result (rw c.to_u8_slice-text.ensures.bytes at c.error.ensures))

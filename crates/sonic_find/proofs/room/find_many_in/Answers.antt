@@ -1,9 +1,12 @@
-use Rattle.std.proofs.lemmas.Result.{on_ok_weaker}
-use Rattle.sonic_find.proofs.FindingLemmas.{slots_say, slots_are_parts}
+use Rattle.sonic_find.proofs.AnswerLemmas.Cause.{only_memory}
+use Rattle.sonic_find.proofs.HonestLemmas.{honest_of_refusal}
 use Rattle.sonic_find.proofs.room.find_many_in.Goals as goal
 
-pub returns-clause-ok : goal.returns-clause-ok
-returns-clause-ok g c = rw (slots_say c.locate_in.new.memory.found.items) c.locate_in.ensures.ok
+pub returns-in-Err-clause-err : goal.returns-in-Err-clause-err
+returns-in-Err-clause-err g c = c.in-Err.ensures.err c.error.result (rw c.to_u8_slice-text.ensures.bytes at c.error.ensures)
 
-pub returns-clause-parts : goal.returns-clause-parts
-returns-clause-parts g c = on_ok_weaker c.locate_in.result (λ parts. slots_are_parts c.locate_in.new.memory.found.items parts) c.locate_in.ensures.parts
+pub returns-in-Err-clause-complete : goal.returns-in-Err-clause-complete
+returns-in-Err-clause-complete g c = λ can. only_memory _ c.in-Err.fault (c.in-Err.ensures.complete can) c.error.ensures
+
+pub returns-in-Err-clause-honest : goal.returns-in-Err-clause-honest
+returns-in-Err-clause-honest g c = honest_of_refusal (c.in-Err.ensures.err c.error.result (rw c.to_u8_slice-text.ensures.bytes at c.error.ensures))

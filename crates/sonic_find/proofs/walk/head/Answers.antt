@@ -69,5 +69,5 @@ pub returns-in_default-clause-item : goal.returns-in_default-clause-item
 returns-in_default-clause-item c = record {
   node = index c.args.passed;
   head = rw c.in_default.is record { label = None; head = no_head refl; name = refl };
-  is = index_child (container_at c.args.walk.now.rule c.args.walk.now.text c.args.level.now) c.of_index.result c.args.passed c.of_index.ensures.some c.of_index.ensures.none;
+  is = index_child (container_at c.args.walk.now.rule c.args.walk.now.text c.args.level.now) c.of_index_near.result c.args.passed c.of_index_near.ensures.some c.of_index_near.ensures.none;
 }

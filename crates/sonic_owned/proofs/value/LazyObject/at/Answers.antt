@@ -11,7 +11,7 @@ returns-in-Some c =
     let inside : c.args.i < length items = search rules in
     let there : pair ≡ get_or items c.args.i pair = search rules in
     let one = ap (λ m. Some (pair_of (formed m))) there ∙ sym (members-at items c.args.i pair inside) in
-    rw (c.text.ensures, members-out c.args.self.now) (rw c.deref.ensures.value at one)
+    rw (members-out c.args.self.now) (rw c.deref.ensures.value at one)
 
 pub returns-in-None : goal.returns-in-None
 returns-in-None c = rw (members-out c.args.self.now) (search (rules, members-past))

@@ -10,7 +10,7 @@ returns-then-eq-clause-some c =
     let inside : c.loop-i.i < length items = search rules in
     let there : get_or items c.loop-i.i c.index.result.now ≡ c.index.result.now = search rules in
     let key = texts_equal c.as_str.result.now c.args.key.now (sym c.eq.ensures ∙ c.if-eq.true) in
-    let is = ap (λ m. m.0.text) there ∙ sym c.text.ensures ∙ sym c.as_str.ensures ∙ key in
+    let is = ap (λ m. m.0.text) there ∙ sym c.as_str.ensures ∙ key in
     rw (members-out c.args.self.now) record { here = key_here items c.loop-i.i c.index.result.now c.args.key.now inside is; first = c.loop-i.invariant.1 }
 
 pub loop-i-preserved : goal.loop-i-preserved
@@ -19,7 +19,7 @@ loop-i-preserved c =
     let inside : c.loop-i.i < length items = search rules in
     let there : get_or items c.loop-i.i c.index.result.now ≡ c.index.result.now = search rules in
     let other = texts_differ c.as_str.result.now c.args.key.now (sym c.eq.ensures ∙ c.if-eq.false) in
-    (omega (arith, inside), no_key_more items c.loop-i.i c.index.result.now c.args.key.now inside (λ is. other (c.as_str.ensures ∙ c.text.ensures ∙ ap (λ m. m.0.text) (sym there) ∙ is)) c.loop-i.invariant.1)
+    (omega (arith, inside), no_key_more items c.loop-i.i c.index.result.now c.args.key.now inside (λ is. other (c.as_str.ensures ∙ ap (λ m. m.0.text) (sym there) ∙ is)) c.loop-i.invariant.1)
 
 pub returns-clause-none : goal.returns-clause-none
 returns-clause-none c = λ _.

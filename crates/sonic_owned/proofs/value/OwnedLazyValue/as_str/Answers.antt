@@ -17,7 +17,7 @@ returns-in-Text-clause-text c =
     let end : 0 + length (quoted s) ≡ length (quoted s) = omega arith in
     let alone : IsString strict (quoted s) 0 (length (quoted s)) s = rw (append-nil (quoted s), end) at (c.quoted_text_is_a_string.ensures.string [] s []) in
     let shown : text (form c.args.self.now) ≡ quoted s = ap text (form-node c.args.self.now ∙ ap node_form c.in-Text.is ∙ form-text c.in-Text.text) in
-    rw (shown, c.as_str.ensures, c.text.ensures) alone
+    rw (shown, c.as_str.ensures) alone
 
 pub returns-in-Integer : goal.returns-in-Integer
 returns-in-Integer c =

@@ -13,20 +13,20 @@ pub members-preserved-in_ok-push : goal.members-preserved-in_ok-push
 members-preserved-in_ok-push c =
     let given = rw c.in-Ok.is at c.in-Some.ensures.next.item in
     let shown = rw c.members.invariant.going at given.shown in
-    let key = c.new-in-Some.ensures ∙ c.in-Ok-new.ensures.ok ∙ c.as_str.ensures.value in
+    let key = c.in-Ok-new.ensures.ok ∙ c.as_str.ensures.value in
     record {
       going = rw (given.moved, c.members.invariant.going) refl;
-      first = rw (given.moved, c.in_ok-push.ensures.items) (member_first c.members.members.items c.new-in-Some.result c.in-Ok-from_lazy.value c.members.invariant.first shown key c.in-Ok-from_lazy.ensures.ok);
+      first = rw (given.moved, c.in_ok-push.ensures.items) (member_first c.members.members.items _ c.in-Ok-from_lazy.value c.members.invariant.first shown key c.in-Ok-from_lazy.ensures.ok);
     }
 
 pub members-preserved : goal.members-preserved
 members-preserved c =
     let given = rw c.in-Ok.is at c.in-Some.ensures.next.item in
     let shown = rw c.members.invariant.going at given.shown in
-    let key = c.new-in-Some.ensures ∙ c.in-Ok-new.ensures.ok ∙ c.as_str.ensures.value in
+    let key = c.in-Ok-new.ensures.ok ∙ c.as_str.ensures.value in
     record {
       going = rw (given.moved, c.members.invariant.going) refl;
-      first = rw (given.moved, c.in_ok-push.ensures.items) (member_first c.members.members.items c.new-in-Some.result c.in-Ok-from_lazy.value c.members.invariant.first shown key c.in-Ok-from_lazy.ensures.ok);
+      first = rw (given.moved, c.in_ok-push.ensures.items) (member_first c.members.members.items _ c.in-Ok-from_lazy.value c.members.invariant.first shown key c.in-Ok-from_lazy.ensures.ok);
     }
 
 pub returns : goal.returns

@@ -41,7 +41,7 @@ show_members-loop-key-preserved g t c = (
       let i = c.loop-key.invariant.1 p in
       let m = c.loop-key-item.result in
       let x = c.write_str-in-loop-key.ensures.writes i.1.plain (search rules) in
-      let y = has_written_of_eq _ _ _ _ _ (ap quoted (c.as_str.ensures ∙ c.text.ensures)) (c.write_quoted.ensures x.plain (search rules)) in
+      let y = has_written_of_eq _ _ _ _ _ (ap quoted c.as_str.ensures) (c.write_quoted.ensures x.plain (search rules)) in
       let z = c.write_str-in-loop-key-2.ensures.writes y.plain (search rules) in
       let w = c.show.ensures z.plain (search rules) in (
         i.0 ++ (c.loop-key.before.now ++ (quoted m.0.text ++ (58 ∷ text (form m.1)))),

@@ -1,4 +1,4 @@
-use Rattle.std.proofs.Common.{◌≡◌, ◌+◌, ◌-◌, ◌/◌, Some, sym, ap, ◌∙◌, arith}
+use Rattle.std.proofs.Common.{◌≡◌, Some, sym, ap, ◌∙◌, arith}
 use Rattle.std.proofs.lemmas.Option.{slice_get-get_or}
 use Rattle.sonic_pointer.specs.Nodes.{node_of}
 use Rattle.sonic_pointer.specs.Internal.Tries.{prefix_at}
@@ -16,7 +16,8 @@ pub loop-low-preserved-in-Less : goal.loop-low-preserved-in-Less
 loop-low-preserved-in-Less c =
     let trie = c.args.self.now in
     let i = c.loop-low.invariant in
-    let middle = c.loop-low.low + (c.loop-low.high - c.loop-low.low) / 2 in
+    let middle = c.probe-middle.result in
+    let probed = c.probe-middle.ensures in
     let kids = c.children-children.ensures in
     let many = kids.count in
     let node = kid_node trie c.args.at _ _ c.get.result kids c.get.ensures in
@@ -32,7 +33,8 @@ loop-low-preserved-in-Less c =
 pub returns-in-Equal-clause-found : goal.returns-in-Equal-clause-found
 returns-in-Equal-clause-found c = λ n s.
     let i = c.loop-low.invariant in
-    let middle = c.loop-low.low + (c.loop-low.high - c.loop-low.low) / 2 in
+    let middle = c.probe-middle.result in
+    let probed = c.probe-middle.ensures in
     let kids = c.children-children.ensures in
     let many = kids.count in
     let same : n ≡ node_of c.label.result = node_cmp_same n (node_of c.label.result) (sym (c.in-Equal.ensures n s)) in
@@ -43,7 +45,8 @@ pub loop-low-preserved : goal.loop-low-preserved
 loop-low-preserved c =
     let trie = c.args.self.now in
     let i = c.loop-low.invariant in
-    let middle = c.loop-low.low + (c.loop-low.high - c.loop-low.low) / 2 in
+    let middle = c.probe-middle.result in
+    let probed = c.probe-middle.ensures in
     let kids = c.children-children.ensures in
     let many = kids.count in
     let node = kid_node trie c.args.at _ _ c.get.result kids c.get.ensures in

@@ -1,0 +1,71 @@
+"""Builds the package: its files, and beside them the shared object that examples/build made, from the folder
+that SONIC_OUT names, or out/ of the repository. Where there is none, the package takes the installed one.
+
+It reads pyproject.toml by lines, as older Pythons have no reader of it."""
+import base64
+import hashlib
+import io
+import os
+import re
+import tarfile
+import zipfile
+
+HERE = os.path.dirname(os.path.abspath(__file__))
+LIBRARY = "libsonic.so.0"
+
+
+def _read(name):
+    with open(os.path.join(HERE, name), "rb") as it:
+        return it.read()
+
+
+def _field(name):
+    return re.search(rf'^{name} = "(.*)"$', _read("pyproject.toml").decode(), re.M).group(1)
+
+
+def _metadata():
+    lines = ["Metadata-Version: 2.1"]
+    lines += [f"{title}: {_field(name)}" for title, name in (("Name", "name"), ("Version", "version"), ("Summary", "description"))]
+    lines += ["License: Apache-2.0", f"Requires-Python: {_field('requires-python')}", "Description-Content-Type: text/markdown"]
+    return ("\n".join(lines) + "\n\n").encode() + _read("README.md")
+
+
+def _library():
+    folder = os.environ.get("SONIC_OUT") or os.path.join(HERE, "..", "..", "out")
+    path = os.path.join(folder, LIBRARY)
+    if os.path.exists(path):
+        return path
+    if "SONIC_OUT" in os.environ:
+        raise FileNotFoundError(path)
+    return None
+
+
+def build_wheel(wheel_directory, config_settings=None, metadata_directory=None):
+    library = _library()
+    tag = "py3-none-linux_x86_64" if library else "py3-none-any"
+    files = {f"sonic/{name}": _read(f"src/sonic/{name}") for name in sorted(os.listdir(os.path.join(HERE, "src/sonic"))) if "." in name}
+    if library:
+        with open(library, "rb") as it:
+            files[f"sonic/{LIBRARY}"] = it.read()
+    info = f"sonic-{_field('version')}.dist-info"
+    files[f"{info}/METADATA"] = _metadata()
+    files[f"{info}/WHEEL"] = f"Wheel-Version: 1.0\nGenerator: sonic\nRoot-Is-Purelib: {str(not library).lower()}\nTag: {tag}\n".encode()
+    sums = {name: base64.urlsafe_b64encode(hashlib.sha256(text).digest()).rstrip(b"=").decode() for name, text in files.items()}
+    rows = [f"{name},sha256={sums[name]},{len(text)}" for name, text in files.items()]
+    files[f"{info}/RECORD"] = ("\n".join(rows) + f"\n{info}/RECORD,,\n").encode()
+    wheel = f"sonic-{_field('version')}-{tag}.whl"
+    with zipfile.ZipFile(os.path.join(wheel_directory, wheel), "w", zipfile.ZIP_DEFLATED) as it:
+        for name, text in files.items():
+            it.writestr(name, text)
+    return wheel
+
+
+def build_sdist(sdist_directory, config_settings=None):
+    top = f"sonic-{_field('version')}"
+    with tarfile.open(os.path.join(sdist_directory, f"{top}.tar.gz"), "w:gz", format=tarfile.PAX_FORMAT) as it:
+        for name in ("README.md", "backend.py", "pyproject.toml", "src/sonic"):
+            it.add(os.path.join(HERE, name), f"{top}/{name}", filter=lambda file: None if "__pycache__" in file.name else file)
+        info, text = tarfile.TarInfo(f"{top}/PKG-INFO"), _metadata()
+        info.size = len(text)
+        it.addfile(info, io.BytesIO(text))
+    return f"{top}.tar.gz"

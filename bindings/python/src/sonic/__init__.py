@@ -1,0 +1,169 @@
+"""Look-ups in a JSON text that is in memory, by a proved library: where paths of keys and indexes lead,
+without building the document.
+
+A text is a str, bytes, or whatever has a buffer, as a bytearray, a memoryview or an mmap. A value is the
+exact JSON text of it, and of the text's kind: of a str a str, of bytes bytes, and of any other a memoryview
+of the same memory. A path is a list or tuple of keys and indexes, as ["tags", 1]; [] is that of the whole
+value. json.loads makes an object of a value."""
+from __future__ import annotations
+
+import json
+from ctypes import Array, byref
+from typing import TYPE_CHECKING, Any, Generic, Iterable, Iterator, List, Optional, Sequence, TypeVar, Union, overload
+
+from . import _native
+from ._errors import BrokenText, Code, NotFound, PathError, SonicError, WrongType, error_of
+from ._native import Fault, Span, code_text
+
+if TYPE_CHECKING:
+    from typing_extensions import Buffer
+
+__version__ = "0.1.0"
+__all__ = [
+    "BrokenText", "Code", "Document", "NotFound", "PathError", "Paths", "SonicError", "WrongType",
+    "code_text", "get", "get_many", "validate",
+]  # fmt: skip
+
+for _kind in (BrokenText, Code, NotFound, PathError, SonicError, WrongType):
+    _kind.__module__ = __name__  # where they are called for, as a traceback tells
+
+Path = Sequence[Union[str, int]]
+T = TypeVar("T", str, bytes, memoryview)
+
+
+def _line(path: Path) -> bytes:
+    if isinstance(path, (str, bytes, bytearray, memoryview)) or not isinstance(path, Sequence):
+        raise TypeError(f"a path is a list or tuple of keys and indexes, and no {type(path).__name__}")
+    return json.dumps(list(path)).encode()
+
+
+def _judge(status: int, fault: Fault, paths: Sequence[Path], index: int = 0) -> None:
+    """Raises what the status says."""
+    if status == _native.OK:
+        return
+    if status == _native.DOCUMENT_ERROR:
+        raise error_of(fault)
+    if status == _native.BAD_LINES:
+        raise PathError(paths[index], index)
+    if status == _native.NO_MEMORY:
+        raise MemoryError
+    raise AssertionError(f"status {status}")
+
+
+def _part(text: Any, source: _native.Source, span: Span) -> Any:
+    part = source[span.start : span.end]
+    if isinstance(text, str):
+        return str(part, "utf-8")
+    return bytes(part) if isinstance(text, bytes) else part
+
+
+class Paths:
+    """Paths that are looked up again and again, made ready and judged once. Any number of threads may use
+    them at once."""
+
+    __slots__ = ("_paths", "_lines", "_room")
+
+    def __init__(self, paths: Iterable[Path]) -> None:
+        self._fill(paths)
+        self._spans("sonic_get_many", b"0", is_judged=False)
+
+    def _fill(self, paths: Iterable[Path]) -> Paths:
+        self._paths = list(paths)
+        self._lines = b"".join(_line(path) + b"\n" for path in self._paths)
+        self._room = Span * len(self._paths)
+        return self
+
+    def __len__(self) -> int:
+        return len(self._paths)
+
+    def __iter__(self) -> Iterator[Path]:
+        return iter(self._paths)
+
+    def __repr__(self) -> str:
+        return f"Paths({self._paths!r})"
+
+    def _spans(self, name: str, source: _native.Source, is_judged: bool = True) -> Array[Span]:
+        spans, fault = self._room(), Fault()
+        status = _native.call(name, source, self._lines, len(self._lines), spans, len(spans), byref(fault))
+        if is_judged or status != _native.DOCUMENT_ERROR:
+            _judge(status, fault, self._paths, fault.line - 1)
+        return spans
+
+
+def _ready(paths: Union[Paths, Iterable[Path]]) -> Paths:
+    return paths if isinstance(paths, Paths) else Paths.__new__(Paths)._fill(paths)
+
+
+def _get(name: str, text: Any, source: _native.Source, path: Path) -> Any:
+    line, span, fault = _line(path), Span(), Fault()
+    status = _native.call(name, source, line, len(line), byref(span), byref(fault))
+    _judge(status, fault, [path])
+    return _part(text, source, span)
+
+
+def _get_many(name: str, text: Any, source: _native.Source, paths: Union[Paths, Iterable[Path]]) -> List[Any]:
+    spans = _ready(paths)._spans(name, source)
+    return [_part(text, source, span) if span.end else None for span in spans]
+
+
+def validate(text: Union[str, Buffer]) -> None:
+    """Raises BrokenText where the text isn't one value in UTF-8 with nothing but white space round it."""
+    fault = Fault()
+    _judge(_native.call("sonic_validate", _native.source_of(text), byref(fault)), fault, [])
+
+
+@overload
+def get(text: str, path: Path) -> str: ...
+@overload
+def get(text: bytes, path: Path) -> bytes: ...  # type: ignore[overload-overlap]
+@overload
+def get(text: Buffer, path: Path) -> memoryview: ...
+def get(text: Any, path: Path) -> Any:
+    """The text of the value to which the path leads. What follows it in the text may be anything.
+
+    Raises NotFound or WrongType where the path leads nowhere, BrokenText where the text is broken before
+    the value ends, and PathError where the path is none, or has more than 255 nodes."""
+    return _get("sonic_get", text, _native.source_of(text), path)
+
+
+@overload
+def get_many(text: str, paths: Union[Paths, Iterable[Path]]) -> List[Optional[str]]: ...
+@overload
+def get_many(text: bytes, paths: Union[Paths, Iterable[Path]]) -> List[Optional[bytes]]: ...  # type: ignore[overload-overlap]
+@overload
+def get_many(text: Buffer, paths: Union[Paths, Iterable[Path]]) -> List[Optional[memoryview]]: ...
+def get_many(text: Any, paths: Union[Paths, Iterable[Path]]) -> Any:
+    """The texts of the values to which the paths lead, in their order and by one walk through the text, and
+    None for one whose key an object with members lacks.
+
+    Raises as `get` does where any of them leads nowhere otherwise. Of paths that are alike so far, all go
+    on with a key or all with an index: ["a"] and [0] don't go together, which is a PathError."""
+    return _get_many("sonic_get_many", text, _native.source_of(text), paths)
+
+
+class Document(Generic[T]):
+    """A text that is one value in UTF-8, which is looked at once. Look-ups in it pass what they don't need
+    without a second look. It is a str, bytes or a memoryview of bytes, as nothing may write to it."""
+
+    __slots__ = ("_text", "_source")
+
+    def __init__(self, text: T) -> None:
+        """Raises BrokenText as `validate` does."""
+        source = _native.source_of(text)
+        if not _native.is_fixed(source):
+            raise TypeError("a document is a str, bytes or a memoryview of bytes, as nothing may write to it")
+        validate(source)
+        self._text, self._source = text, source
+
+    @property
+    def text(self) -> T:
+        """The text that was given."""
+        return self._text
+
+    def get(self, path: Path) -> T:
+        """As `get`, without a second look."""
+        return _get("sonic_get_unchecked", self._text, self._source, path)
+
+    def get_many(self, paths: Union[Paths, Iterable[Path]]) -> List[Optional[T]]:
+        """As `get_many`, without a second look and by a walk for each path, which is faster for a few."""
+        return _get_many("sonic_get_many_unchecked", self._text, self._source, paths)

@@ -1,0 +1,120 @@
+"""The calls of libsonic.so.0: a row for each, as sonic.h has it."""
+from __future__ import annotations
+
+import ctypes
+import os
+from ctypes import POINTER, c_int, c_size_t, c_ssize_t, c_uint32, c_void_p
+from typing import Any, Callable, Dict, Union
+
+# What a call comes to, as sonic.h says.
+OK, DOCUMENT_ERROR, WRONG_COUNT, BAD_LINES, NO_MEMORY = 0, 1, 2, 3, 7
+
+
+class Span(ctypes.Structure):
+    """sonic_span."""
+
+    _fields_ = [("start", c_size_t), ("end", c_size_t)]
+
+
+class Fault(ctypes.Structure):
+    """sonic_error."""
+
+    _fields_ = [("code", c_uint32), ("line", c_size_t), ("column", c_size_t), ("offset", c_size_t)]
+
+
+_TEXT = (c_void_p, c_size_t)
+
+# What each call returns, and what it takes.
+CALLS: Dict[str, Any] = {
+    "sonic_validate": (c_uint32, [*_TEXT, POINTER(Fault)]),
+    "sonic_get": (c_uint32, [*_TEXT, *_TEXT, POINTER(Span), POINTER(Fault)]),
+    "sonic_get_unchecked": (c_uint32, [*_TEXT, *_TEXT, POINTER(Span), POINTER(Fault)]),
+    "sonic_get_many": (c_uint32, [*_TEXT, *_TEXT, POINTER(Span), c_size_t, POINTER(Fault)]),
+    "sonic_get_many_unchecked": (c_uint32, [*_TEXT, *_TEXT, POINTER(Span), c_size_t, POINTER(Fault)]),
+    "sonic_code_text": (c_size_t, [c_uint32, c_void_p, c_size_t]),
+}
+
+
+def _file() -> str:
+    """The shared object: what SONIC_LIBRARY names, the one in the package, or the installed one."""
+    beside = os.path.join(os.path.dirname(os.path.abspath(__file__)), "libsonic.so.0")
+    return os.environ.get("SONIC_LIBRARY") or (beside if os.path.exists(beside) else "libsonic.so.0")
+
+
+def _load(kind: Any) -> Dict[str, Callable[..., int]]:
+    try:
+        library = kind(_file())
+        calls = {}
+        for name, (result, arguments) in CALLS.items():
+            calls[name] = library[name]
+            calls[name].restype, calls[name].argtypes = result, arguments
+        return calls
+    except (OSError, AttributeError) as error:
+        raise ImportError(f"the library isn't there, or is of another version: {error}") from error
+
+
+# The calls twice: while one of the first runs, other threads of Python may; while one of the second does,
+# none may, so that nothing of Python writes to the text.
+_FREE = _load(ctypes.CDLL)
+_HELD = _load(ctypes.PyDLL)
+
+
+class _Buffer(ctypes.Structure):
+    """Py_buffer."""
+
+    _fields_ = [
+        ("buf", c_void_p),
+        ("obj", c_void_p),
+        ("len", c_ssize_t),
+        ("itemsize", c_ssize_t),
+        ("readonly", c_int),
+        ("ndim", c_int),
+        ("format", c_void_p),
+        ("shape", c_void_p),
+        ("strides", c_void_p),
+        ("suboffsets", c_void_p),
+        ("internal", c_void_p),
+    ]
+
+
+_python = ctypes.PyDLL(None)
+_get_buffer = _python["PyObject_GetBuffer"]
+_get_buffer.argtypes = [ctypes.py_object, POINTER(_Buffer), c_int]
+_release_buffer = _python["PyBuffer_Release"]
+_release_buffer.argtypes, _release_buffer.restype = [POINTER(_Buffer)], None
+
+Source = Union[bytes, memoryview]
+
+
+def source_of(text: Any) -> Source:
+    """The bytes of a text, without a copy but of a str."""
+    if type(text) is bytes:
+        return text
+    if isinstance(text, str):
+        return str.encode(text)
+    return memoryview(text).cast("B")
+
+
+def is_fixed(source: Source) -> bool:
+    """Whether nobody can write to it."""
+    return type(source) is bytes or (source.readonly and type(source.obj) is bytes)
+
+
+def call(name: str, source: Source, *arguments: Any) -> int:
+    """Makes the call for the text, with the arguments that follow it, and gives the status."""
+    calls = _FREE if is_fixed(source) else _HELD
+    if type(source) is bytes:
+        return calls[name](source, len(source), *arguments)
+    held = _Buffer()
+    _get_buffer(source, held, 0)
+    try:
+        return calls[name](held.buf, held.len, *arguments)
+    finally:
+        _release_buffer(held)
+
+
+def code_text(code: int) -> str:
+    """The words of a code, or none where no code has the number."""
+    room = bytearray(128)
+    length = _FREE["sonic_code_text"](code, (ctypes.c_char * len(room)).from_buffer(room), len(room))
+    return room[:length].decode()

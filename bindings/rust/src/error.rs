@@ -1,0 +1,177 @@
+//! Why there is no answer.
+use crate::raw;
+use std::fmt;
+
+/// Why there is no answer.
+#[derive(Clone, Copy, Debug, PartialEq, Eq)]
+#[non_exhaustive]
+pub enum Error {
+    /// The text is broken, or a path leads nowhere in it.
+    Document(Fault),
+    /// A path is none, or doesn't go with those before it: its index among the paths that were given.
+    BadPath(usize),
+    /// Memory ran out.
+    NoMemory,
+}
+
+/// What is wrong in a text, and where.
+#[derive(Clone, Copy, Debug, PartialEq, Eq)]
+pub struct Fault {
+    /// What is wrong.
+    pub code: Code,
+    /// The line, from 1.
+    pub line: usize,
+    /// The column, from 1, in bytes.
+    pub column: usize,
+    /// The offset, from 0, in bytes.
+    pub offset: usize,
+}
+
+/// The number of what is wrong; `Display` has its words.
+///
+/// A value of another type than the path asks for is `MISMATCH + 10 * found + wanted`, as `sonic.h` says.
+#[derive(Clone, Copy, Debug, PartialEq, Eq, PartialOrd, Ord, Hash)]
+pub struct Code(pub u32);
+
+/// What kind of error a code is.
+#[derive(Clone, Copy, Debug, PartialEq, Eq, Hash)]
+pub enum Category {
+    /// The text isn't JSON in UTF-8, as far as it was needed.
+    Syntax,
+    /// The text ends inside a value, or before one that is expected.
+    Eof,
+    /// The value on the way of a path is neither the object nor the array that the path asks for.
+    TypeUnmatched,
+    /// The object or the array on the way of a path has no such key or index.
+    NotFound,
+}
+
+macro_rules! codes {
+    ($($name:ident = $number:literal),* $(,)?) => {
+        #[allow(missing_docs)] // sonic.h tells what each says
+        impl Code {
+            $(pub const $name: Code = Code($number);)*
+
+            /// The names and their codes.
+            pub const NAMED: &'static [(&'static str, Code)] = &[$((stringify!($name), Code($number))),*];
+        }
+    };
+}
+
+codes! {
+    EOF_WHILE_PARSING = 3,
+    EXPECTED_COLON = 4,
+    EXPECTED_ARRAY_COMMA_OR_END = 5,
+    EXPECTED_OBJECT_COMMA_OR_END = 6,
+    INVALID_LITERAL = 7,
+    INVALID_JSON_VALUE = 8,
+    INVALID_ESCAPE = 11,
+    INVALID_NUMBER = 12,
+    INVALID_UNICODE_CODE_POINT = 14,
+    INVALID_UTF8 = 15,
+    CONTROL_CHARACTER_WHILE_PARSING_STRING = 16,
+    EXPECT_OBJECT_KEY_OR_END = 17,
+    TRAILING_CHARACTERS = 19,
+    GET_IN_EMPTY_OBJECT = 21,
+    GET_UNKNOWN_KEY_IN_OBJECT = 22,
+    GET_IN_EMPTY_ARRAY = 23,
+    GET_INDEX_OUT_OF_ARRAY = 24,
+    INVALID_SURROGATE_UNICODE_CODE_POINT = 26,
+    DUPLICATE_KEY = 32,
+    MISMATCH = 100,
+}
+
+impl Code {
+    /// What kind of error this is.
+    ///
+    /// ```
+    /// use sonic::{Category, Code};
+    /// assert_eq!(Code::GET_IN_EMPTY_ARRAY.category(), Category::NotFound);
+    /// ```
+    pub fn category(self) -> Category {
+        match self {
+            Code::EOF_WHILE_PARSING => Category::Eof,
+            Code(21..=24) => Category::NotFound,
+            Code(100..) => Category::TypeUnmatched,
+            _ => Category::Syntax,
+        }
+    }
+}
+
+impl fmt::Display for Code {
+    fn fmt(&self, f: &mut fmt::Formatter<'_>) -> fmt::Result {
+        let mut room = [0; 128];
+        // SAFETY: the room is this function's own, and initialised.
+        let length = unsafe { raw::sonic_code_text(self.0, room.as_mut_ptr(), room.len()) };
+        f.write_str(&String::from_utf8_lossy(&room[..length.min(room.len())]))
+    }
+}
+
+impl fmt::Display for Fault {
+    fn fmt(&self, f: &mut fmt::Formatter<'_>) -> fmt::Result {
+        let Fault {
+            code,
+            line,
+            column,
+            offset,
+        } = self;
+        write!(
+            f,
+            "{code}: line {line} column {column} (byte {offset}), code {}",
+            code.0
+        )
+    }
+}
+
+impl fmt::Display for Error {
+    fn fmt(&self, f: &mut fmt::Formatter<'_>) -> fmt::Result {
+        match self {
+            Error::Document(fault) => fault.fmt(f),
+            Error::BadPath(index) => write!(
+                f,
+                "the path of index {index} is none, or doesn't go with those before it"
+            ),
+            Error::NoMemory => f.write_str("out of memory"),
+        }
+    }
+}
+
+impl std::error::Error for Error {}
+
+impl Error {
+    /// What is wrong in the text, where it is that.
+    pub fn fault(&self) -> Option<Fault> {
+        match self {
+            Error::Document(fault) => Some(*fault),
+            _ => None,
+        }
+    }
+
+    /// Whether the text is right as far as it was needed, but has no such key or index.
+    pub fn is_not_found(&self) -> bool {
+        self.fault()
+            .is_some_and(|fault| fault.code.category() == Category::NotFound)
+    }
+}
+
+/// What a call comes to. Of many paths the fault has the number of the bad line, from 1.
+pub(crate) fn judge(status: u32, fault: raw::Fault) -> Result<(), Error> {
+    let raw::Fault {
+        code,
+        line,
+        column,
+        offset,
+    } = fault;
+    match status {
+        raw::OK => Ok(()),
+        raw::DOCUMENT_ERROR => Err(Error::Document(Fault {
+            code: Code(code),
+            line,
+            column,
+            offset,
+        })),
+        raw::BAD_LINES => Err(Error::BadPath(line.saturating_sub(1))),
+        raw::NO_MEMORY => Err(Error::NoMemory),
+        other => unreachable!("status {other}"),
+    }
+}

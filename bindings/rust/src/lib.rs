@@ -1,0 +1,150 @@
+#![doc = include_str!("../README.md")]
+#![warn(missing_docs)]
+
+mod error;
+mod path;
+mod raw;
+mod text;
+
+pub use error::{Category, Code, Error, Fault};
+pub use path::{Node, Path, Paths};
+pub use text::Text;
+
+use error::judge;
+
+fn look_up<'t, T: Text + ?Sized>(
+    call: raw::Get,
+    json: &'t T,
+    path: &Path,
+) -> Result<&'t T::Part, Error> {
+    let (text, line) = (json.bytes(), path.as_str());
+    let (mut span, mut fault) = (raw::Span::default(), raw::Fault::default());
+    // SAFETY: the slices are borrowed while the call runs, and the two cells are this function's own. A call
+    // without a check comes from `Valid` alone, whose text was judged.
+    let status = unsafe {
+        call(
+            text.as_ptr(),
+            text.len(),
+            line.as_ptr(),
+            line.len(),
+            &mut span,
+            &mut fault,
+        )
+    };
+    judge(status, fault)?;
+    Ok(json.part(span.start..span.end))
+}
+
+fn look_up_many<'t, T: Text + ?Sized>(
+    call: raw::GetMany,
+    json: &'t T,
+    paths: &Paths,
+) -> Result<Vec<Option<&'t T::Part>>, Error> {
+    let (text, lines) = (json.bytes(), &paths.lines);
+    let (mut spans, mut fault) = (
+        vec![raw::Span::default(); paths.count],
+        raw::Fault::default(),
+    );
+    // SAFETY: as in `look_up`, and there are as many spans as is said.
+    let status = unsafe {
+        call(
+            text.as_ptr(),
+            text.len(),
+            lines.as_ptr(),
+            lines.len(),
+            spans.as_mut_ptr(),
+            spans.len(),
+            &mut fault,
+        )
+    };
+    judge(status, fault)?;
+    Ok(spans
+        .into_iter()
+        .map(|span| (span.end > 0).then(|| json.part(span.start..span.end)))
+        .collect())
+}
+
+/// The text of the value to which the path leads. What follows it in the text may be anything.
+///
+/// It is an [`Error::Document`] where the path leads nowhere, or the text is broken before the value ends.
+///
+/// ```
+/// use sonic::{get, path, Code};
+/// let json = r#"{"user":"ada","tags":["a","b"]}, and more"#;
+/// assert_eq!(get(json, &path!["tags", 1])?, r#""b""#);
+/// assert_eq!(get(json.as_bytes(), &path!["user"])?, br#""ada""#);
+/// let error = get(json, &path!["exp"]).unwrap_err();
+/// assert_eq!(error.fault().unwrap().code, Code::GET_UNKNOWN_KEY_IN_OBJECT);
+/// # Ok::<(), sonic::Error>(())
+/// ```
+pub fn get<'t, T: Text + ?Sized>(json: &'t T, path: &Path) -> Result<&'t T::Part, Error> {
+    look_up(raw::sonic_get, json, path)
+}
+
+/// The texts of the values to which the paths lead, in their order and by one walk through the text, and
+/// `None` for one whose key an object with members lacks.
+///
+/// It is an [`Error::Document`] where any of them leads nowhere otherwise, or the text is broken as far as
+/// it is needed.
+///
+/// ```
+/// use sonic::{get_many, path, Paths};
+/// let paths = Paths::new([path!["tags", 1], path!["exp"]])?;
+/// assert_eq!(get_many(r#"{"user":"ada","tags":["a","b"]}"#, &paths)?, [Some(r#""b""#), None]);
+/// # Ok::<(), sonic::Error>(())
+/// ```
+pub fn get_many<'t, T: Text + ?Sized>(
+    json: &'t T,
+    paths: &Paths,
+) -> Result<Vec<Option<&'t T::Part>>, Error> {
+    look_up_many(raw::sonic_get_many, json, paths)
+}
+
+/// A text that is one value in UTF-8 with nothing but white space round it: what [`validate`] gives.
+/// Look-ups in it pass what they don't need without a second look.
+#[derive(Debug)]
+pub struct Valid<'t, T: ?Sized>(&'t T);
+
+impl<T: ?Sized> Clone for Valid<'_, T> {
+    fn clone(&self) -> Self {
+        *self
+    }
+}
+
+impl<T: ?Sized> Copy for Valid<'_, T> {}
+
+/// Judges a text whole.
+///
+/// ```
+/// use sonic::{path, validate, Category};
+/// let document = validate(r#"{"user":"ada"}"#)?;
+/// assert_eq!(document.get(&path!["user"])?, r#""ada""#);
+/// let fault = validate("[1,").unwrap_err().fault().unwrap();
+/// assert_eq!((fault.code.category(), fault.line, fault.column), (Category::Eof, 1, 3));
+/// # Ok::<(), sonic::Error>(())
+/// ```
+pub fn validate<T: Text + ?Sized>(json: &T) -> Result<Valid<'_, T>, Error> {
+    let (text, mut fault) = (json.bytes(), raw::Fault::default());
+    // SAFETY: the slice is borrowed while the call runs, and the cell is this function's own.
+    let status = unsafe { raw::sonic_validate(text.as_ptr(), text.len(), &mut fault) };
+    judge(status, fault)?;
+    Ok(Valid(json))
+}
+
+impl<'t, T: Text + ?Sized> Valid<'t, T> {
+    /// The text.
+    pub fn text(self) -> &'t T {
+        self.0
+    }
+
+    /// As [`get`], without a second look.
+    pub fn get(self, path: &Path) -> Result<&'t T::Part, Error> {
+        look_up(raw::sonic_get_unchecked, self.0, path)
+    }
+
+    /// As [`get_many`], without a second look and by a walk for each path, which is faster
+    /// for a few.
+    pub fn get_many(self, paths: &Paths) -> Result<Vec<Option<&'t T::Part>>, Error> {
+        look_up_many(raw::sonic_get_many_unchecked, self.0, paths)
+    }
+}

@@ -1,0 +1,141 @@
+// One item of a container after the other.
+ghost use Rattle.std.specs.Prelude.{◌≡◌, ◌<◌, ◌≤◌, ◌^◌, ℕ, None, true, false, length, IfOk, IfErr, IfSome, OnOk};
+ghost use Rattle.sonic_text.specs.Documents.{IsRootFault};
+ghost use Rattle.sonic_text.specs.Faults.{IsKeyFault};
+ghost use Rattle.sonic_text.specs.Places.{byte, after_space};
+ghost use Rattle.sonic_text.specs.Strings.{strict};
+ghost use Rattle.sonic_text.specs.Values.{opening, ItemsFit};
+ghost use Rattle.sonic_text.specs.declared.kind.Kind.{Kind};
+ghost use Rattle.sonic_parser.specs.Faults.{IsStopFor};
+ghost use Rattle.sonic_c.specs.Containers.{IsHeadAt, IsItemAt, IsItem, HasItems, HasPassed};
+
+use crate::span::Span;
+use sonic_find::Steps;
+use sonic_input::{JsonSlice, Read};
+use sonic_parser::Fault;
+use sonic_text::{Kind, Stop, StringEnd};
+use std::alloc::Global;
+
+/// An item of a container: the span of its key, twice 0 for an element of an array, and that of its
+/// value.
+#[repr(C)]
+#[derive(Clone, Copy)]
+pub struct Item {
+    /// Where the key is, with its quotes.
+    pub key: Span,
+    /// Where the value is.
+    pub value: Span,
+}
+
+// Steps through a text, from the first byte on after a place that is no white space.
+pub(crate) fn steps_at(alloc: Global, text: &[u8], place: usize) -> Steps<'_>
+    requires { place ≤ length text.now }
+    ensures { result ≡ record {
+      text = text.now;
+      place = after_space text.now place;
+      checks = true;
+    } }
+{
+    let mut read = Read::unscanned(JsonSlice::Raw(text));
+    read.set_index(place);
+    Steps::checked(alloc, read)
+}
+
+// Passes the item that comes after those that were passed, if there is one, or the closing bracket.
+pub(crate) fn pass_item(
+    steps: &mut Steps<'_>,
+    kind: Kind,
+    first: bool,
+) -> Result<Option<Item>, Fault>
+    requires checks { steps.old.checks ≡ true }
+    requires bracket { first ≡ true → byte steps.old.text steps.old.place ≡ opening kind }
+    ensures item { IfOk result (λ found. IfSome found (λ item. (n : ℕ)
+        → HasPassed steps.old.text kind n first steps.old.place → IsItem steps.old.text kind n item)) }
+    ensures end { IfOk result (λ found. IfSome found (λ item. item.value.end ≡ steps.new.place)) }
+    ensures later { IfOk result (λ found. IfSome found (λ _. steps.old.place < steps.new.place)) }
+    ensures fits { IfOk result (λ found. IfSome found (λ _. steps.new.place < 2 ^ 64)) }
+    ensures closed { IfOk result (λ found. found ≡ None → (n : ℕ)
+        → HasPassed steps.old.text kind n first steps.old.place → HasItems steps.old.text n steps.new.place) }
+    ensures moved { steps.new ≡ record steps.old { place = steps.new.place } }
+    ensures err { IfErr result (IsStopFor (λ s. (n : ℕ)
+        → HasPassed steps.old.text kind n first steps.old.place → IsRootFault steps.old.text s)) }
+    ensures stop { IfErr result (IsStopFor (λ s. s.place ≤ length steps.old.text)) }
+{
+    if !go_on(steps, kind, first)? {
+        return Ok(None);
+    }
+    let item = item_at(steps, kind)?;
+    Ok(Some(item))
+}
+
+// Goes on to the item that comes after those that were passed, or past the closing bracket: whether there
+// is one.
+fn go_on(steps: &mut Steps<'_>, kind: Kind, first: bool) -> Result<bool, Stop>
+    requires checks { steps.old.checks ≡ true }
+    requires bracket { first ≡ true → byte steps.old.text steps.old.place ≡ opening kind }
+    ensures item { IfOk result (λ more. more ≡ true → (n : ℕ)
+        → HasPassed steps.old.text kind n first steps.old.place
+        → ItemsFit strict steps.old.text kind (after_space steps.old.text 0) n steps.new.place) }
+    ensures closed { IfOk result (λ more. more ≡ false → (n : ℕ)
+        → HasPassed steps.old.text kind n first steps.old.place → HasItems steps.old.text n steps.new.place) }
+    ensures later { IfOk result (λ more. more ≡ true → steps.old.place < steps.new.place) }
+    ensures moved { steps.new ≡ record steps.old { place = steps.new.place } }
+    ensures err { IfErr result (λ s. (n : ℕ)
+        → HasPassed steps.old.text kind n first steps.old.place → IsRootFault steps.old.text s) }
+    ensures stop { IfErr result (λ s. s.place ≤ length steps.old.text) }
+{
+    if first {
+        return Ok(steps.open(kind));
+    }
+    match steps.next_item(kind) {
+        Ok(more) => Ok(more),
+        Err(stop) => Err(stop),
+    }
+}
+
+// Passes the item that is expected at the cursor.
+fn item_at(steps: &mut Steps<'_>, kind: Kind) -> Result<Item, Fault>
+    requires checks { steps.old.checks ≡ true }
+    ensures item { IfOk result (IsItemAt steps.old.text kind steps.old.place) }
+    ensures end { IfOk result (λ item. item.value.end ≡ steps.new.place) }
+    ensures later { OnOk result (steps.old.place < steps.new.place) }
+    ensures fits { OnOk result (steps.new.place < 2 ^ 64) }
+    ensures moved { steps.new ≡ record steps.old { place = steps.new.place } }
+    ensures err { IfErr result (IsStopFor (λ s. (n : ℕ)
+        → ItemsFit strict steps.old.text kind (after_space steps.old.text 0) n steps.old.place
+        → IsRootFault steps.old.text s)) }
+    ensures stop { IfErr result (IsStopFor (λ s. s.place ≤ length steps.old.text)) }
+{
+    let key = key_at(steps, kind)?;
+    let start = steps.place();
+    steps.skip()?;
+    let end = steps.place();
+    let value = Span { start, end };
+    Ok(Item { key, value })
+}
+
+// Passes what comes before the value of the item that is expected at the cursor: nothing, or a key.
+fn key_at(steps: &mut Steps<'_>, kind: Kind) -> Result<Span, Stop>
+    requires checks { steps.old.checks ≡ true }
+    ensures head { IfOk result (IsHeadAt steps.old.text kind steps.old.place steps.new.place) }
+    ensures moved { steps.new ≡ record steps.old { place = steps.new.place } }
+    ensures err { IfErr result (λ s. (kind ≡ Kind.Object)
+        × IsKeyFault strict steps.old.text steps.old.place s) }
+{
+    match kind {
+        Kind::Array => Ok(Span { start: 0, end: 0 }),
+        Kind::Object => pass_key(steps),
+    }
+}
+
+// Passes the key that is expected at the cursor.
+fn pass_key(steps: &mut Steps<'_>) -> Result<Span, Stop>
+    requires checks { steps.old.checks ≡ true }
+    ensures head { IfOk result (IsHeadAt steps.old.text Kind.Object steps.old.place steps.new.place) }
+    ensures moved { steps.new ≡ record steps.old { place = steps.new.place } }
+    ensures err { IfErr result (λ s. IsKeyFault strict steps.old.text steps.old.place s) }
+{
+    let start = steps.place();
+    let StringEnd { end, .. } = steps.key()?;
+    Ok(Span { start, end })
+}
