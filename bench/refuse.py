@@ -1,7 +1,8 @@
-"""Refuses the Nth allocation of commands and calls: refuse.py REPOSITORY FOLDER commands|calls..
+"""Refuses the Nth allocation of commands and calls: refuse.py REPOSITORY PROGRAM FOLDER commands|calls..
 
-Each case is a file in FOLDER, and its words are in another one: `rt try --cases` builds a program once
-for each N, and runs it on each case. A command has to end as it does with all its memory, or with the
+Each case is a file in FOLDER, and its words are in another one. The commands are those of PROGRAM, over
+an allocator that refuses (refuse.c). The calls are made by a program that `rt try --cases` builds once
+for each N, and runs on each case. A command has to end as it does with all its memory, or with the
 status 7 and nothing written; a call with memory lacking, and its object as it was or as its contract
 says, or as it does with all its memory.
 """
@@ -27,8 +28,14 @@ COMMANDS = {
     "index": (["index"], '{"a\\n": [1, {"b":"x"}], "c": {}}'),
     "index, cut": (["index"], "[[1], {"),
     "lines": (["lines"], '["a"]\n["b",0]\n\n{"a":1,"b":[[2]]}\n\n{"a":tru}\n{"a":"\\u00e9"}\n'),
+    "patch": (
+        ["patch"],
+        '[{"op":"add","path":"/a/0","value":{"b":[1]}},{"op":"move","from":"/a/1","path":"/c"},'
+        '{"op":"test","path":"/a/0","value":{"b": [1]}}]\n{"a":[ 7 ]}',
+    ),
     "min": (["min"], '{ "a" : [1, 2 ] }'),
     "indent": (["indent", "2"], '{ "a" : [1, {} ] }'),
+    "patch, refused": (["patch"], '[{"op":"remove","path":"/b"}]\n{"a": 1}'),
     "gen": (["gen", "2"], ""),
     "usage": (["got"], ""),
 }
@@ -41,6 +48,7 @@ Descent::value JsonIndex::build minify indent OwnedLazyValue::from_str OwnedLazy
 OwnedLazyValue::clone OwnedLazyValue::to_string load get_mut pointer_mut as_object_mut with_mut edit
 LazyArray::with_capacity push LazyObject::with_capacity append_pair add_path Value::from_str Value::clone Value::to_string
 get_by_schema parse_by_schema path_of_line read_paths edit_of_line read_edits edit_all
+read_patch same apply
 read_all MemorySink::new
 """.split()
 # A number that no run comes to: nothing is refused.
@@ -51,7 +59,7 @@ NO_MEMORY = 7
 # So many numbers are tried side by side, each over crates of its own.
 LANES = max(1, (os.cpu_count() or 1) - 1)
 # What the library's crates are needed for.
-LIBRARIES = "error text input io parser pointer paths find lazy lines owned edits value index min"
+LIBRARIES = "error text input io parser pointer paths find lazy lines owned edits value index min patch"
 
 
 @dataclass
@@ -94,7 +102,36 @@ def lay(cases, folder):
         open(f"{folder}/{number}.args", "w").write("".join(word + "\n" for word in case.words))
 
 
-def run(crate, folder, refused):
+def allocator(bench, folder):
+    """The allocator that refuses, built."""
+    built = f"{folder}/refuse.so"
+    subprocess.run([os.environ.get("CC", "cc"), "-O1", "-shared", "-fPIC", "-o", built, f"{bench}/refuse.c"], check=True)
+    return built
+
+
+def run_commands(program, allocator):
+    """What runs each case by a program, with one allocation refused: the status and the output by its number."""
+
+    def run_one(name, folder, refused):
+        words = open(f"{folder}/{name}.args").read().splitlines()
+        environment = {"LD_PRELOAD": allocator, "REFUSED": str(refused)}
+        with open(f"{folder}/{name}") as text:
+            ran = subprocess.run([program, *words], stdin=text, env=environment, capture_output=True, text=True, errors="replace")
+        return ran.returncode, ran.stdout
+
+    def run(folder, refused):
+        names = [name for name in os.listdir(folder) if not name.endswith(".args")]
+        return {int(name): run_one(name, folder, refused) for name in names}
+
+    return run
+
+
+def run_calls(crate):
+    """The same by a program that is built for each number."""
+    return lambda folder, refused: try_cases(crate, folder, refused)
+
+
+def try_cases(crate, folder, refused):
     """The status and the output of each case by its number, with one allocation refused."""
     words = ["rt", "try", "--fail-alloc", str(refused), "--cases", folder]
     ran = subprocess.run(words, cwd=crate, capture_output=True, text=True, errors="replace")
@@ -105,18 +142,18 @@ def run(crate, folder, refused):
     return {int(n): (int(status) if status else how, outputs.get(n, "")) for n, how, status in ends}
 
 
-def refuse(cases, crates, folder):
+def refuse(cases, lanes, folder):
     """Runs the cases with each allocation refused in turn, each as long as that changes something."""
     lay(cases, folder)
-    for number, ended in run(crates[0], folder, NONE).items():
+    for number, ended in lanes[0](folder, NONE).items():
         cases[number].whole = ended
     first = 1
-    with ThreadPoolExecutor(len(crates)) as pool:
+    with ThreadPoolExecutor(len(lanes)) as pool:
         while os.listdir(folder):
-            for ends in pool.map(run, crates, [folder] * len(crates), range(first, first + len(crates))):
+            for ends in pool.map(lambda run, n: run(folder, n), lanes, range(first, first + len(lanes))):
                 for number, ended in ends.items():
                     cases[number].runs.append(ended)
-            first += len(crates)
+            first += len(lanes)
             for number, case in enumerate(cases):
                 if case.is_done() and os.path.exists(f"{folder}/{number}"):
                     os.remove(f"{folder}/{number}")
@@ -158,18 +195,18 @@ def show(title, rows):
     return not any("WRONG" in row[2] for row in rows)
 
 
-def main(repository, folder, *parts):
-    lanes = [f"{folder}/{lane}" for lane in range(LANES)]
-    for lane in lanes:
-        copy(repository, lane)
+def main(repository, program, folder, *parts):
     right = True
     if "commands" in parts:
         cases = {name: Case(words, text) for name, (words, text) in COMMANDS.items()}
-        refuse(list(cases.values()), [f"{lane}/crates/sonic_tool" for lane in lanes], f"{folder}/commands")
+        refuse(list(cases.values()), [run_commands(program, allocator(f"{repository}/bench", folder))], f"{folder}/commands")
         right &= show("command", [command_row(*it) for it in cases.items()])
     if "calls" in parts:
+        lanes = [f"{folder}/{lane}" for lane in range(LANES)]
+        for lane in lanes:
+            copy(repository, lane)
         cases = {name: Case([name]) for name in CALLS}
-        refuse(list(cases.values()), [f"{lane}/crates/refused_calls" for lane in lanes], f"{folder}/calls")
+        refuse(list(cases.values()), [run_calls(f"{lane}/crates/refused_calls") for lane in lanes], f"{folder}/calls")
         right &= show("call", [call_row(*it) for it in cases.items()])
     sys.exit(0 if right else 1)
 

@@ -19,13 +19,24 @@ def read(*names):
 HEADER = read("..", "..", "..", "include", "sonic.h")
 PLAIN = re.sub(r"/\*.*?\*/", "", HEADER, flags=re.S)
 
-TYPES = {
+PLAIN_TYPES = {
     "uint32_t": ctypes.c_uint32,
+    "uint64_t": ctypes.c_uint64,
+    "int64_t": ctypes.c_int64,
     "size_t": ctypes.c_size_t,
+}
+STRUCTS = {
+    "sonic_span": _native.Span,
+    "sonic_error": _native.Fault,
+    "sonic_items": _native.Items,
+    "sonic_item": _native.Item,
+}
+TYPES = {
+    **PLAIN_TYPES,
+    **STRUCTS,
+    **{f"{name} *": ctypes.POINTER(kind) for name, kind in {**PLAIN_TYPES, **STRUCTS}.items()},
     "const uint8_t *": ctypes.c_void_p,
     "uint8_t *": ctypes.c_void_p,
-    "sonic_span *": ctypes.POINTER(_native.Span),
-    "sonic_error *": ctypes.POINTER(_native.Fault),
 }
 
 
@@ -37,22 +48,21 @@ class Header(unittest.TestCase):
     def test_calls(self):
         found = {}
         for result, name, arguments in re.findall(r"^(\w[\w *]*?)\b(sonic_\w+)\(([^)]*)\);", PLAIN, re.M):
-            if name in _native.CALLS:
-                found[name] = (TYPES[result.strip()], [type_of(it) for it in arguments.split(",")])
-        for name, row in _native.CALLS.items():
-            self.assertEqual(row, found.get(name), name)
+            found[name] = (TYPES[result.strip()], [type_of(it) for it in arguments.split(",")])
+        self.assertEqual(found, _native.CALLS)
 
     def test_fields(self):
-        for name, kind in (("span", _native.Span), ("error", _native.Fault)):
-            fields = re.search(rf"typedef struct sonic_{name} \{{(.*?)\}}", PLAIN, re.S).group(1)
-            found = [(field, TYPES[of]) for of, field in re.findall(r"(\w+) (\w+);", fields)]
-            self.assertEqual(found, kind._fields_)
+        found = {}
+        for name, fields in re.findall(r"^typedef struct (\w+) \{(.*?)\}", PLAIN, re.M | re.S):
+            found[name] = [(field, TYPES[of]) for of, field in re.findall(r"(\w+) (\w+);", fields)]
+        self.assertEqual(found, {name: kind._fields_ for name, kind in STRUCTS.items()})
 
     def test_numbers(self):
-        codes = {name: int(number) for name, number in re.findall(r"SONIC_CODE_(\w+) = (\d+)", PLAIN)}
-        self.assertEqual(codes, {it.name: int(it) for it in sonic.Code})
-        for name, number in re.findall(r"SONIC_(OK|DOCUMENT_ERROR|WRONG_COUNT|BAD_LINES|NO_MEMORY) = (\d+)", PLAIN):
-            self.assertEqual(getattr(_native, name), int(number))
+        found = {name: int(number) for name, number in re.findall(r"SONIC_(\w+) = (\d+)", PLAIN)}
+        wanted = {f"CODE_{it.name}": int(it) for it in sonic.Code}
+        wanted.update({it.name: int(it) for it in sonic.Type})
+        wanted.update({name: number for name, number in vars(_native).items() if name.isupper() and type(number) is int})
+        self.assertEqual(found, wanted)
 
     def test_version(self):
         version = re.search(r'SONIC_VERSION "(.*)"', HEADER).group(1)

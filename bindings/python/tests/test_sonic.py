@@ -8,7 +8,7 @@ import threading
 import unittest
 
 import sonic
-from sonic import BrokenText, Code, Document, NotFound, PathError, Paths, SonicError, WrongType
+from sonic import BrokenText, Code, Document, DocumentError, Mismatch, NotFound, PathError, Paths, SonicError, Type, WrongType
 
 BODY = '{"iss": "https://id.example", "name": "Zoë", "roles": ["reader", "editor"]}'
 
@@ -82,10 +82,10 @@ class Errors(unittest.TestCase):
             (b'{"a": "\xff"}', ["a"], BrokenText, Code.INVALID_UTF8, 1, 8, 7),
             (b'{"a":1}', ["b"], NotFound, Code.GET_UNKNOWN_KEY_IN_OBJECT, 1, 7, 6),
             (b"[1]", [1], NotFound, Code.GET_INDEX_OUT_OF_ARRAY, 1, 3, 2),
-            (b"12", [0], WrongType, Code.MISMATCH + 21, 1, 2, 1),
+            (b"12", [0], Mismatch, Code.MISMATCH + 21, 1, 2, 1),
         ):
             with self.subTest(text=text, path=path):
-                with self.assertRaises(SonicError) as it:
+                with self.assertRaises(DocumentError) as it:
                     sonic.get(text, path)
                 error = it.exception
                 self.assertIs(type(error), kind)
@@ -94,9 +94,28 @@ class Errors(unittest.TestCase):
                 self.assertEqual((type(again), str(again)), (kind, str(error)))
 
     def test_bases(self):
-        self.assertTrue(issubclass(SonicError, ValueError))
-        self.assertTrue(issubclass(NotFound, LookupError))
-        self.assertTrue(issubclass(WrongType, TypeError))
+        for kind, *bases in (
+            (SonicError, ValueError),
+            (DocumentError, SonicError),
+            (BrokenText, DocumentError),
+            (NotFound, DocumentError, LookupError),
+            (WrongType, SonicError, TypeError),
+            (Mismatch, DocumentError, WrongType),
+            (sonic.NotInteger, SonicError),
+            (PathError, ValueError),
+        ):
+            self.assertTrue(all(issubclass(kind, base) for base in bases), kind)
+
+    def test_what_was_found(self):
+        for text, path, found in (
+            ("null", [0], Type.NULL),
+            ('{"a": "b"}', ["a", "c"], Type.STRING),
+            ("[[1]]", [0, "a"], Type.ARRAY),
+        ):
+            with self.assertRaises(WrongType) as it:
+                sonic.get(text, path)
+            self.assertIs(it.exception.found, found)
+            self.assertIs(pickle.loads(pickle.dumps(it.exception)).found, found)
 
     def test_documents(self):
         for text, code, column, is_cut in (

@@ -1,5 +1,5 @@
 //! Why there is no answer.
-use crate::raw;
+use crate::{raw, Type};
 use std::fmt;
 
 /// Why there is no answer.
@@ -10,6 +10,10 @@ pub enum Error {
     Document(Fault),
     /// A path is none, or doesn't go with those before it: its index among the paths that were given.
     BadPath(usize),
+    /// The value is of another type than the call asks for: its type.
+    WrongType(Type),
+    /// The number is no integer, or none in the range of the call.
+    NotInteger,
     /// Memory ran out.
     NoMemory,
 }
@@ -131,6 +135,13 @@ impl fmt::Display for Error {
                 f,
                 "the path of index {index} is none, or doesn't go with those before it"
             ),
+            Error::WrongType(found) => {
+                write!(
+                    f,
+                    "the value is of the type {found}, which wasn't asked for"
+                )
+            }
+            Error::NotInteger => f.write_str("the number is no integer in the range of the call"),
             Error::NoMemory => f.write_str("out of memory"),
         }
     }

@@ -2,13 +2,17 @@
 #![warn(missing_docs)]
 
 mod error;
+mod items;
 mod path;
 mod raw;
 mod text;
+mod value;
 
 pub use error::{Category, Code, Error, Fault};
+pub use items::{elements, members, Elements, Members};
 pub use path::{Node, Path, Paths};
 pub use text::Text;
+pub use value::{as_i64, as_str, as_u64, count, type_of, Type};
 
 use error::judge;
 

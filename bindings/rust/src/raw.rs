@@ -16,52 +16,102 @@ pub(crate) struct Fault {
     pub offset: usize,
 }
 
+#[repr(C)]
+#[derive(Clone, Copy, Debug, Default)]
+pub(crate) struct Items {
+    pub place: usize,
+    pub state: u32,
+}
+
+#[repr(C)]
+#[derive(Default)]
+pub(crate) struct Item {
+    pub key: Span,
+    pub value: Span,
+}
+
 pub(crate) const OK: u32 = 0;
 pub(crate) const DOCUMENT_ERROR: u32 = 1;
 pub(crate) const BAD_LINES: u32 = 3;
 pub(crate) const NO_MEMORY: u32 = 7;
+pub(crate) const WRONG_TYPE: u32 = 8;
+pub(crate) const NO_INTEGER: u32 = 9;
+pub(crate) const END: u32 = 10;
 
-/// What the two calls for one path take.
-pub(crate) type Get =
-    unsafe extern "C" fn(*const u8, usize, *const u8, usize, *mut Span, *mut Fault) -> u32;
-/// What the two calls for many paths take.
-pub(crate) type GetMany =
-    unsafe extern "C" fn(*const u8, usize, *const u8, usize, *mut Span, usize, *mut Fault) -> u32;
+/// Two calls that take the same, after a name for the type of both.
+macro_rules! pairs {
+    ($($(#[$doc:meta])* $kind:ident: $checked:ident, $unchecked:ident $arguments:tt;)*) => {$(
+        $(#[$doc])*
+        pub(crate) type $kind = unsafe extern "C" fn $arguments -> u32;
+        extern "C" {
+            pub(crate) fn $checked $arguments -> u32;
+            pub(crate) fn $unchecked $arguments -> u32;
+        }
+    )*};
+}
+
+pairs! {
+    /// What the two calls for one path take.
+    Get: sonic_get, sonic_get_unchecked(
+        json: *const u8,
+        json_length: usize,
+        path: *const u8,
+        path_length: usize,
+        span: *mut Span,
+        error: *mut Fault,
+    );
+    /// What the two calls for many paths take.
+    GetMany: sonic_get_many, sonic_get_many_unchecked(
+        json: *const u8,
+        json_length: usize,
+        paths: *const u8,
+        paths_length: usize,
+        spans: *mut Span,
+        span_count: usize,
+        error: *mut Fault,
+    );
+}
+
+/// What a call takes that tells one thing of a value.
+pub(crate) type Tell<V> = unsafe extern "C" fn(*const u8, usize, *mut V, *mut Fault) -> u32;
+
+/// Calls that tell one thing of a value.
+macro_rules! tells {
+    ($($name:ident($told:ident: $kind:ty);)*) => {
+        extern "C" {
+            $(pub(crate) fn $name(
+                json: *const u8,
+                json_length: usize,
+                $told: *mut $kind,
+                error: *mut Fault,
+            ) -> u32;)*
+        }
+    };
+}
+
+tells! {
+    sonic_type(kind: u32);
+    sonic_u64(value: u64);
+    sonic_i64(value: i64);
+    sonic_count(count: usize);
+    sonic_items_begin(items: Items);
+}
 
 extern "C" {
     pub(crate) fn sonic_validate(json: *const u8, json_length: usize, error: *mut Fault) -> u32;
-    pub(crate) fn sonic_get(
+    pub(crate) fn sonic_string_text(
         json: *const u8,
         json_length: usize,
-        path: *const u8,
-        path_length: usize,
-        span: *mut Span,
+        room: *mut u8,
+        room_length: usize,
+        wanted: *mut usize,
         error: *mut Fault,
     ) -> u32;
-    pub(crate) fn sonic_get_unchecked(
+    pub(crate) fn sonic_items_next(
         json: *const u8,
         json_length: usize,
-        path: *const u8,
-        path_length: usize,
-        span: *mut Span,
-        error: *mut Fault,
-    ) -> u32;
-    pub(crate) fn sonic_get_many(
-        json: *const u8,
-        json_length: usize,
-        paths: *const u8,
-        paths_length: usize,
-        spans: *mut Span,
-        span_count: usize,
-        error: *mut Fault,
-    ) -> u32;
-    pub(crate) fn sonic_get_many_unchecked(
-        json: *const u8,
-        json_length: usize,
-        paths: *const u8,
-        paths_length: usize,
-        spans: *mut Span,
-        span_count: usize,
+        items: *mut Items,
+        item: *mut Item,
         error: *mut Fault,
     ) -> u32;
     pub(crate) fn sonic_code_text(code: u32, room: *mut u8, room_length: usize) -> usize;

@@ -14,7 +14,7 @@ mod sealed {
 /// of bytes they are bytes.
 pub trait Text: sealed::Sealed {
     /// What a part of it is.
-    type Part: ?Sized;
+    type Part: Text<Part = Self::Part> + ?Sized;
     /// Its bytes.
     fn bytes(&self) -> &[u8];
     /// The part of it between two of its places, which are no places inside a char.

@@ -1,5 +1,5 @@
 //! What the crate does with each kind of text, path and error. Expected values are worked out by hand.
-use sonic::{get, get_many, path, validate, Category, Code, Error, Fault, Path, Paths};
+use sonic::{get, get_many, path, validate, Category, Code, Error, Fault, Path, Paths, Type};
 
 const BODY: &str = r#"{"iss": "https://id.example", "name": "Zoë", "roles": ["reader", "editor"]}"#;
 
@@ -190,6 +190,26 @@ fn the_header_says_the_same() {
             .map(|(name, code)| (*name, code.0))
             .collect::<Vec<_>>()
     );
+    let has = |name: &str, number: u32| {
+        let line = format!("SONIC_{name} = {number}");
+        header
+            .lines()
+            .any(|it| it.trim().trim_end_matches(',') == line)
+    };
+    for (number, it) in (0..).zip(Type::ALL) {
+        assert!(has(&it.to_string().to_uppercase(), number), "{it}");
+    }
+    let statuses: Vec<(&str, u32)> = include_str!("../src/raw.rs")
+        .lines()
+        .filter_map(|line| {
+            line.strip_prefix("pub(crate) const ")?
+                .trim_end_matches(';')
+                .split_once(": u32 = ")
+        })
+        .map(|(name, number)| (name, number.parse().unwrap()))
+        .collect();
+    assert_eq!(statuses.len(), 7);
+    assert!(statuses.iter().all(|&(name, number)| has(name, number)));
     let version = format!("#define SONIC_VERSION \"{}\"", env!("CARGO_PKG_VERSION"));
     assert!(header.lines().any(|line| line == version));
 }

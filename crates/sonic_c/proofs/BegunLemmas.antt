@@ -23,8 +23,8 @@ use Rattle.sonic_text.proofs.Numbers.{number_begins}
 use Rattle.sonic_text.proofs.Values.{first_letter}
 use Rattle.sonic_text.specs.Trees.Tree.{container}
 use Rattle.sonic_text.specs.Trees.{Items}
-use Rattle.sonic_c.specs.Begun.{BeginsWith, first_byte, IsNotBegun, no_value, other_type, IsRefused, not_begun, invalid}
-use Rattle.sonic_c.specs.Internal.Begun.{HasBegun, Misses, begins_none, begins_other, Refuses, misses, is_invalid, TellsRefusal, IsRest}
+use Rattle.sonic_c.specs.Begun.{BeginsWith, first_byte, IsNotBegun, no_value, other_type, IsTextRefused, not_begun, invalid}
+use Rattle.sonic_c.specs.Internal.Begun.{HasBegun, Misses, begins_none, begins_other, RefusesText, misses, is_invalid, TellsRefusal, IsTrailing}
 use Rattle.sonic_c.specs.declared.begun.Expected.{Expected}
 use Rattle.sonic_c.specs.declared.begun.Expected.TheVariants.{Numeral, Text}
 use Rattle.sonic_c.specs.declared.begun.Refusal.{Refusal}
@@ -64,8 +64,8 @@ not_begun_told refusal (begins_none none is) told = let x = rw is at told in no_
 not_begun_told refusal (begins_other kind begins other is) told = let x = rw is at told in other_type kind begins other x.0 x.1
 
 -- and so is why it is refused
-pub refusal_told : {expected : Expected} {t : List ℕ} {before after : Fault} {status : ℕ} (refusal : Refusal) → Refuses expected t refusal
-    → TellsRefusal t refusal before after status → IsRefused expected t before after status
+pub refusal_told : {expected : Expected} {t : List ℕ} {before after : Fault} {status : ℕ} (refusal : Refusal) → RefusesText expected t refusal
+    → TellsRefusal t refusal before after status → IsTextRefused expected t before after status
 refusal_told refusal (misses x) told = not_begun (not_begun_told refusal x told)
 refusal_told refusal (is_invalid s begun bad is) told = let x = rw is at told in invalid begun.0 s begun.1 begun.2 bad x.0 x.1
 
@@ -88,7 +88,7 @@ pub string_begins : (t : List ℕ) (i : ℕ) → HasBegun Text t → i ≡ after
 string_begins t i begun place = let begins : BeginsWith String (first_byte t) = rw begun.2 at begun.1 in rw place begins
 
 -- a text with such a fault is refused
-pub fault_refused : {expected : Expected} {t : List ℕ} {s : Stop} → HasBegun expected t → IsRootFault t s → Refuses expected t (At s)
+pub fault_refused : {expected : Expected} {t : List ℕ} {s : Stop} → HasBegun expected t → IsRootFault t s → RefusesText expected t (At s)
 fault_refused {s = s} begun f = is_invalid s begun (no_root f) refl
 
 -- the value that ends at j begins the text
@@ -96,12 +96,12 @@ pub whole_at : {t : List ℕ} {i j : ℕ} → i ≡ after_space t 0 → IsValue 
 whole_at place x = rw place at x
 
 -- where something follows it, the text is refused
-pub rest_refused : {expected : Expected} {t : List ℕ} {j : ℕ} {s : Stop} → HasBegun expected t → IsWhole t j → IsRest t j s → Refuses expected t (At s)
+pub rest_refused : {expected : Expected} {t : List ℕ} {j : ℕ} {s : Stop} → HasBegun expected t → IsWhole t j → IsTrailing t j s → RefusesText expected t (At s)
 rest_refused {j = j} {s} begun x f = is_invalid s begun (text_after (record { end = j; root = x; place = refl }) f.0 f.1) refl
 
 -- and where it is no UTF-8
 pub broken_refused : {expected : Expected} {t : List ℕ} {j : ℕ} {s : Stop} → HasBegun expected t → IsWhole t j → after_space t j ≡ length t
-    → ¬ IsUtf8 (take (length t) t) → s ≡ record { place = valid_up_to (take (length t) t); code = InvalidUTF8 } → Refuses expected t (At s)
+    → ¬ IsUtf8 (take (length t) t) → s ≡ record { place = valid_up_to (take (length t) t); code = InvalidUTF8 } → RefusesText expected t (At s)
 broken_refused {j = j} {s} begun x rest n e = is_invalid s begun (reason_broken (record { end = j; root = x; place = rest }) refl n e) refl
 
 -- else it is the value alone

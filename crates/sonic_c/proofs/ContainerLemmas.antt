@@ -27,9 +27,9 @@ use Rattle.sonic_text.specs.declared.kind.Kind.{Kind}
 use Rattle.sonic_text.specs.declared.kind.Kind.TheVariants.{Array, Object}
 use Rattle.sonic_text.specs.declared.stop.Stop.{Stop}
 use Rattle.sonic_c.specs.Begun.{BeginsWith, IsExpected, invalid}
-use Rattle.sonic_c.specs.Containers.{IsHeadAt, no_key, a_key, IsItem, HasItems, no_items, last_item, HasPassed, none_passed, some_passed, state_number, HasTold, OfEach, IsNextCall, all_told, item_fails, IsContainerAlone, IsCountCall, count_told as counted, count_refused, count_unknown}
-use Rattle.sonic_c.specs.Internal.Begun.{HasBegun, IsRest}
-use Rattle.sonic_c.specs.Internal.Items.{Closes, closes, goes_past, TellsCount}
+use Rattle.sonic_c.specs.Containers.{IsHeadAt, no_key, a_key, IsNthItem, HasItemCount, no_items, last_item, HasPassed, none_passed, some_passed, state_number, HasTold, OfEach, IsNextCall, all_told, item_fails, IsContainerAlone, IsCountCall, count_told as counted, count_refused, count_unknown}
+use Rattle.sonic_c.specs.Internal.Begun.{HasBegun, IsTrailing}
+use Rattle.sonic_c.specs.Internal.Items.{TellsClosing, closes, goes_past, TellsCount}
 use Rattle.sonic_c.specs.Values.{ValueCells}
 use Rattle.sonic_c.specs.declared.fault.Fault.{Fault}
 use Rattle.sonic_c.specs.declared.begun.Expected.TheVariants.{Container}
@@ -75,7 +75,7 @@ reach_first {t} {kind} {h = h} one (none_passed e f is b) y = rw e (rw is at y)
 reach_first one (some_passed m item x e f q) y = absurd cc
 
 -- an empty container has none
-pub closed_first : {t : List ℕ} {kind : Kind} {n p e : ℕ} {first : Bool} → first ≡ true → HasPassed t kind n first p → IsEnd t kind (p + 1) e → HasItems t n e
+pub closed_first : {t : List ℕ} {kind : Kind} {n p e : ℕ} {first : Bool} → first ≡ true → HasPassed t kind n first p → IsEnd t kind (p + 1) e → HasItemCount t n e
 closed_first {t} {kind} one (none_passed none f is b) y = no_items kind none (rw is at b) (rw is at y)
 closed_first one (some_passed m item x e f q) y = absurd cc
 
@@ -88,7 +88,7 @@ reach_next {t} {h = h} other (some_passed m item x e f q) y =
     next_item x.before (head_of x.found.head).1 x.found.value z.0 z.1 e
 
 -- after the closing bracket none is
-pub closed_next : {t : List ℕ} {kind : Kind} {n p j : ℕ} {first : Bool} → first ≡ false → HasPassed t kind n first p → IsEnd t kind p j → HasItems t n j
+pub closed_next : {t : List ℕ} {kind : Kind} {n p j : ℕ} {first : Bool} → first ≡ false → HasPassed t kind n first p → IsEnd t kind p j → HasItemCount t n j
 closed_next other (none_passed e f is b) y = absurd cc
 closed_next {t} {kind} {j = j} other (some_passed m item x e f q) y = let z : IsEnd t kind item.value.end j = rw q at y in last_item kind m item x e z
 
@@ -101,7 +101,7 @@ stopped_next {t} {kind} {s = s} other (some_passed m item x e f q) y =
     after_item x.before (head_of x.found.head).1 x.found.value z.0 z.1
 
 -- the item that was passed is the last one
-pub passed_item : {t : List ℕ} {kind : Kind} {n p : ℕ} {item : Item} → IsItem t kind n item → p ≡ item.value.end → HasPassed t kind (n + 1) false p
+pub passed_item : {t : List ℕ} {kind : Kind} {n p : ℕ} {item : Item} → IsNthItem t kind n item → p ≡ item.value.end → HasPassed t kind (n + 1) false p
 passed_item {t} {n = n} {item = item} x e = some_passed n item x refl refl (ap (after_space t) e)
 
 -- what was passed up to a place was passed up to after white space
@@ -118,12 +118,12 @@ passed_within {t} {p = p} (some_passed m item x e f q) =
     omega (arith, after_space_later t p, q, after_space_within t item.value.end (value_within x.found.value))
 
 -- a container with all its items is a value
-pub items_whole : {t : List ℕ} {n e : ℕ} → HasItems t n e → IsWhole t e
+pub items_whole : {t : List ℕ} {n e : ℕ} → HasItemCount t n e → IsWhole t e
 items_whole (no_items kind none b x) = empty kind b x.0 x.1
 items_whole (last_item kind m item is e x) = filled is.before (head_of is.found.head).1 is.found.value x.0 x.1
 
 -- what follows it is why the text is none
-pub past_items : {t : List ℕ} {n e : ℕ} {s : Stop} → HasItems t n e → IsRest t e s → (is_bytes : Bool) → IsInvalid t is_bytes s
+pub past_items : {t : List ℕ} {n e : ℕ} {s : Stop} → HasItemCount t n e → IsTrailing t e s → (is_bytes : Bool) → IsInvalid t is_bytes s
 past_items {t} {e = e} x f is_bytes = text_after (record { end = e; root = items_whole x; place = refl }) f.0 f.1
 
 -- of what kind a state is, and whether it is that before the first item
@@ -176,8 +176,8 @@ first_bracket one (some_passed m item x e f q) = absurd cc
 
 -- the item that was told is the one after which the cursor is
 pub told_item : {t : List ℕ} {kind k : Kind} {n : ℕ} {first : Bool} {items : Items} {item : Item} {state : ℕ} → items.state ≡ state_number kind first
-    → HasTold t k n items → (HasPassed t kind n first (after_space t items.place) → IsItem t kind n item) → state ≡ state_number kind false
-    → IsItem t k n item × HasTold t k (n + 1) (record { place = item.value.end; state = state })
+    → HasTold t k n items → (HasPassed t kind n first (after_space t items.place) → IsNthItem t kind n item) → state ≡ state_number kind false
+    → IsNthItem t k n item × HasTold t k (n + 1) (record { place = item.value.end; state = state })
 told_item {t} {kind} {k} {n} {item = item} {state} is x passes next =
     let r = resumed is x in
     let here = passes r.1 in
@@ -189,8 +189,8 @@ bracket_begun kind b begins (inl e) other = rw e at begins
 bracket_begun kind b begins (inr e) other = let is : b ≡ 123 = rw e at begins in absurd (other is)
 
 -- how a cursor ends is told
-pub closed_told : {t : List ℕ} {e : ℕ} {items : Items} {item : Item} {before after : Fault} {status : ℕ} → OfEach t items (λ kind n. HasItems t n e)
-    → Closes t e before after status
+pub closed_told : {t : List ℕ} {e : ℕ} {items : Items} {item : Item} {before after : Fault} {status : ℕ} → OfEach t items (λ kind n. HasItemCount t n e)
+    → TellsClosing t e before after status
     → IsNextCall t (record { items = items; item = item; error = before }) (record { items = record items { state = 0 }; item = item; error = after }) status
 closed_told {e = e} has (closes rest is same) = all_told (λ kind n x. record { end = e; items = has kind n x; after = rest }) is (rw same refl)
 closed_told has (goes_past s f is numbers) = item_fails s (λ kind n x. past_items (has kind n x) f) is numbers refl refl

@@ -11,7 +11,7 @@ use Rattle.sonic_paths.specs.Lines.{IsNodeLine}
 use Rattle.sonic_paths.proofs.LineNodes.{node_line_one}
 use Rattle.sonic_c.specs.Internal.Numbers.{numbers_of}
 use Rattle.sonic_c.specs.Told.{AreNumbersOf, TellsRefused, Cells, IsGetCall}
-use Rattle.sonic_c.specs.Internal.Told.{Tells, TellsError, no_memory, told}
+use Rattle.sonic_c.specs.Internal.Told.{TellsSlot, TellsError, no_memory, told}
 use Rattle.sonic_c.specs.declared.fault.Fault.{Fault}
 use Rattle.sonic_c.specs.Statuses.{status_ok, status_document_error, status_bad_lines}
 
@@ -34,7 +34,7 @@ may_want (Err e) x = record { ok = tt; err = refused x.err; complete = λ can. l
 -- no line says two paths
 module _ {t line : List ℕ} {path : Path} {before after : Cells} {status : ℕ} (says : IsNodeLine line path) where
   -- what is told of a look-up of the path that a line says is what a call for the line comes to
-  pub call_told : (found : Result Slot Error) → IsFinding t true path found → Tells found before after status → IsGetCall t line before after status
+  pub call_told : (found : Result Slot Error) → IsFinding t true path found → TellsSlot found before after status → IsGetCall t line before after status
   call_told (Ok found) x (is, span, same) = record {
     ok = λ e. (path, says, rw span x.ok);
     document_error = λ e. absurd cc;
@@ -66,7 +66,7 @@ module _ {t line : List ℕ} {path : Path} {before after : Cells} {status : ℕ}
       not_bad (told other is numbers) z = absurd cc
 
   -- so it is of a look-up without memory
-  pub sure_call_told : (found : Result Slot Error) → IsSureFinding t true path found → Tells found before after status → IsGetCall t line before after status
+  pub sure_call_told : (found : Result Slot Error) → IsSureFinding t true path found → TellsSlot found before after status → IsGetCall t line before after status
   sure_call_told found x tells = call_told found (may_want found x) tells
 
 -- a line that says no path is told so, and nothing else

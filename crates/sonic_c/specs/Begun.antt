@@ -46,7 +46,7 @@ pub data IsNotBegun (expected : Expected) (t : List ℕ) (before after : Fault) 
   other_type : (kind : JsonType) → Begins t kind → ¬ IsExpected expected kind → status ≡ status_wrong_type → after ≡ before → IsNotBegun expected t before after status
 
 -- a text is refused: no value of an expected type begins it, or one does that is not the whole text, in UTF-8, but for white space round it
-pub data IsRefused (expected : Expected) (t : List ℕ) (before after : Fault) (status : ℕ) : Type 0 where
-  not_begun : IsNotBegun expected t before after status → IsRefused expected t before after status
+pub data IsTextRefused (expected : Expected) (t : List ℕ) (before after : Fault) (status : ℕ) : Type 0 where
+  not_begun : IsNotBegun expected t before after status → IsTextRefused expected t before after status
   invalid : (kind : JsonType) (s : Stop) → Begins t kind → IsExpected expected kind → IsInvalid t true s → status ≡ status_document_error → AreNumbersOf t s after
-      → IsRefused expected t before after status
+      → IsTextRefused expected t before after status

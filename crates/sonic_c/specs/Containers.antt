@@ -12,7 +12,7 @@ use Rattle.sonic_text.specs.Values.{opening, IsKey, IsValue, ItemsFit}
 use Rattle.sonic_text.specs.declared.kind.Kind.{Kind}
 use Rattle.sonic_text.specs.declared.kind.Kind.TheVariants.{Array, Object}
 use Rattle.sonic_text.specs.declared.stop.Stop.{Stop}
-use Rattle.sonic_c.specs.Begun.{Begins, IsExpected, IsNotBegun, IsRefused}
+use Rattle.sonic_c.specs.Begun.{Begins, IsExpected, IsNotBegun, IsTextRefused}
 use Rattle.sonic_c.specs.Statuses.{status_ok, status_document_error, status_no_memory, status_end}
 use Rattle.sonic_c.specs.Told.{AreNumbersOf}
 use Rattle.sonic_c.specs.Values.{ValueCells}
@@ -28,38 +28,38 @@ pub data IsHeadAt (t : List ℕ) : Kind → ℕ → ℕ → Span → Type 0 wher
   a_key : {h v : ℕ} {key : Span} {b : List ℕ} → key.start ≡ h → IsString strict t h key.end b → IsKey strict t h v b → IsHeadAt t Object h v key
 
 -- this is the item that is expected at h
-pub record IsItemAt (t : List ℕ) (kind : Kind) (h : ℕ) (item : Item) : Type 0 where
+pub record IsExpectedItem (t : List ℕ) (kind : Kind) (h : ℕ) (item : Item) : Type 0 where
   pub head : IsHeadAt t kind h item.value.start item.key
   pub value : IsValue strict t item.value.start item.value.end
 
 -- it comes after n others of the container of this kind that begins the text
-pub record IsItem (t : List ℕ) (kind : Kind) (n : ℕ) (item : Item) : Type 0 where
+pub record IsNthItem (t : List ℕ) (kind : Kind) (n : ℕ) (item : Item) : Type 0 where
   pub place : ℕ
   pub before : ItemsFit strict t kind (after_space t 0) n place
-  pub found : IsItemAt t kind place item
+  pub found : IsExpectedItem t kind place item
 
 -- the container that begins the text has n items, and ends at e
-pub data HasItems (t : List ℕ) (n e : ℕ) : Type 0 where
-  no_items : (kind : Kind) → n ≡ 0 → byte t (after_space t 0) ≡ opening kind → IsEnd t kind (after_space t 0 + 1) e → HasItems t n e
-  last_item : (kind : Kind) (m : ℕ) (item : Item) → IsItem t kind m item → n ≡ m + 1 → IsEnd t kind item.value.end e → HasItems t n e
+pub data HasItemCount (t : List ℕ) (n e : ℕ) : Type 0 where
+  no_items : (kind : Kind) → n ≡ 0 → byte t (after_space t 0) ≡ opening kind → IsEnd t kind (after_space t 0 + 1) e → HasItemCount t n e
+  last_item : (kind : Kind) (m : ℕ) (item : Item) → IsNthItem t kind m item → n ≡ m + 1 → IsEnd t kind item.value.end e → HasItemCount t n e
 
 -- the text is a container of n items with nothing but white space round it
 pub record IsContainerAlone (t : List ℕ) (n : ℕ) : Type 0 where
   pub end : ℕ
-  pub items : HasItems t n end
+  pub items : HasItemCount t n end
   pub after : after_space t end ≡ length t
 
 -- what a call for the number of items comes to, with these cells before and after it
 pub data IsCountCall (t : List ℕ) (before after : ValueCells ℕ) (status : ℕ) : Type 0 where
   count_told : (n : ℕ) → IsContainerAlone t n → IsUtf8 t → status ≡ status_ok → after ≡ record before { value = n } → IsCountCall t before after status
-  count_refused : IsRefused Container t before.error after.error status → after.value ≡ before.value → IsCountCall t before after status
+  count_refused : IsTextRefused Container t before.error after.error status → after.value ≡ before.value → IsCountCall t before after status
   count_unknown : status ≡ status_no_memory → after ≡ before → IsCountCall t before after status
 
 -- n items of the container of this kind that begins the text were passed up to p: none, and p is its bracket, or the last of them ends there, but for
 -- white space
 pub data HasPassed (t : List ℕ) (kind : Kind) (n : ℕ) (is_first : Bool) (p : ℕ) : Type 0 where
   none_passed : n ≡ 0 → is_first ≡ true → p ≡ after_space t 0 → byte t p ≡ opening kind → HasPassed t kind n is_first p
-  some_passed : (m : ℕ) (item : Item) → IsItem t kind m item → n ≡ m + 1 → is_first ≡ false → after_space t p ≡ after_space t item.value.end
+  some_passed : (m : ℕ) (item : Item) → IsNthItem t kind m item → n ≡ m + 1 → is_first ≡ false → after_space t p ≡ after_space t item.value.end
       → HasPassed t kind n is_first p
 
 -- the state of a cursor that expects the first item of a container of this kind, or another one; any other number is that of one that has ended
@@ -103,7 +103,7 @@ OfEach t items Says = (kind : Kind) (n : ℕ) → HasTold t kind n items → Say
 
 -- what a call for the next item comes to, with these cells before and after it
 pub data IsNextCall (t : List ℕ) (before after : ItemCells) (status : ℕ) : Type 0 where
-  item_told : OfEach t before.items (λ kind n. IsItem t kind n after.item × HasTold t kind (n + 1) after.items) → status ≡ status_ok
+  item_told : OfEach t before.items (λ kind n. IsNthItem t kind n after.item × HasTold t kind (n + 1) after.items) → status ≡ status_ok
       → after.error ≡ before.error → IsNextCall t before after status
   all_told : OfEach t before.items (λ kind n. IsContainerAlone t n) → status ≡ status_end → after ≡ record before { items = record before.items { state = 0 } }
       → IsNextCall t before after status

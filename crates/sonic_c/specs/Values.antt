@@ -10,7 +10,7 @@ use Rattle.sonic_text.specs.Faults.{BeginsNone}
 use Rattle.sonic_text.specs.Numbers.{IsNumber, IsWholeText}
 use Rattle.sonic_text.specs.Places.{byte}
 use Rattle.sonic_text.specs.Strings.{strict, IsString, IsEscapedString}
-use Rattle.sonic_c.specs.Begun.{first_byte, Begins, no_begin, IsRefused}
+use Rattle.sonic_c.specs.Begun.{first_byte, Begins, no_begin, IsTextRefused}
 use Rattle.sonic_c.specs.Codes.{placed}
 use Rattle.sonic_c.specs.Statuses.{status_ok, status_document_error, status_no_memory, status_no_integer}
 use Rattle.sonic_c.specs.Told.{AreNumbersOf}
@@ -37,27 +37,27 @@ pub record IsNumberAlone (t b : List ℕ) : Type 0 where
   pub bytes : b ≡ slice_range t start end
 
 -- a number of these bytes is an integer without a sign that 64 bits hold
-abbrev pub IsU64 : List ℕ → Type 0
-IsU64 b = IsWholeText b × (byte b 0 ≢ 45) × (digits_value 10 b < 2 ^ 64)
+abbrev pub IsUnsignedInteger : List ℕ → Type 0
+IsUnsignedInteger b = IsWholeText b × (byte b 0 ≢ 45) × (digits_value 10 b < 2 ^ 64)
 
 -- and one that they hold with a sign
-abbrev pub IsI64 : List ℕ → Type 0
-IsI64 b = IsWholeText b × FitsSigned w64 (signed_digits_value 10 b)
+abbrev pub IsSignedInteger : List ℕ → Type 0
+IsSignedInteger b = IsWholeText b × FitsSigned w64 (signed_digits_value 10 b)
 
 -- what a call for the integer that a number is comes to, with these cells before and after it, where these integers are asked for
 pub data IsIntegerCall {A : Type 0} (Is : List ℕ → Type 0) (value_of : List ℕ → A) (t : List ℕ) (before after : ValueCells A) (status : ℕ) : Type 0 where
   integer_told : (b : List ℕ) → IsNumberAlone t b → Is b → status ≡ status_ok → after ≡ record before { value = value_of b }
       → IsIntegerCall Is value_of t before after status
   no_integer : (b : List ℕ) → IsNumberAlone t b → ¬ Is b → status ≡ status_no_integer → after ≡ before → IsIntegerCall Is value_of t before after status
-  number_refused : IsRefused Numeral t before.error after.error status → after.value ≡ before.value → IsIntegerCall Is value_of t before after status
+  number_refused : IsTextRefused Numeral t before.error after.error status → after.value ≡ before.value → IsIntegerCall Is value_of t before after status
 
 -- of one without a sign
 abbrev pub IsU64Call : List ℕ → ValueCells ℕ → ValueCells ℕ → ℕ → Type 0
-IsU64Call t before after status = IsIntegerCall IsU64 (digits_value 10) t before after status
+IsU64Call t before after status = IsIntegerCall IsUnsignedInteger (digits_value 10) t before after status
 
 -- and of one with a sign
 abbrev pub IsI64Call : List ℕ → ValueCells ℤ → ValueCells ℤ → ℕ → Type 0
-IsI64Call t before after status = IsIntegerCall IsI64 (signed_digits_value 10) t before after status
+IsI64Call t before after status = IsIntegerCall IsSignedInteger (signed_digits_value 10) t before after status
 
 -- the text is a string that denotes these bytes, in UTF-8, with nothing but white space round it
 pub record IsStringAlone (t b : List ℕ) : Type 0 where
@@ -78,4 +78,4 @@ pub data IsStringCall (t : List ℕ) (before after : TextCells) (status : ℕ) :
   text_told : (b : List ℕ) → IsStringAlone t b → status ≡ status_ok → after ≡ record before { room = placed b before.room; wanted = length b }
       → IsStringCall t before after status
   text_unknown : (i j : ℕ) → IsAlone t i j → IsEscapedString t i j → status ≡ status_no_memory → after ≡ before → IsStringCall t before after status
-  string_refused : IsRefused Text t before.error after.error status → after.room ≡ before.room → after.wanted ≡ before.wanted → IsStringCall t before after status
+  string_refused : IsTextRefused Text t before.error after.error status → after.room ≡ before.room → after.wanted ≡ before.wanted → IsStringCall t before after status

@@ -5,7 +5,7 @@ ghost use Rattle.sonic_text.specs.Places.{byte, after_space};
 ghost use Rattle.sonic_text.specs.Values.{opening, type_of};
 ghost use Rattle.sonic_c.specs.declared.begun.Expected.TheVariants.{Container};
 ghost use Rattle.sonic_c.specs.Begun.{BeginsWith, first_byte, Begins, no_begin, IsExpected};
-ghost use Rattle.sonic_c.specs.Internal.Begun.{HasBegun, Misses, TellsRefusal, IsStopIn, IsRest};
+ghost use Rattle.sonic_c.specs.Internal.Begun.{HasBegun, Misses, TellsRefusal, IsStopIn, IsTrailing};
 
 use crate::fault::{Fault, tell_stop};
 use crate::status::WRONG_TYPE;
@@ -101,7 +101,7 @@ pub(crate) fn expect(text: &[u8], expected: Expected) -> Result<usize, Refusal>
     Ok(start)
 }
 
-// Tells why a text is refused, and gives the status.
+// TellsSlot why a text is refused, and gives the status.
 pub(crate) fn refuse(told: &mut Fault, text: &[u8], refusal: Refusal) -> u32
     requires { IsStopIn text.now refusal }
     ensures { TellsRefusal text.now refusal told.old told.new result }
@@ -116,7 +116,7 @@ pub(crate) fn refuse(told: &mut Fault, text: &[u8], refusal: Refusal) -> u32
 pub(crate) fn pass_rest(text: &[u8], end: usize) -> Result<(), Stop>
     requires { end ≤ length text.now }
     ensures ok { OnOk result (after_space text.now end ≡ length text.now) }
-    ensures err { IfErr result (IsRest text.now end) }
+    ensures err { IfErr result (IsTrailing text.now end) }
     ensures stop { IfErr result (λ s. s.place ≤ length text.now) }
 {
     let place = skip_space(text, end);

@@ -6,7 +6,7 @@ ghost use Rattle.sonic_text.specs.Documents.{IsRootFault};
 ghost use Rattle.sonic_text.specs.Places.{byte, after_space};
 ghost use Rattle.sonic_text.specs.Values.{opening};
 ghost use Rattle.sonic_parser.specs.Faults.{IsStopFor};
-ghost use Rattle.sonic_c.specs.Containers.{HasItems, IsContainerAlone, IsCountCall};
+ghost use Rattle.sonic_c.specs.Containers.{HasItemCount, IsContainerAlone, IsCountCall};
 ghost use Rattle.sonic_c.specs.Internal.Begun.{HasBegun};
 ghost use Rattle.sonic_c.specs.Internal.Items.{TellsCount};
 ghost use Rattle.sonic_c.specs.declared.begun.Expected.{Expected};
@@ -44,7 +44,7 @@ pub extern "C" fn sonic_count(
     tell_count(json, found, count, error)
 }
 
-// Tells how many items there are, or the error.
+// TellsSlot how many items there are, or the error.
 fn tell_count(
     text: &[u8],
     found: Result<usize, Fault>,
@@ -87,7 +87,7 @@ fn count_items(steps: &mut Steps<'_>, kind: Kind) -> Result<usize, Fault>
     requires checks { steps.old.checks ≡ true }
     requires start { steps.old.place ≡ after_space steps.old.text 0 }
     requires bracket { byte steps.old.text steps.old.place ≡ opening kind }
-    ensures ok { IfOk result (λ count. HasItems steps.old.text count steps.new.place) }
+    ensures ok { IfOk result (λ count. HasItemCount steps.old.text count steps.new.place) }
     ensures moved { steps.new ≡ record steps.old { place = steps.new.place } }
     ensures err { IfErr result (IsStopFor (IsRootFault steps.old.text)) }
 {

@@ -51,7 +51,7 @@ impl Fault {
     }
 }
 
-// Tells an error of the library, unless memory ran out, and gives the status.
+// TellsSlot an error of the library, unless memory ran out, and gives the status.
 pub(crate) fn tell(told: &mut Fault, error: &Error) -> u32
     ensures { TellsError error.now told.old told.new result }
 {
@@ -62,7 +62,7 @@ pub(crate) fn tell(told: &mut Fault, error: &Error) -> u32
     DOCUMENT_ERROR
 }
 
-// Tells an error of a text that is at a stop, and gives the status.
+// TellsSlot an error of a text that is at a stop, and gives the status.
 pub(crate) fn tell_stop(told: &mut Fault, text: &[u8], stop: Stop) -> u32
     requires { stop.place ≤ length text.now }
     ensures numbers { AreNumbersOf text.now stop told.new }

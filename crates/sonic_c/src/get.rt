@@ -1,7 +1,7 @@
 // What one path finds.
 ghost use Rattle.sonic_text.specs.Documents.{StartsWithUtf8Value};
 ghost use Rattle.sonic_c.specs.Told.{IsGetCall};
-ghost use Rattle.sonic_c.specs.Internal.Told.{Tells};
+ghost use Rattle.sonic_c.specs.Internal.Told.{TellsSlot};
 
 use crate::fault::{Fault, tell};
 use crate::span::Span;
@@ -70,9 +70,9 @@ pub extern "C" fn sonic_get_unchecked(
     }
 }
 
-// Tells what was found, or the error.
+// TellsSlot what was found, or the error.
 fn tell_found(found: Result<sonic_find::Span, Error>, span: &mut Span, error: &mut Fault) -> u32
-    ensures { Tells found (record { span = span.old; error = error.old })
+    ensures { TellsSlot found (record { span = span.old; error = error.old })
         (record { span = span.new; error = error.new }) result }
 {
     match found {

@@ -4,7 +4,7 @@ ghost use Rattle.sonic_text.specs.Places.{byte, after_space};
 ghost use Rattle.sonic_text.specs.Values.{opening};
 ghost use Rattle.sonic_text.specs.declared.kind.Kind.{Kind};
 ghost use Rattle.sonic_c.specs.Containers.{state_number, HasTold, IsBeginCall, IsNextCall};
-ghost use Rattle.sonic_c.specs.Internal.Items.{Closes};
+ghost use Rattle.sonic_c.specs.Internal.Items.{TellsClosing};
 
 use crate::begun::{Expected, expect, kind_begun, pass_rest, refuse};
 use crate::fault::{Fault, tell_stop};
@@ -104,7 +104,7 @@ pub extern "C" fn sonic_items_next(
 // Ends a cursor after the container that ended at a place.
 fn close(text: &[u8], end: usize, items: &mut Items, error: &mut Fault) -> u32
     requires { end ≤ length text.now }
-    ensures tells { Closes text.now end error.old error.new result }
+    ensures tells { TellsClosing text.now end error.old error.new result }
     ensures ended { items.new ≡ record items.old { state = 0 } }
 {
     *items = items.ended();

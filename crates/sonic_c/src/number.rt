@@ -3,7 +3,7 @@ ghost use Rattle.std.specs.Prelude.{◌≡◌, length, IfOk, IfErr};
 ghost use Rattle.std.specs.Str.{IsUtf8};
 ghost use Rattle.sonic_text.specs.Numbers.{IsNumber};
 ghost use Rattle.sonic_c.specs.declared.begun.Expected.{Expected};
-ghost use Rattle.sonic_c.specs.Internal.Begun.{Refuses, IsStopIn};
+ghost use Rattle.sonic_c.specs.Internal.Begun.{RefusesText, IsStopIn};
 ghost use Rattle.sonic_c.specs.Values.{IsNumberAlone, IsU64Call, IsI64Call};
 
 use crate::begun::{Expected, Refusal, expect, pass_rest, refuse};
@@ -57,7 +57,7 @@ pub extern "C" fn sonic_i64(json: &[u8], value: &mut i64, error: &mut Fault) -> 
 fn number_alone(text: &[u8]) -> Result<&str, Refusal>
     ensures ok { IfOk result (λ number. IsNumberAlone text.now number.now) }
     ensures number { IfOk result (λ number. IsNumber number.now 0 (length number.now)) }
-    ensures err { IfErr result (Refuses Expected.Numeral text.now) }
+    ensures err { IfErr result (RefusesText Expected.Numeral text.now) }
     ensures stop { IfErr result (IsStopIn text.now) }
 {
     let start = expect(text, Expected::Numeral)?;

@@ -4,7 +4,7 @@ ghost use Rattle.std.specs.Str.{IsUtf8};
 ghost use Rattle.sonic_find.specs.Documents.{IsAlone};
 ghost use Rattle.sonic_parser.specs.StringSpans.{IsStringSpan, DenotesUtf8};
 ghost use Rattle.sonic_c.specs.declared.begun.Expected.{Expected};
-ghost use Rattle.sonic_c.specs.Internal.Begun.{Refuses, IsStopIn};
+ghost use Rattle.sonic_c.specs.Internal.Begun.{RefusesText, IsStopIn};
 ghost use Rattle.sonic_c.specs.Values.{IsStringCall};
 
 use crate::begun::{Expected, Refusal, expect, pass_rest, refuse};
@@ -51,7 +51,7 @@ fn string_alone(text: &[u8]) -> Result<StringSpan, Refusal>
     ensures string { IfOk result (IsStringSpan text.now) }
     ensures utf8 { OnOk result (IsUtf8 text.now) }
     ensures denotes { IfOk result (λ string. DenotesUtf8 text.now string.start string.end) }
-    ensures err { IfErr result (Refuses Expected.Text text.now) }
+    ensures err { IfErr result (RefusesText Expected.Text text.now) }
     ensures stop { IfErr result (IsStopIn text.now) }
 {
     let start = expect(text, Expected::Text)?;

@@ -7,7 +7,7 @@ ghost use Rattle.sonic_text.specs.Strings.{strict};
 ghost use Rattle.sonic_text.specs.Values.{opening, ItemsFit};
 ghost use Rattle.sonic_text.specs.declared.kind.Kind.{Kind};
 ghost use Rattle.sonic_parser.specs.Faults.{IsStopFor};
-ghost use Rattle.sonic_c.specs.Containers.{IsHeadAt, IsItemAt, IsItem, HasItems, HasPassed};
+ghost use Rattle.sonic_c.specs.Containers.{IsHeadAt, IsExpectedItem, IsNthItem, HasItemCount, HasPassed};
 
 use crate::span::Span;
 use sonic_find::Steps;
@@ -50,12 +50,12 @@ pub(crate) fn pass_item(
     requires checks { steps.old.checks ≡ true }
     requires bracket { first ≡ true → byte steps.old.text steps.old.place ≡ opening kind }
     ensures item { IfOk result (λ found. IfSome found (λ item. (n : ℕ)
-        → HasPassed steps.old.text kind n first steps.old.place → IsItem steps.old.text kind n item)) }
+        → HasPassed steps.old.text kind n first steps.old.place → IsNthItem steps.old.text kind n item)) }
     ensures end { IfOk result (λ found. IfSome found (λ item. item.value.end ≡ steps.new.place)) }
     ensures later { IfOk result (λ found. IfSome found (λ _. steps.old.place < steps.new.place)) }
     ensures fits { IfOk result (λ found. IfSome found (λ _. steps.new.place < 2 ^ 64)) }
     ensures closed { IfOk result (λ found. found ≡ None → (n : ℕ)
-        → HasPassed steps.old.text kind n first steps.old.place → HasItems steps.old.text n steps.new.place) }
+        → HasPassed steps.old.text kind n first steps.old.place → HasItemCount steps.old.text n steps.new.place) }
     ensures moved { steps.new ≡ record steps.old { place = steps.new.place } }
     ensures err { IfErr result (IsStopFor (λ s. (n : ℕ)
         → HasPassed steps.old.text kind n first steps.old.place → IsRootFault steps.old.text s)) }
@@ -77,7 +77,7 @@ fn go_on(steps: &mut Steps<'_>, kind: Kind, first: bool) -> Result<bool, Stop>
         → HasPassed steps.old.text kind n first steps.old.place
         → ItemsFit strict steps.old.text kind (after_space steps.old.text 0) n steps.new.place) }
     ensures closed { IfOk result (λ more. more ≡ false → (n : ℕ)
-        → HasPassed steps.old.text kind n first steps.old.place → HasItems steps.old.text n steps.new.place) }
+        → HasPassed steps.old.text kind n first steps.old.place → HasItemCount steps.old.text n steps.new.place) }
     ensures later { IfOk result (λ more. more ≡ true → steps.old.place < steps.new.place) }
     ensures moved { steps.new ≡ record steps.old { place = steps.new.place } }
     ensures err { IfErr result (λ s. (n : ℕ)
@@ -96,7 +96,7 @@ fn go_on(steps: &mut Steps<'_>, kind: Kind, first: bool) -> Result<bool, Stop>
 // Passes the item that is expected at the cursor.
 fn item_at(steps: &mut Steps<'_>, kind: Kind) -> Result<Item, Fault>
     requires checks { steps.old.checks ≡ true }
-    ensures item { IfOk result (IsItemAt steps.old.text kind steps.old.place) }
+    ensures item { IfOk result (IsExpectedItem steps.old.text kind steps.old.place) }
     ensures end { IfOk result (λ item. item.value.end ≡ steps.new.place) }
     ensures later { OnOk result (steps.old.place < steps.new.place) }
     ensures fits { OnOk result (steps.new.place < 2 ^ 64) }

@@ -8,13 +8,14 @@ mod IntegerLemmas
 mod ItemLemmas
 mod KeptTextLemmas
 mod LeadingLemmas
+pub mod LedPartLemmas
 mod Lent
 mod LentTexts
 mod LevelLemmas
 mod Lists
 mod Loans
-mod MeaningLemmas
-mod MeantPathLemmas
+pub mod MeaningLemmas
+pub mod MeantPathLemmas
 mod OpenedLemmas
 mod OpeningLemmas
 mod OpenLemmas

@@ -68,7 +68,7 @@ label_sound utf8 (no_head e) = refl
 label_sound utf8 (key_head y) = (_, refl, string_utf8 utf8 y.string)
 
 -- and each value is sound in its own text
-span_sound : {t : List ℕ} {i j : ℕ} → IsUtf8 t → IsValue strict t i j → IsSound (raw (slice_range t i j))
+pub span_sound : {t : List ℕ} {i j : ℕ} → IsUtf8 t → IsValue strict t i j → IsSound (raw (slice_range t i j))
 span_sound {t} utf8 x =
     let within = value_within x in
     raw_sound (value_of_part x within) (utf8_of_span (length t) (rw (take_all (length t) t (omega arith)) utf8) x within within)

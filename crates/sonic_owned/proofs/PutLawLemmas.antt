@@ -40,9 +40,9 @@ put_some {path = node ∷ rest} m e =
     ]
 
 -- an item of a sound level is sound, and so is the level with another sound one in its place
-record StaysSound (i : Form) (Put : Form → Type 0) : Type 0 where
-  item : IsSound i
-  put : (j : Form) → IsSound j → Put j
+pub record StaysSound (i : Form) (Put : Form → Type 0) : Type 0 where
+  pub item : IsSound i
+  pub put : (j : Form) → IsSound j → Put j
 
 element_sound : (n : ℕ) {kind : Kind} {ms : Members} {i : Form} → AreSound kind ms → item_at n ms ≡ Some i → StaysSound i (λ j. AreSound kind (put_at n j ms))
 element_sound n none_sound e = absurd (none_not_some e)
@@ -58,7 +58,7 @@ first_sound k (item_sound {l = Some l} label f ms) e = elim (cases_Bool (pointwi
   | inr other ↦ let r = first_sound k ms (rw other at e) in rw other (record { item = r.item; put = λ j s. item_sound label f (r.put j s) })
 ]
 
-item_stays : (node : Node) {o i : Form} → IsSound o → item_in node o ≡ Some i → StaysSound i (λ j. IsSound (put_in node j o))
+pub item_stays : (node : Node) {o i : Form} → IsSound o → item_in node o ≡ Some i → StaysSound i (λ j. IsSound (put_in node j o))
 item_stays node (raw_sound x u) e = absurd (none_not_some e)
 item_stays (index n) (level_sound {kind = Array} ms) e = let r = element_sound n ms e in record { item = r.item; put = λ j s. level_sound (r.put j s) }
 item_stays (index n) (level_sound {kind = Object} ms) e = absurd (none_not_some e)

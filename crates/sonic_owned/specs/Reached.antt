@@ -1,5 +1,5 @@
 -- What a call that changes a part of a value leaves of it.
-use Rattle.std.specs.Prelude.{◌≡◌, ◌<◌, ◌≤◌, [], ◌∷◌, Some, length}
+use Rattle.std.specs.Prelude.{◌≡◌, ◌<◌, ◌≤◌, ◌-◌, ℕ, [], ◌∷◌, Some, length}
 use Rattle.sonic_error.specs.Errors.{IsPlainError}
 use Rattle.sonic_error.specs.declared.code.ErrorCode.TheVariants.{NoMemory, RecursionLimitExceeded}
 use Rattle.sonic_error.specs.declared.error.Error.{Error}
@@ -61,12 +61,20 @@ pub data IsUnreached (path : Path) (e : Error) : Type 0 where
   too_long : 255 < length path → IsPlainError e RecursionLimitExceeded → IsUnreached path e
   out_of_memory : length path ≤ 255 → IsPlainError e NoMemory → IsUnreached path e
 
--- the change needs memory: it adds an item to the form, which is of the kind that it asks for, or removes one of it, which is to be opened
+-- a path leads somewhere in the form
+abbrev pub LeadsSomewhere : Path → Form → Type 0
+LeadsSomewhere path f = (g : Form) × LeadsTo path f g
+
+-- the form is an array with a place at the position: the first, or one behind an element
+abbrev pub HasPlace : ℕ → Form → Type 0
+HasPlace n f = (scalar_of_form f ≡ container Array) × (0 < n → LeadsSomewhere (index (n - 1) ∷ []) f)
+
+-- the change needs memory: it adds an item to the form, which has a place for it, or removes one that the form has, which is to be opened
 abbrev pub ChangeNeedsMemory : Change Form → Form → Type 0
 ChangeNeedsMemory (push w) f = scalar_of_form f ≡ container Array
 ChangeNeedsMemory (pair k w) f = scalar_of_form f ≡ container Object
-ChangeNeedsMemory (insert n w) f = scalar_of_form f ≡ container Array
-ChangeNeedsMemory (remove node) f = IsClosedOf (kind_of node) f
+ChangeNeedsMemory (insert n w) f = HasPlace n f
+ChangeNeedsMemory (remove node) f = IsClosedOf (kind_of node) f × LeadsSomewhere (node ∷ []) f
 ChangeNeedsMemory (set w) f = ⊥
 ChangeNeedsMemory take f = ⊥
 

@@ -1,5 +1,5 @@
 // Edits of a value.
-ghost use Rattle.std.specs.Prelude.{◌≡◌, ◌≤◌, ◌++◌, length, false, IfOk, IfErr, IsTrue, OnErr};
+ghost use Rattle.std.specs.Prelude.{◌≡◌, ◌<◌, ◌≤◌, ◌++◌, length, false, IfOk, IfErr, IsErr, IsTrue, OnErr};
 ghost use Rattle.sonic_owned.specs.Changes.{change_of};
 ghost use Rattle.sonic_owned.specs.Edits.{IsEdit, IsRefused};
 ghost use Rattle.sonic_owned.specs.Internal.Changed.{IsChanged};
@@ -60,6 +60,7 @@ impl OwnedLazyValue {
         ensures same { IfOk result (λ made. made ≡ false
             → IsKeptAlong (path_of path.now) (form self.old) (form self.new)) }
         ensures err { IfErr result (IsUnreached (path_of path.now)) }
+        ensures limit { 255 < length path.now → IsErr result × (self.new ≡ self.old) }
         ensures kept { OnErr result (IsKeptAlong (path_of path.now ++ way_to_item (change_of change))
             (form self.old) (form self.new)) }
         ensures memory { OnErr result (length path.now ≤ 255

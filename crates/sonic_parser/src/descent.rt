@@ -121,15 +121,13 @@ impl<'de> Descent<'de> {
         ensures within { IfErr result (IsStopFor (λ s. s.place ≤ length self.old.text)) }
         ensures kept { OnErr result (self.new ≡ self.old) }
     {
-        match Kind::opened_by(byte_at(self.parser.text(), self.parser.offset())) {
-            None => {
-                if !self.parser.pass_scalar() {
-                    self.parser.skip_value(alloc)?;
-                }
-                Ok(Step::Passed)
-            }
-            Some(kind) => self.enter(kind),
+        if let Some(kind) = Kind::opened_by(byte_at(self.parser.text(), self.parser.offset())) {
+            return self.enter(kind);
         }
+        if !self.parser.pass_scalar() {
+            self.parser.skip_value(alloc)?;
+        }
+        Ok(Step::Passed)
     }
 
     // Enters the container of this kind at the cursor, where it has an item.

@@ -14,11 +14,11 @@ use Rattle.sonic_patch.proofs.ElementLemmas.{texts_of, closed_again}
 use Rattle.sonic_patch.proofs.OperationLemmas.{member_one, text_one, word_back, word_again, word_one, word_of, path_of, has_word, has_path, to_texts, some_of, read_of, lacks_value, lacks_from}
 use Rattle.sonic_patch.proofs.PieceLemmas.{are_head, behind_slash, other_start, tokens_one}
 use Rattle.sonic_patch.proofs.EscapeLemmas.{byte_said, escape_said, behind_said, other_follows}
-use Rattle.sonic_patch.specs.Internal.Pieces.{IsToken, IsRead}
+use Rattle.sonic_patch.specs.Internal.Pieces.{IsTokenText, IsReadBy}
 use Rattle.sonic_patch.specs.Internal.Texts.{word_text, Texts, of_remove, of_valued, of_paired, HasTexts, AreRead}
 use Rattle.sonic_patch.specs.Operations.{Operation}
 use Rattle.sonic_patch.specs.Pointers.{pieces, Token, no_byte, a_slash, a_tilde, a_byte, AreTokens, no_more_tokens, one_more_token, SaysTokens, no_token, some_tokens, SaysFewTokens}
-use Rattle.sonic_patch.specs.Reading.{HasMember, SaysText, AnyText, IsSomeOperation, Fault, bad_shape, bad_pointer, long_pointer, HasFault, no_shape, no_pointers, long_pointers, AreOperations, no_operation, one_more_operation, IsFirstFault, fault_here, fault_later, AreElements, IsArrayOf, SaysPatch, Reason, no_json, no_array, no_operation_at, HasReason, is_invalid, is_other, has_first_fault}
+use Rattle.sonic_patch.specs.Reading.{HasMember, SaysText, AnyText, IsSomeOperation, Fault, bad_shape, bad_pointer, long_pointer, HasFault, no_shape, no_pointers, long_pointers, AreOperations, no_operation, one_more_operation, IsFirstFault, fault_here, fault_later, AreItemTexts, IsArrayOf, SaysPatch, Reason, no_json, no_array, no_operation_at, HasReason, is_invalid, is_other, has_first_fault}
 use Rattle.sonic_patch.specs.declared.parts.Word.{Word}
 use Rattle.sonic_patch.specs.declared.parts.Word.TheVariants as word
 use Rattle.sonic_text.proofs.Strings.{string_some, string_one, string_never_both}
@@ -40,7 +40,7 @@ abbrev OrNot : Type 0 → Type 0
 OrNot P = P ⊎ ¬ P
 
 -- a piece that begins with a tilde, or with any byte, is a token or not, where that is known of its rest
-tilde_or_none : (d : ℕ) (t : List ℕ) → OrNot (IsToken t) → OrNot (IsToken (126 ∷ d ∷ t))
+tilde_or_none : (d : ℕ) (t : List ℕ) → OrNot (IsTokenText t) → OrNot (IsTokenText (126 ∷ d ∷ t))
 tilde_or_none d t rest = elim rest [
   | inr none ↦ inr (λ x. none (behind_said refl (escape_said x.1 refl)))
   | inl x ↦ elim (cases_eq d 49) [
@@ -52,7 +52,7 @@ tilde_or_none d t rest = elim rest [
   ]
 ]
 
-byte_or_none : (b : ℕ) (t : List ℕ) → OrNot (IsToken t) → OrNot (IsToken (126 ∷ t)) → OrNot (IsToken (b ∷ t))
+byte_or_none : (b : ℕ) (t : List ℕ) → OrNot (IsTokenText t) → OrNot (IsTokenText (126 ∷ t)) → OrNot (IsTokenText (b ∷ t))
 byte_or_none b t plain escaped = elim (cases_eq b 126) [
   | inl e ↦ rw e escaped
   | inr other ↦ elim plain [
@@ -61,7 +61,7 @@ byte_or_none b t plain escaped = elim (cases_eq b 126) [
   ]
 ]
 
-token_or_none : (t : List ℕ) → OrNot (IsToken t) × OrNot (IsToken (126 ∷ t))
+token_or_none : (t : List ℕ) → OrNot (IsTokenText t) × OrNot (IsTokenText (126 ∷ t))
 token_or_none [] = (inl ([], no_byte), inr (λ x. other_follows (λ more e. absurd cc) (λ more e. absurd cc) (escape_said x.1 refl)))
 token_or_none (b ∷ t) = let rest = token_or_none t in (byte_or_none b t rest.0 rest.1, tilde_or_none b t rest.0)
 
@@ -76,7 +76,7 @@ tokens_or_none (p ∷ ps) = elim (token_or_none p).0 [
   ]
 ]
 
-pointer_or_none : (t : List ℕ) → OrNot (IsRead SaysTokens t)
+pointer_or_none : (t : List ℕ) → OrNot (IsReadBy SaysTokens t)
 pointer_or_none [] = inl ([], no_token)
 pointer_or_none (b ∷ t) = elim (cases_eq b 47) [
   | inr other ↦ inr (λ x. other_start (λ e. omega (arith, e)) (λ behind e. other cc) x.1)
@@ -86,7 +86,7 @@ pointer_or_none (b ∷ t) = elim (cases_eq b 47) [
   ]
 ]
 
-few_or_none : (t : List ℕ) → OrNot (IsRead SaysFewTokens t)
+few_or_none : (t : List ℕ) → OrNot (IsReadBy SaysFewTokens t)
 few_or_none t = elim (pointer_or_none t) [
   | inr none ↦ inr (λ x. none (x.0, x.1.0))
   | inl x ↦ elim (cases_lt 255 (length x.0)) [
@@ -180,7 +180,7 @@ texts_or_none o = elim (text_or_none o (codes "op")) [
 ]
 
 -- so an object is an operation or not, where its pointers are read or not
-read_or_none : (Reads : List ℕ → List Token → Type 0) → ((t : List ℕ) → OrNot (IsRead Reads t)) → (texts : Texts) → OrNot (AreRead Reads texts)
+read_or_none : (Reads : List ℕ → List Token → Type 0) → ((t : List ℕ) → OrNot (IsReadBy Reads t)) → (texts : Texts) → OrNot (AreRead Reads texts)
 read_or_none Reads test (of_remove p) = test p
 read_or_none Reads test (of_valued w p v) = test p
 read_or_none Reads test (of_paired w f p) = elim (test f) [
@@ -188,7 +188,7 @@ read_or_none Reads test (of_paired w f p) = elim (test f) [
   | inl a ↦ elim (test p) [ inl b ↦ inl (a, b) | inr none ↦ inr (λ x. none x.1) ]
 ]
 
-some_or_none : (Reads : List ℕ → List Token → Type 0) → ((t : List ℕ) → OrNot (IsRead Reads t)) → (o : List ℕ) → OrNot (IsSomeOperation Reads o)
+some_or_none : (Reads : List ℕ → List Token → Type 0) → ((t : List ℕ) → OrNot (IsReadBy Reads t)) → (o : List ℕ) → OrNot (IsSomeOperation Reads o)
 some_or_none Reads test o = elim (texts_or_none o) [
   | inr none ↦ inr (λ x. let t = to_texts x.1 in none (t.texts, t.has))
   | inl t ↦ elim (read_or_none Reads test t.0) [
@@ -222,7 +222,7 @@ operations_or_fault (e ∷ es) = elim (operation_or_fault e) [
 
 -- a text is an array or not
 elements_by : {t : List ℕ} (l : Listing) → IsListing t false Array l → (e : Ending) → l.ending ≡ e
-    → ((texts : List (List ℕ)) × AreElements t texts) ⊎ ((texts : List (List ℕ)) → ¬ AreElements t texts)
+    → ((texts : List (List ℕ)) × AreItemTexts t texts) ⊎ ((texts : List (List ℕ)) → ¬ AreItemTexts t texts)
 elements_by {t} l is closed e = inl (texts_of t l.items, record { items = l.items; listing = closed_again l e is; are = refl })
 elements_by {t} l is (stopped s) e = inr (λ texts all.
     let own : Listing = record { items = all.items; ending = closed } in
@@ -230,7 +230,7 @@ elements_by {t} l is (stopped s) e = inr (λ texts all.
     let clash = sym e ∙ same in
     absurd cc)
 
-elements_or_none : (t : List ℕ) → ((texts : List (List ℕ)) × AreElements t texts) ⊎ ((texts : List (List ℕ)) → ¬ AreElements t texts)
+elements_or_none : (t : List ℕ) → ((texts : List (List ℕ)) × AreItemTexts t texts) ⊎ ((texts : List (List ℕ)) → ¬ AreItemTexts t texts)
 elements_or_none t = let some = (listing_one t false Array).some in elements_by some.0 some.1 some.0.ending refl
 
 -- a text says a patch, or has a reason why it says none

@@ -16,7 +16,7 @@ use Rattle.sonic_owned.specs.Forms.{Form}
 use Rattle.sonic_patch.specs.Internal.Elements.{IsFaultIn, SaysOperations}
 use Rattle.sonic_patch.specs.Operations.{Operation}
 use Rattle.sonic_patch.specs.Pointers.{SaysFewTokens}
-use Rattle.sonic_patch.specs.Reading.{IsOperation, Fault, HasFault, AreOperations, no_operation, one_more_operation, IsFirstFault, fault_here, fault_later, AreElements}
+use Rattle.sonic_patch.specs.Reading.{IsOperation, Fault, HasFault, AreOperations, no_operation, one_more_operation, IsFirstFault, fault_here, fault_later, AreItemTexts}
 use Rattle.sonic_text.proofs.Items.{head_one}
 use Rattle.sonic_text.proofs.Values.{items_one, items_open, value_end_one, value_never_both, value_starts}
 use Rattle.sonic_text.specs.Documents.{StartsWithUtf8Value}
@@ -35,7 +35,7 @@ never_bytes : false ≡ true → ⊥
 never_bytes e = cc
 
 -- an array has one list of elements
-pub elements_one : {t : List ℕ} {xs ys : List (List ℕ)} → AreElements t xs → AreElements t ys → xs ≡ ys
+pub elements_one : {t : List ℕ} {xs ys : List (List ℕ)} → AreItemTexts t xs → AreItemTexts t ys → xs ≡ ys
 elements_one {t} x y =
     let a : Listing = record { items = x.items; ending = closed } in
     let b : Listing = record { items = y.items; ending = closed } in
@@ -203,7 +203,7 @@ bracket_closed (at_broken_text e n z is) = absurd cc
 bracket_closed (at_bracket u x e) = x
 bracket_closed (at_stop u x is) = absurd cc
 
-pub elements_array : (value : LazyValue) (texts : List (List ℕ)) → AreElements (raw_bytes value) texts → scalar_of (raw_bytes value) ≡ container Array
+pub elements_array : (value : LazyValue) (texts : List (List ℕ)) → AreItemTexts (raw_bytes value) texts → scalar_of (raw_bytes value) ≡ container Array
 elements_array value texts all =
     let start : after_space (raw_bytes value) 0 ≡ 0 = value_starts (lazy_is_whole value).value in
     let opens : byte (raw_bytes value) 0 ≡ 91 = rw start at (closed_opens (bracket_closed all.listing.ending)) in

@@ -13,7 +13,7 @@ use Rattle.sonic_patch.specs.Internal.Texts.{valued, paired, Texts, of_remove, o
 use Rattle.sonic_patch.specs.Laws.{SaysOneThing}
 use Rattle.sonic_patch.specs.Operations.{Operation, remove}
 use Rattle.sonic_patch.specs.Pointers.{Token, SaysTokens, SaysFewTokens}
-use Rattle.sonic_patch.specs.Reading.{IsOperation, AnyText, IsSomeOperation, Fault, HasFault, no_shape, no_pointers, long_pointers, AreOperations, no_operation, one_more_operation, IsFirstFault, fault_here, fault_later, AreElements, IsArrayOf, SaysPatch, Reason, no_json, no_operation_at, HasReason, is_invalid, is_other, has_first_fault}
+use Rattle.sonic_patch.specs.Reading.{IsOperation, AnyText, IsSomeOperation, Fault, HasFault, no_shape, no_pointers, long_pointers, AreOperations, no_operation, one_more_operation, IsFirstFault, fault_here, fault_later, AreItemTexts, IsArrayOf, SaysPatch, Reason, no_json, no_operation_at, HasReason, is_invalid, is_other, has_first_fault}
 
 -- texts make one operation
 makes_one : (texts : Texts) (a b : Operation Form) → Makes SaysFewTokens texts a → Makes SaysFewTokens texts b → a ≡ b
@@ -104,12 +104,12 @@ never_at_fault (one_more_operation {elements = es} x xs) (fault_later {elements 
 -- a document is one array
 array_one : {t : List ℕ} {xs ys : List (List ℕ)} → IsArrayOf t xs → IsArrayOf t ys → xs ≡ ys
 array_one {xs = xs} x y =
-    let own : AreElements y.array xs = rw (value_one x.value y.value) at x.elements in
+    let own : AreItemTexts y.array xs = rw (value_one x.value y.value) at x.elements in
     elements_one own y.elements
 
-array_or_other : {t b : List ℕ} {es : List (List ℕ)} → IsDocumentValue t b → ((texts : List (List ℕ)) → ¬ AreElements b texts) → IsArrayOf t es → ⊥
+array_or_other : {t b : List ℕ} {es : List (List ℕ)} → IsDocumentValue t b → ((texts : List (List ℕ)) → ¬ AreItemTexts b texts) → IsArrayOf t es → ⊥
 array_or_other {b = b} {es} value none x =
-    let own : AreElements b es = rw (value_one x.value value) at x.elements in
+    let own : AreItemTexts b es = rw (value_one x.value value) at x.elements in
     none es own
 
 -- so a text has one reason

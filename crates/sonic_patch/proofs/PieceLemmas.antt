@@ -2,7 +2,7 @@
 use Rattle.std.proofs.Common.{◌≡◌, ◌≢◌, ◌==◌, ◌+◌, ◌<◌, ◌≤◌, ap, ap₂, refl, inl, inr, ℕ, false, List, [], ◌∷◌, ◌++◌, length, length-append, arith}
 use Rattle.std.proofs.lemmas.Bool.Decides.{eqb_tells}
 use Rattle.sonic_patch.proofs.EscapeLemmas.{Lacks, lacks_first, lacks_rest, token_one}
-use Rattle.sonic_patch.specs.Internal.Pieces.{IsToken, IsRead, SayTokens}
+use Rattle.sonic_patch.specs.Internal.Pieces.{IsTokenText, IsReadBy, SayTokens}
 use Rattle.sonic_patch.specs.Pointers.{pieces, Token, AreTokens, no_more_tokens, one_more_token, SaysTokens, no_token, some_tokens, SaysFewTokens}
 
 -- a byte that is no slash
@@ -26,7 +26,7 @@ first_before {piece = piece} behind e none = (
 )
 
 -- tokens of pieces, one by one
-pub are_head : {ps qs : List (List ℕ)} {p : List ℕ} {ts : List Token} → AreTokens ps ts → ps ≡ p ∷ qs → IsToken p × (us : List Token) × AreTokens qs us
+pub are_head : {ps qs : List (List ℕ)} {p : List ℕ} {ts : List Token} → AreTokens ps ts → ps ≡ p ∷ qs → IsTokenText p × (us : List Token) × AreTokens qs us
 are_head no_more_tokens e = absurd cc
 are_head {qs = qs} {p} (one_more_token {piece} {pieces = rest} {token} {tokens} x xs) e =
     let first : piece ≡ p = cc in
@@ -34,17 +34,17 @@ are_head {qs = qs} {p} (one_more_token {piece} {pieces = rest} {token} {tokens} 
     ((token, rw first at x), tokens, rw others at xs)
 
 -- so a piece that is no token spoils them
-pub spoils : {ps qs : List (List ℕ)} {p : List ℕ} → ps ≡ p ∷ qs → ¬ IsToken p → (ts : List Token) → ¬ AreTokens ps ts
+pub spoils : {ps qs : List (List ℕ)} {p : List ℕ} → ps ≡ p ∷ qs → ¬ IsTokenText p → (ts : List Token) → ¬ AreTokens ps ts
 spoils e bad ts are = bad (are_head are e).0
 
 pub others_said : {ps qs : List (List ℕ)} {p : List ℕ} {ts : List Token} → ps ≡ p ∷ qs → AreTokens ps ts → (us : List Token) × AreTokens qs us
 others_said e are = let parts = are_head are e in (parts.1, parts.2)
 
 -- the last piece says one token, and another one says one more
-pub last_token : {ps : List (List ℕ)} {p : List ℕ} → ps ≡ p ∷ [] → IsToken p → SayTokens ps 1
+pub last_token : {ps : List (List ℕ)} {p : List ℕ} → ps ≡ p ∷ [] → IsTokenText p → SayTokens ps 1
 last_token e x = record { tokens = x.0 ∷ []; are = rw e (one_more_token x.1 no_more_tokens); count = refl }
 
-pub more_tokens : {ps qs : List (List ℕ)} {p : List ℕ} {n : ℕ} → ps ≡ p ∷ qs → IsToken p → SayTokens qs n → SayTokens ps (1 + n)
+pub more_tokens : {ps qs : List (List ℕ)} {p : List ℕ} {n : ℕ} → ps ≡ p ∷ qs → IsTokenText p → SayTokens qs n → SayTokens ps (1 + n)
 more_tokens {n = n} e x say = record { tokens = x.0 ∷ say.tokens; are = rw e (one_more_token x.1 say.are); count = omega (arith, say.count) }
 
 -- pieces say one list of tokens
@@ -70,7 +70,7 @@ tokens_one (some_tokens xs) no_token e = absurd cc
 tokens_one (some_tokens {t} xs) (some_tokens {t = s} ys) e = let same : t ≡ s = cc in are_one xs ys (ap pieces same)
 
 -- a text that is empty is a pointer, and one that begins with another byte than a slash is none
-pub empty_fits : (t : List ℕ) → length t ≡ 0 → IsRead SaysFewTokens t
+pub empty_fits : (t : List ℕ) → length t ≡ 0 → IsReadBy SaysFewTokens t
 empty_fits [] e = ([], (no_token, omega arith))
 empty_fits (b ∷ t) e = absurd (omega (arith, e))
 
@@ -79,11 +79,11 @@ other_start some none no_token = some refl
 other_start some none (some_tokens {t} xs) = none t refl
 
 -- behind a slash there are as many tokens as the pieces say
-pub few_fit : {t behind : List ℕ} {n : ℕ} → t ≡ 47 ∷ behind → SayTokens (pieces behind) n → n ≤ 255 → IsRead SaysFewTokens t
+pub few_fit : {t behind : List ℕ} {n : ℕ} → t ≡ 47 ∷ behind → SayTokens (pieces behind) n → n ≤ 255 → IsReadBy SaysFewTokens t
 few_fit e say few = (say.tokens, (rw e (some_tokens say.are), omega (arith, say.count, few)))
 
 pub many_never_fit : {t behind : List ℕ} {n : ℕ} → t ≡ 47 ∷ behind → SayTokens (pieces behind) n → 255 < n
-    → IsRead SaysTokens t × ¬ IsRead SaysFewTokens t
+    → IsReadBy SaysTokens t × ¬ IsReadBy SaysFewTokens t
 many_never_fit e say many = (
   (say.tokens, rw e (some_tokens say.are)),
   λ x.
@@ -91,11 +91,11 @@ many_never_fit e say many = (
       omega (arith, x.1.1, ap length same, say.count, many),
 )
 
-pub none_behind : {t behind : List ℕ} → t ≡ 47 ∷ behind → ((tokens : List Token) → ¬ AreTokens (pieces behind) tokens) → ¬ IsRead SaysTokens t
+pub none_behind : {t behind : List ℕ} → t ≡ 47 ∷ behind → ((tokens : List Token) → ¬ AreTokens (pieces behind) tokens) → ¬ IsReadBy SaysTokens t
 none_behind e none x = none x.0 (behind_slash x.1 e)
 
 -- so where a pointer has few tokens, its tokens are few
-pub few_said : {t : List ℕ} {ts : List Token} → IsRead SaysFewTokens t → SaysTokens t ts → length ts ≤ 255
+pub few_said : {t : List ℕ} {ts : List Token} → IsReadBy SaysFewTokens t → SaysTokens t ts → length ts ≤ 255
 few_said fits x = let f = fits.1 in omega (arith, ap length (tokens_one x f.0 refl), f.1)
 
 -- what a pointer that doesn't begin with a slash says

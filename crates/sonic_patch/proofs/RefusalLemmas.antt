@@ -4,14 +4,14 @@ use Rattle.sonic_error.specs.Errors.{error_code, IsErrorAt}
 use Rattle.sonic_error.specs.declared.code.ErrorCode.TheVariants as code
 use Rattle.sonic_error.specs.declared.error.Error.{Error}
 use Rattle.sonic_find.specs.Documents.{IsDocumentValue, IsInvalidError, out_of_memory, invalid}
-use Rattle.sonic_patch.specs.Internal.Elements.{Refuses, IsFaultIn}
+use Rattle.sonic_patch.specs.Internal.Elements.{IsElementError, IsFaultIn}
 use Rattle.sonic_patch.specs.Reading.{Fault, HasReason, is_invalid, has_first_fault, no_json, no_operation_at, IsNoPatch}
 use Rattle.sonic_patch.specs.declared.error.PatchError.{PatchError}
 use Rattle.sonic_patch.specs.declared.error.PatchError.TheVariants.{Json, NotArray, Shape, Pointer, TooLong, Missing, TestFailed, IntoChild, NoMemory}
 use Rattle.sonic_text.specs.declared.stop.Stop.{Stop}
 
 -- what a fault is refused by, each fault that follows is
-pub refuses_weaker : {At By : ℕ → Fault → Type 0} (e : PatchError) → ((n : ℕ) (fault : Fault) → At n fault → By n fault) → Refuses At e → Refuses By e
+pub refuses_weaker : {At By : ℕ → Fault → Type 0} (e : PatchError) → ((n : ℕ) (fault : Fault) → At n fault → By n fault) → IsElementError At e → IsElementError By e
 refuses_weaker (Shape op) f h = f op _ h
 refuses_weaker (Pointer op) f h = f op _ h
 refuses_weaker (TooLong op) f h = f op _ h
@@ -26,7 +26,7 @@ refuses_weaker (IntoChild op) f h = h
 fault_reason : {t array : List ℕ} {n : ℕ} {fault : Fault} → IsDocumentValue t array → IsFaultIn array n fault → HasReason t (no_operation_at n fault)
 fault_reason value x = has_first_fault (record { array = _; value = value; elements = x.elements }) x.first
 
-pub fault_no_patch : {t array : List ℕ} (e : PatchError) → IsDocumentValue t array → Refuses (IsFaultIn array) e → IsNoPatch t e
+pub fault_no_patch : {t array : List ℕ} (e : PatchError) → IsDocumentValue t array → IsElementError (IsFaultIn array) e → IsNoPatch t e
 fault_no_patch (Shape op) value h = fault_reason value h
 fault_no_patch (Pointer op) value h = fault_reason value h
 fault_no_patch (TooLong op) value h = fault_reason value h

@@ -1,6 +1,10 @@
 pub mod Internal
 pub mod Laws
 pub mod Operations
+pub mod Patches
+pub mod Patching
 pub mod Pointers
 pub mod Reading
+pub mod Resolution
+pub mod Sameness
 pub mod Views

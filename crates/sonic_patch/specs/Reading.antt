@@ -82,7 +82,7 @@ pub data IsFirstFault : List (List ℕ) → ℕ → Fault → Type 0 where
       → IsFirstFault elements m fault → n ≡ m + 1 → IsFirstFault (element ∷ elements) n fault
 
 -- the text is an array, whose elements have these texts
-pub record AreElements (array : List ℕ) (texts : List (List ℕ)) : Type 0 where
+pub record AreItemTexts (array : List ℕ) (texts : List (List ℕ)) : Type 0 where
   pub items : List Item
   pub listing : IsListing array false Array (record { items = items; ending = closed })
   pub are : texts ≡ map (λ (x : Item). span_text array x.span) items
@@ -91,7 +91,7 @@ pub record AreElements (array : List ℕ) (texts : List (List ℕ)) : Type 0 whe
 pub record IsArrayOf (t : List ℕ) (texts : List (List ℕ)) : Type 0 where
   pub array : List ℕ
   pub value : IsDocumentValue t array
-  pub elements : AreElements array texts
+  pub elements : AreItemTexts array texts
 
 -- the text says these operations: it is an array of them
 pub record SaysPatch (t : List ℕ) (ops : List (Operation Form)) : Type 0 where
@@ -108,7 +108,7 @@ pub data Reason : Type 0 where
 -- it is no document; or it is one, and no array; or it is an array, and this element is the first that is no operation
 pub data HasReason (t : List ℕ) : Reason → Type 0 where
   is_invalid : {s : Stop} → IsInvalid t false s → HasReason t (no_json s)
-  is_other : {value : List ℕ} → IsDocumentValue t value → ((texts : List (List ℕ)) → ¬ AreElements value texts) → HasReason t no_array
+  is_other : {value : List ℕ} → IsDocumentValue t value → ((texts : List (List ℕ)) → ¬ AreItemTexts value texts) → HasReason t no_array
   has_first_fault : {elements : List (List ℕ)} {n : ℕ} {fault : Fault} → IsArrayOf t elements → IsFirstFault elements n fault
       → HasReason t (no_operation_at n fault)
 

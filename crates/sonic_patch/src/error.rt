@@ -38,3 +38,40 @@ impl From<AllocError> for PatchError {
         PatchError::NoMemory
     }
 }
+
+// Why an operation isn't made.
+#[derive(Clone, Copy, Debug)]
+pub(crate) enum Refusal {
+    Missing,
+    TestFailed,
+    IntoChild,
+    NoMemory,
+}
+
+impl From<AllocError> for Refusal {
+    ghost use Rattle.std.specs.Prelude.{◌≡◌};
+    ghost use Rattle.sonic_patch.specs.declared.error.Refusal.TheVariants.{NoMemory};
+
+    ghost from_gives = { λ refused refusal. refusal ≡ NoMemory };
+
+    fn from(_: AllocError) -> Refusal {
+        Refusal::NoMemory
+    }
+}
+
+impl Refusal {
+    ghost use Rattle.std.specs.Prelude.{◌≡◌};
+    ghost use Rattle.sonic_patch.specs.Internal.Refusals.{error_of};
+
+    // The error of the operation with this number.
+    pub(crate) fn error_of(self, op: usize) -> PatchError
+        ensures { result ≡ error_of op self }
+    {
+        match self {
+            Refusal::Missing => PatchError::Missing { op },
+            Refusal::TestFailed => PatchError::TestFailed { op },
+            Refusal::IntoChild => PatchError::IntoChild { op },
+            Refusal::NoMemory => PatchError::NoMemory,
+        }
+    }
+}

@@ -5,7 +5,7 @@ ghost use Rattle.sonic_lazy.specs.LazyValues.{raw_bytes};
 ghost use Rattle.sonic_patch.specs.Reading.{HasMember, SaysText, AnyText, IsSomeOperation};
 ghost use Rattle.sonic_patch.specs.Internal.Texts.{word_text, texts_of, HasTexts, AreRead};
 ghost use Rattle.sonic_patch.specs.Internal.Judged.{IsJudged};
-ghost use Rattle.sonic_patch.specs.Internal.Pieces.{IsRead};
+ghost use Rattle.sonic_patch.specs.Internal.Pieces.{IsReadBy};
 ghost use Rattle.sonic_patch.specs.Pointers.{SaysTokens, SaysFewTokens};
 ghost use Rattle.sonic_text.specs.Strings.{strict, IsString};
 
@@ -137,8 +137,8 @@ pub(crate) fn parts_of<'a>(
 
 // What two pointers are: the worse of both.
 fn fit_of_both(from: &str, path: &str) -> Fit
-    ensures { IsJudged (IsRead SaysFewTokens from.now × IsRead SaysFewTokens path.now)
-        (IsRead SaysTokens from.now × IsRead SaysTokens path.now) result }
+    ensures { IsJudged (IsReadBy SaysFewTokens from.now × IsReadBy SaysFewTokens path.now)
+        (IsReadBy SaysTokens from.now × IsReadBy SaysTokens path.now) result }
 {
     match fit_of(from) {
         Fit::Fits => fit_of(path),

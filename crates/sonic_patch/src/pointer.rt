@@ -1,7 +1,7 @@
 // Pointers (RFC 6901).
 ghost use Rattle.std.specs.Prelude.{◌≡◌, ◌<◌, ◌≤◌, ◌^◌, ℕ, List, IfOk, IfSome, None, length, string_bytes, true, false};
 ghost use Rattle.sonic_patch.specs.Pointers.{pieces, Token, SaysToken, AreTokens, SaysTokens, SaysFewTokens};
-ghost use Rattle.sonic_patch.specs.Internal.Pieces.{IsToken, IsRead, SayTokens};
+ghost use Rattle.sonic_patch.specs.Internal.Pieces.{IsTokenText, IsReadBy, SayTokens};
 ghost use Rattle.sonic_patch.specs.Internal.Judged.{IsBeginning, IsFirstPiece, IsFit};
 
 use sonic_input::FastStr;
@@ -46,8 +46,8 @@ pub(crate) fn begins(rest: &str) -> Beginning<'_>
 
 // Whether a piece is a token.
 pub(crate) fn is_token(piece: &str) -> bool
-    ensures yes { result ≡ true → IsToken piece.now }
-    ensures no { result ≡ false → ¬ IsToken piece.now }
+    ensures yes { result ≡ true → IsTokenText piece.now }
+    ensures no { result ≡ false → ¬ IsTokenText piece.now }
 {
     let mut rest = piece;
     'escapes: loop {
@@ -61,7 +61,7 @@ pub(crate) fn is_token(piece: &str) -> bool
 
 // The token that a piece says.
 pub(crate) fn token(alloc: Global, piece: &str) -> Result<String, AllocError>
-    requires { IsToken piece.now }
+    requires { IsTokenText piece.now }
     ensures { IfOk result (λ made. SaysToken piece.now (string_bytes made)) }
 {
     let mut made = String::new(alloc);
@@ -78,8 +78,8 @@ pub(crate) fn token(alloc: Global, piece: &str) -> Result<String, AllocError>
 // The piece that a text begins with, up to the first slash.
 #[derive(Clone, Copy)]
 pub(crate) enum Piece<'t> {
-    // No slash comes.
-    Last(&'t str),
+    // No slash comes: it is all of the text.
+    Last,
     // One comes, and then more.
     Before(&'t str, &'t str),
 }
@@ -89,7 +89,7 @@ fn first_piece(rest: &str) -> Piece<'_>
 {
     match rest.split_once('/') {
         Some((piece, behind)) => Piece::Before(piece, behind),
-        None => Piece::Last(rest),
+        None => Piece::Last,
     }
 }
 
@@ -101,23 +101,17 @@ fn token_count(text: &str) -> Option<usize>
 {
     let mut rest = text;
     let mut count = 0;
-    'pieces: loop {
-        match first_piece(rest) {
-            Piece::Last(piece) => {
-                return if is_token(piece) {
-                    Some(count + 1)
-                } else {
-                    None
-                };
-            }
-            Piece::Before(piece, behind) => {
-                if !is_token(piece) {
-                    return None;
-                }
-                count += 1;
-                rest = behind;
-            }
+    'pieces: while let Piece::Before(piece, behind) = first_piece(rest) {
+        if !is_token(piece) {
+            return None;
         }
+        count += 1;
+        rest = behind;
+    }
+    if is_token(rest) {
+        Some(count + 1)
+    } else {
+        None
     }
 }
 
@@ -137,7 +131,7 @@ pub(crate) fn fit_of(text: &str) -> Fit
 
 // The token that a piece says, shared.
 fn shared(alloc: Global, piece: &str) -> Result<FastStr, AllocError>
-    requires { IsToken piece.now }
+    requires { IsTokenText piece.now }
     ensures { IfOk result (SaysToken piece.now) }
 {
     let made = token(alloc, piece)?;
@@ -154,23 +148,17 @@ fn tokens_between(alloc: Global, text: &str) -> Result<Vec<FastStr>, AllocError>
 {
     let mut tokens = Vec::new(alloc);
     let mut rest = text;
-    'pieces: loop {
-        match first_piece(rest) {
-            Piece::Last(piece) => {
-                tokens.push(shared(alloc, piece)?)?;
-                return Ok(tokens);
-            }
-            Piece::Before(piece, behind) => {
-                tokens.push(shared(alloc, piece)?)?;
-                rest = behind;
-            }
-        }
+    'pieces: while let Piece::Before(piece, behind) = first_piece(rest) {
+        tokens.push(shared(alloc, piece)?)?;
+        rest = behind;
     }
+    tokens.push(shared(alloc, rest)?)?;
+    Ok(tokens)
 }
 
 // The tokens that a pointer says.
 fn tokens_said(alloc: Global, text: &str) -> Result<Vec<FastStr>, AllocError>
-    requires { IsRead SaysTokens text.now }
+    requires { IsReadBy SaysTokens text.now }
     ensures { IfOk result (λ made. SaysTokens text.now made.items) }
 {
     match text.strip_prefix('/') {
@@ -191,7 +179,7 @@ impl Pointer {
 
     // The pointer that a text says, which fits.
     pub(crate) fn read(alloc: Global, text: &str) -> Result<Pointer, AllocError>
-        requires { IsRead SaysFewTokens text.now }
+        requires { IsReadBy SaysFewTokens text.now }
         ensures { IfOk result (λ pointer. SaysFewTokens text.now (tokens_of pointer)) }
     {
         let tokens = tokens_said(alloc, text)?;

@@ -4,7 +4,7 @@ ghost use Rattle.sonic_lazy.specs.Iterators.{iterator_over};
 ghost use Rattle.sonic_lazy.specs.LazyValues.{raw_bytes};
 ghost use Rattle.sonic_owned.specs.Forms.{raw};
 ghost use Rattle.sonic_owned.specs.Views.{form};
-ghost use Rattle.sonic_patch.specs.Internal.Elements.{Refuses, IsFaultOf, IsFaultIn, SaysOperations};
+ghost use Rattle.sonic_patch.specs.Internal.Elements.{IsElementError, IsFaultOf, IsFaultIn, SaysOperations};
 ghost use Rattle.sonic_patch.specs.Internal.Texts.{texts_of, AreRead, Makes};
 ghost use Rattle.sonic_patch.specs.Pointers.{SaysFewTokens};
 ghost use Rattle.sonic_patch.specs.Reading.{IsOperation, SaysPatch, IsNoPatch};
@@ -86,7 +86,7 @@ fn read_operation(
 ) -> Result<Operation, PatchError>
     ensures ok { IfOk result (λ made.
         IsOperation SaysFewTokens (raw_bytes element.now) (operation_of made)) }
-    ensures err { IfErr result (Refuses (IsFaultOf op (raw_bytes element.now))) }
+    ensures err { IfErr result (IsElementError (IsFaultOf op (raw_bytes element.now))) }
 {
     let Some(parts) = parts_of(alloc, element)? else {
         return Err(PatchError::Shape { op });
@@ -104,7 +104,7 @@ fn read_elements(alloc: Global, mut elements: ArrayJsonIter<'_>) -> Result<Patch
     requires fresh { elements ≡ iterator_over Array elements.text false false }
     requires starts { StartsWithUtf8Value elements.text }
     ensures ok { IfOk result (λ patch. SaysOperations elements.entry.text (operations_of patch)) }
-    ensures err { IfErr result (Refuses (IsFaultIn elements.entry.text)) }
+    ensures err { IfErr result (IsElementError (IsFaultIn elements.entry.text)) }
 {
     let mut operations = Vec::new(alloc);
     'elements: while let Some(element) = elements.next() {

@@ -1,7 +1,12 @@
-// The law of what a text says.
+// The laws of what a text says.
 ghost use Rattle.std.specs.Prelude.{ℕ, List};
 ghost use Rattle.std.specs.Str.{IsUtf8};
+ghost use Rattle.sonic_owned.specs.Forms.{Form};
 ghost use Rattle.sonic_patch.specs.Laws.{SaysOneThing};
+ghost use Rattle.sonic_patch.specs.Operations.{Operation};
+ghost use Rattle.sonic_patch.specs.Patches.{AreSoundOperations, OperationsMean};
+ghost use Rattle.sonic_patch.specs.Reading.{SaysPatch};
+ghost use Rattle.sonic_text.specs.Trees.{Tree};
 
 /// The law of patches, for every text in UTF-8: it says one list of operations, or it says none for
 /// one reason, and never both.
@@ -10,4 +15,13 @@ ghost use Rattle.sonic_patch.specs.Laws.{SaysOneThing};
 /// that its `path` is no pointer.
 pub fn patch_says_one_thing()
     ensures { (t : List ℕ) → IsUtf8 t → SaysOneThing t }
+{}
+
+/// What a text in UTF-8 says as a patch is sound, and means operations of trees: each value is one, and
+/// each token may be a key. So `patching_means_the_patched_tree` speaks of every patch that is read.
+pub fn patch_says_sound_operations()
+    ensures sound { (t : List ℕ) (ops : List (Operation Form)) → IsUtf8 t → SaysPatch t ops
+        → AreSoundOperations ops }
+    ensures mean { (t : List ℕ) (ops : List (Operation Form)) → IsUtf8 t → SaysPatch t ops
+        → (os : List (Operation Tree)) × OperationsMean ops os }
 {}

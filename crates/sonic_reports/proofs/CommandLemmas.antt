@@ -12,9 +12,9 @@ use Rattle.sonic_reports.specs.declared.commands.Command.{Command}
 use Rattle.std.proofs.lemmas.Slice.Eq.{bytes_eq-Decides}
 use Rattle.std.specs.Bool.{Decides}
 use Rattle.std.specs.Str.{bytes_eq}
-use Rattle.sonic_reports.specs.declared.commands.Command.TheVariants.{Get, List as Items, Edit, Fill, Fast, Indent, Index, Lines, Min, Gen}
+use Rattle.sonic_reports.specs.declared.commands.Command.TheVariants.{Get, List as Items, Edit, Fill, Fast, Indent, Index, Lines, Min, Patch, Gen}
 use Rattle.sonic_reports.specs.Commands.{Asks, IsListed, Reads, rule_word, most_objects, most_blanks}
-use Rattle.sonic_reports.specs.Commands.Asks.{no_word, get_word, list_word, edit_word, fill_word, fast_word, indent_words, index_word, lines_word, min_word, gen_words, keys_words}
+use Rattle.sonic_reports.specs.Commands.Asks.{no_word, get_word, list_word, edit_word, fill_word, fast_word, indent_words, index_word, lines_word, min_word, patch_word, gen_words, keys_words}
 
 -- no words are none
 pub no_words : {A : Type 0} (f : A → List ℕ) (words : List A) → length words < 1 → map f words ≡ []
@@ -47,6 +47,7 @@ three_words f (w ∷ v ∷ u ∷ t ∷ ws) word next last low high e d c = absur
 
 -- one word that asks for a command is its name
 pub only_named : {word : List ℕ} → IsListed (word ∷ []) → (word ≡ codes "get") ⊎ (word ≡ codes "list") ⊎ (word ≡ codes "edit") ⊎ (word ≡ codes "fill") ⊎ (word ≡ codes "fast") ⊎ (word ≡ codes "index") ⊎ (word ≡ codes "lines") ⊎ (word ≡ codes "min")
+    ⊎ (word ≡ codes "patch")
 only_named (_, no_word e) = absurd cc
 only_named (_, get_word e) = inl cc
 only_named (_, keys_words e) = absurd cc
@@ -56,7 +57,8 @@ only_named (_, fill_word e) = inr (inr (inr (inl cc)))
 only_named (_, fast_word e) = inr (inr (inr (inr (inl cc))))
 only_named (_, index_word e) = inr (inr (inr (inr (inr (inl cc)))))
 only_named (_, lines_word e) = inr (inr (inr (inr (inr (inr (inl cc))))))
-only_named (_, min_word e) = inr (inr (inr (inr (inr (inr (inr cc))))))
+only_named (_, min_word e) = inr (inr (inr (inr (inr (inr (inr (inl cc)))))))
+only_named (_, patch_word e) = inr (inr (inr (inr (inr (inr (inr (inr cc)))))))
 only_named (_, indent_words e h) = absurd cc
 only_named (_, gen_words e l h) = absurd cc
 
@@ -86,6 +88,7 @@ only_counted (_, fast_word e) = absurd cc
 only_counted (_, index_word e) = absurd cc
 only_counted (_, lines_word e) = absurd cc
 only_counted (_, min_word e) = absurd cc
+only_counted (_, patch_word e) = absurd cc
 only_counted (_, indent_words {n} e h) = inr (cc, (n, record { is = cc; from = omega arith; to = h }))
 only_counted (_, gen_words {n} e l h) = inl (cc, (n, record { is = cc; from = l; to = h }))
 
@@ -102,6 +105,7 @@ only_ruled (_, fast_word e) = absurd cc
 only_ruled (_, index_word e) = absurd cc
 only_ruled (_, lines_word e) = absurd cc
 only_ruled (_, min_word e) = absurd cc
+only_ruled (_, patch_word e) = absurd cc
 only_ruled (_, indent_words e h) = absurd cc
 only_ruled (_, gen_words e l h) = absurd cc
 
@@ -133,6 +137,7 @@ four_unlisted word next last more words (_, fast_word e) = absurd cc
 four_unlisted word next last more words (_, index_word e) = absurd cc
 four_unlisted word next last more words (_, lines_word e) = absurd cc
 four_unlisted word next last more words (_, min_word e) = absurd cc
+four_unlisted word next last more words (_, patch_word e) = absurd cc
 four_unlisted word next last more words (_, indent_words e h) = absurd cc
 four_unlisted word next last more words (_, gen_words e l h) = absurd cc
 
@@ -180,6 +185,7 @@ word_listed word =
     or_name (codes "index") Index index_word (λ index.
     or_name (codes "lines") Lines lines_word (λ lines.
     or_name (codes "min") Min min_word (λ min.
+    or_name (codes "patch") Patch patch_word (λ patch.
     inr (λ l. elim (only_named l) [
       | inl e ↦ get e
       | inr (inl e) ↦ list e
@@ -188,8 +194,9 @@ word_listed word =
       | inr (inr (inr (inr (inl e)))) ↦ fast e
       | inr (inr (inr (inr (inr (inl e))))) ↦ index e
       | inr (inr (inr (inr (inr (inr (inl e)))))) ↦ lines e
-      | inr (inr (inr (inr (inr (inr (inr e)))))) ↦ min e
-    ])))))))))
+      | inr (inr (inr (inr (inr (inr (inr (inl e))))))) ↦ min e
+      | inr (inr (inr (inr (inr (inr (inr (inr e))))))) ↦ patch e
+    ]))))))))))
 
 -- the words of `indent` ask for no more blanks than it takes
 pub width_within : {words : List (List ℕ)} {n : ℕ} → Asks words (Indent n) → n ≤ most_blanks
@@ -258,6 +265,7 @@ reads_or_gen (Indent width) = inl (λ n e. absurd cc)
 reads_or_gen Index = inl (λ n e. absurd cc)
 reads_or_gen Lines = inl (λ n e. absurd cc)
 reads_or_gen Min = inl (λ n e. absurd cc)
+reads_or_gen Patch = inl (λ n e. absurd cc)
 reads_or_gen (Gen n) = inr (n, refl)
 
 -- a word names a rule or none

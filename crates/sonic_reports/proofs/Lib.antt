@@ -7,6 +7,7 @@ mod GeneratedLemmas
 mod GetLemmas
 mod LineLemmas
 mod ListLemmas
+mod PatchLemmas
 mod ReplyLemmas
 mod ReportLemmas
 mod RowLemmas

@@ -6,11 +6,11 @@ use Rattle.std.specs.Str.Parse.{digits_value}
 use Rattle.sonic_pointer.specs.declared.rule.KeyRule.{KeyRule}
 use Rattle.sonic_pointer.specs.declared.rule.KeyRule.TheVariants.{First, Last, Refuse}
 use Rattle.sonic_reports.specs.declared.commands.Command.{Command}
-use Rattle.sonic_reports.specs.declared.commands.Command.TheVariants.{Get, List as Items, Edit, Fill, Fast, Indent, Index, Lines, Min, Gen}
+use Rattle.sonic_reports.specs.declared.commands.Command.TheVariants.{Get, List as Items, Edit, Fill, Fast, Indent, Index, Lines, Min, Patch, Gen}
 use Rattle.sonic_io.specs.Outside.{input_limit}
 use Rattle.sonic_reports.specs.declared.status.Status.{Status}
 use Rattle.sonic_reports.specs.declared.status.Status.TheVariants.{Done, NoMemory}
-use Rattle.sonic_reports.specs.Commands.{Asks, no_word, get_word, list_word, edit_word, fill_word, fast_word, indent_words, index_word, lines_word, min_word, gen_words, keys_words, rule_word, Reads}
+use Rattle.sonic_reports.specs.Commands.{Asks, no_word, get_word, list_word, edit_word, fill_word, fast_word, indent_words, index_word, lines_word, min_word, patch_word, gen_words, keys_words, rule_word, Reads}
 use Rattle.sonic_reports.specs.Commands.Get.{IsAnswerableInput}
 use Rattle.sonic_reports.specs.Laws.{HasOneReport}
 use Rattle.sonic_reports.specs.Reports.{Writes, IsReport}
@@ -23,6 +23,7 @@ use Rattle.sonic_reports.proofs.GeneratedLemmas.{gen_report_one, gen_report_some
 use Rattle.sonic_reports.proofs.GetLemmas.{Same, SomeText, get_report_one, get_report_some, answerable_report}
 use Rattle.sonic_reports.proofs.EntryLemmas.{index_report_one, index_report_some}
 use Rattle.sonic_reports.proofs.ListLemmas.{list_report_one, list_report_some}
+use Rattle.sonic_reports.proofs.PatchLemmas.{patch_report_one, patch_report_some}
 use Rattle.sonic_reports.proofs.RowLemmas.{lines_report_one, lines_report_some}
 use Rattle.sonic_reports.proofs.TextLemmas.{min_report_one, min_report_some, indent_report_one, indent_report_some}
 
@@ -42,7 +43,7 @@ abbrev asked_by : List (List ℕ) → Command
 asked_by words =
     let word = get_or words 0 [] in
     let letter = get_or word 0 0 in
-    if letter == 108 then if get_or word 2 0 == 110 then Lines else Items else if letter == 101 then Edit else if letter == 109 then Min else if letter == 102 then if get_or word 1 0 == 97 then Fast else Fill
+    if letter == 108 then if get_or word 2 0 == 110 then Lines else Items else if letter == 101 then Edit else if letter == 109 then Min else if letter == 112 then Patch else if letter == 102 then if get_or word 1 0 == 97 then Fast else Fill
     else if letter == 105 then if get_or word 4 0 == 120 then Index else Indent (digits_value 10 (get_or words 1 []))
     else if get_or word 2 0 == 110 then Gen (digits_value 10 (get_or words 1 [])) else Get (rule_by (get_or words 2 []))
 
@@ -57,6 +58,7 @@ asks_this (indent_words {n} e most) = sym (ap asked_by e ∙ ap Indent (value_of
 asks_this (index_word e) = sym (ap asked_by e)
 asks_this (lines_word e) = sym (ap asked_by e)
 asks_this (min_word e) = sym (ap asked_by e)
+asks_this (patch_word e) = sym (ap asked_by e)
 asks_this (keys_words {r} e) = sym (ap asked_by e ∙ ap Get (rule_back r))
 asks_this (gen_words {n} e least most) = sym (ap asked_by e ∙ ap Gen (value_of_decimal n (omega arith)))
 
@@ -76,6 +78,7 @@ writes_one (Indent width) input text other status ending r s = indent_report_one
 writes_one Index input text other status ending r s = index_report_one r s
 writes_one Lines input text other status ending r s = lines_report_one r s
 writes_one Min input text other status ending r s = min_report_one r s
+writes_one Patch input text other status ending r s = patch_report_one r s
 writes_one (Gen n) input text other status ending r s = gen_report_one r s
 
 -- of each input
@@ -89,6 +92,7 @@ writes_some (Indent width) input = indent_report_some width input
 writes_some Index input = index_report_some input
 writes_some Lines input = lines_report_some input
 writes_some Min input = min_report_some input
+writes_some Patch input = patch_report_some input
 writes_some (Gen n) input = gen_report_some n
 
 -- an input that is read is within the limit or not

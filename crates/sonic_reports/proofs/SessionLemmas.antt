@@ -6,7 +6,7 @@ use Rattle.std.specs.Io.KnownBytes.{IsAtEnd}
 use Rattle.sonic_find.specs.Answers.{Answer}
 use Rattle.sonic_pointer.specs.declared.rule.KeyRule.{KeyRule}
 use Rattle.sonic_reports.specs.declared.commands.Command.{Command}
-use Rattle.sonic_reports.specs.declared.commands.Command.TheVariants.{Get, List as Items, Edit, Fill, Fast, Indent, Index, Lines, Min, Gen}
+use Rattle.sonic_reports.specs.declared.commands.Command.TheVariants.{Get, List as Items, Edit, Fill, Fast, Indent, Index, Lines, Min, Patch, Gen}
 use Rattle.sonic_reports.specs.declared.runs.Request.{Request}
 use Rattle.sonic_reports.specs.declared.runs.Request.TheVariants.{Usage, Large, Input}
 use Rattle.sonic_reports.specs.declared.status.Status.{Status}
@@ -14,6 +14,7 @@ use Rattle.sonic_reports.specs.declared.status.Status.TheVariants.{Done, BadUsag
 use Rattle.sonic_reports.specs.Commands.{Asks, IsListed, Reads, IsReading}
 use Rattle.sonic_owned.specs.Forms.{Form}
 use Rattle.sonic_owned.specs.TreeEdits as edits
+use Rattle.sonic_patch.specs.Operations.{Operation}
 use Rattle.sonic_text.specs.Paths.{Path}
 use Rattle.sonic_text.specs.Trees.{Tree}
 use Rattle.sonic_reports.specs.Commands.Edits.{ReportsMade, refused, made, ReportsEdits, invalid, valid, IsEditReport, bad_edit, edited}
@@ -29,6 +30,8 @@ use Rattle.sonic_reports.specs.Commands.Get.IsAnswerReport.{entry_lines, error_l
 use Rattle.sonic_reports.specs.Commands.Get.IsPathsReport.{bad_line, answered}
 use Rattle.sonic_lazy.specs.Items.{Ending, closed, stopped}
 use Rattle.sonic_reports.specs.Commands.Items.{IsListReport, status_of_ending}
+use Rattle.sonic_reports.specs.Commands.Patches as patch
+use Rattle.sonic_reports.specs.Commands.Patches.{ReportsPatch, ReportsPatched, IsPatchReport}
 use Rattle.sonic_reports.specs.Commands.Rows.{ReportsRows, with_error, without_error, IsLinesReport}
 use Rattle.sonic_reports.specs.Commands.Texts as texts
 use Rattle.sonic_reports.specs.Commands.Texts.{ReportsText}
@@ -144,6 +147,22 @@ text_status : {IsText : List ℕ → Type 0} {input text : List ℕ} {ending : S
 text_status (texts.invalid s i t e) = inr (inl e)
 text_status (texts.valid own v a t e) = inl e
 
+-- what comes of the operations of a value
+patched_status : {f : Form} {ops : List (Operation Form)} {text : List ℕ} {ending : Status} → ReportsPatched f ops text ending → IsOfInput ending
+patched_status (patch.unmade u t e) = inr (inl e)
+patched_status (patch.made a t e) = inl e
+
+-- and of a document
+patch_document_status : {document : List ℕ} {ops : List (Operation Form)} {text : List ℕ} {ending : Status} → ReportsPatch document ops text ending → IsOfInput ending
+patch_document_status (patch.invalid s i t e) = inr (inl e)
+patch_document_status (patch.valid v d r) = patched_status r
+
+-- a report by `patch`
+patch_status : {input text : List ℕ} {ending : Status} → IsPatchReport input text ending → IsOfInput ending
+patch_status (patch.no_text b t e) = inr (inr e)
+patch_status (patch.bad_patch u r t e) = inr (inr e)
+patch_status (patch.reports_patch u x r) = patch_document_status r
+
 -- a report by `gen`
 gen_status : {n : ℕ} {text : List ℕ} {ending : Status} → IsGenReport n text ending → IsOfInput ending
 gen_status (gen.invalid s i t e) = inr (inl e)
@@ -171,6 +190,7 @@ written_status (Indent width) input text ending r = text_status r
 written_status Index input text ending r = index_status r
 written_status Lines input text ending r = lines_status r
 written_status Min input text ending r = text_status r
+written_status Patch input text ending r = patch_status r
 written_status (Gen n) input text ending r = gen_status r
 
 -- what `gen` writes is so of each input

@@ -6,6 +6,7 @@ pub mod Fills
 pub mod Generated
 pub mod Get
 pub mod Items
+pub mod Patches
 pub mod Rows
 pub mod Texts
 use Rattle.std.specs.Prelude.{◌≡◌, ◌≢◌, List, [], ◌∷◌, ℕ, ◌≤◌, codes}
@@ -42,6 +43,7 @@ pub data Asks (words : List (List ℕ)) : Command → Type 0 where
   index_word : words ≡ codes "index" ∷ [] → Asks words command.Index
   lines_word : words ≡ codes "lines" ∷ [] → Asks words command.Lines
   min_word : words ≡ codes "min" ∷ [] → Asks words command.Min
+  patch_word : words ≡ codes "patch" ∷ [] → Asks words command.Patch
   gen_words : {n : ℕ} → words ≡ codes "gen" ∷ decimal n ∷ [] → 1 ≤ n → n ≤ most_objects → Asks words (command.Gen n)
 
 -- the words ask for some command

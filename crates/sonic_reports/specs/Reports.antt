@@ -13,6 +13,7 @@ use Rattle.sonic_reports.specs.Commands.Fills.{IsFillReport}
 use Rattle.sonic_reports.specs.Commands.Generated.{IsGenReport}
 use Rattle.sonic_reports.specs.Commands.Get.{IsGetReport}
 use Rattle.sonic_reports.specs.Commands.Items.{IsListReport}
+use Rattle.sonic_reports.specs.Commands.Patches.{IsPatchReport}
 use Rattle.sonic_reports.specs.Commands.Rows.{IsLinesReport}
 use Rattle.sonic_reports.specs.Commands.Texts.{IsMinReport, IsIndentReport}
 
@@ -27,6 +28,7 @@ Writes (command.Indent width) input text status = IsIndentReport width input tex
 Writes command.Index input text status = IsIndexReport input text status
 Writes command.Lines input text status = IsLinesReport input text status
 Writes command.Min input text status = IsMinReport input text status
+Writes command.Patch input text status = IsPatchReport input text status
 Writes (command.Gen n) input text status = IsGenReport n text status
 
 -- what a run with these words writes of an input

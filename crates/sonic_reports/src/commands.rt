@@ -19,6 +19,8 @@ pub(crate) mod index;
 pub(crate) mod lines;
 // What `list` writes: the items of the container that an input is.
 pub(crate) mod list;
+// What `patch` writes: what the patch in an input's first line makes of the rest.
+pub(crate) mod patch;
 // What `min` and `indent` write: a text of the document that an input is.
 pub(crate) mod texts;
 
@@ -49,6 +51,8 @@ pub enum Command {
     Lines,
     /// The document without white space outside strings. The word `min` asks for it.
     Min,
+    /// The document in the rest as the patch in the first line makes it. The word `patch` asks for it.
+    Patch,
     /// Counts over a document of so many objects, which it makes itself. The word `gen` and their
     /// number ask for it, and no input is read.
     Gen(u32),
@@ -88,6 +92,7 @@ fn named_command(word: &str) -> Option<Command>
         "index" => Some(Command::Index),
         "lines" => Some(Command::Lines),
         "min" => Some(Command::Min),
+        "patch" => Some(Command::Patch),
         _ => None,
     }
 }

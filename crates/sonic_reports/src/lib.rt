@@ -7,7 +7,7 @@ mod commands;
 mod entry_line;
 // The line of an error.
 mod error_line;
-// The law of the reports.
+// The laws of the reports.
 mod law;
 // A report that is ready, and its delivery.
 mod reply;
@@ -19,7 +19,7 @@ mod status;
 mod sure;
 
 pub use commands::{Command, MOST, MOST_BLANKS};
-pub use law::input_has_one_report;
+pub use law::{input_has_one_report, patch_writes_the_patched_tree};
 pub use runs::run;
 pub use status::Status;
 pub use sure::run_surely;

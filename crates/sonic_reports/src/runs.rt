@@ -7,7 +7,7 @@ ghost use Rattle.sonic_io.specs.Outside.{Rose};
 ghost use Rattle.sonic_reports.specs.Sessions.{outside_of, session_of, IsRun};
 
 use crate::commands::{
-    Command, asked_command, edit, fast, fill, generated, get, index, lines, list, texts,
+    Command, asked_command, edit, fast, fill, generated, get, index, lines, list, patch, texts,
 };
 use crate::reply::{Reply, deliver};
 use crate::status::Status;
@@ -21,7 +21,8 @@ use std::borrow::CowStr;
 /// `get` ask for the command that follows the paths of the input's head, by first equal keys; the three
 /// words `get`, `--keys` and `first`, `last` or `refuse` for the same under that rule; `list` for the items of
 /// the container that the input is, `edit` for the document as the edits of the input's head make it,
-/// `fill` for the schema in the first line as the rest fills it, `fast` for what `get` asks for where
+/// `fill` for the schema in the first line as the rest fills it, `patch` for the rest as the patch in the
+/// first line makes it, `fast` for what `get` asks for where
 /// the document is valid as a whole, `index` for where each of its values is, `lines` for where the
 /// paths of the head lead in each line after it, and `min` for the document without white space. The
 /// two words `indent` and a number up to `MOST_BLANKS` ask for the document over lines, and `gen` and a
@@ -127,6 +128,7 @@ fn answer<'i>(alloc: Global, request: &'i Request) -> Result<Reply<'i>, AllocErr
         Request::Input(Command::Index, input) => index::report(alloc, input),
         Request::Input(Command::Lines, input) => lines::report(alloc, input),
         Request::Input(Command::Min, input) => texts::small(alloc, input),
+        Request::Input(Command::Patch, input) => patch::report(alloc, input),
         Request::Input(Command::Gen(count), _) => generated::report(alloc, *count),
     }
 }

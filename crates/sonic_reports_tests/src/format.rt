@@ -7,7 +7,7 @@ use std::test::Fail;
 // Words, an input, its report, and the status.
 type Example = (&'static [&'static str], &'static [u8], &'static str, Status);
 
-const EXAMPLES: [Example; 52] = [
+const EXAMPLES: [Example; 58] = [
     (
         &[],
         b"[\"a\"]\n[\"b\",1]\n[\"c\"]\n\n{\"a\": \"x\", \"b\": [2, 30]}",
@@ -211,6 +211,37 @@ const EXAMPLES: [Example; 52] = [
         Status::DocumentError,
     ),
     (&["fill"], b"{\"a\":\n{}", "! schema 1\n", Status::BadLines),
+    (
+        &["patch"],
+        b"[{\"op\":\"add\",\"path\":\"/a/1\",\"value\":9},{\"op\":\"move\",\"from\":\"/a/0\",\"path\":\"/b\"}]\n{\"a\":[1,2]}",
+        "{\"a\":[9,2],\"b\":1}\n",
+        Status::Done,
+    ),
+    (
+        &["patch"],
+        b"[{\"op\":\"test\",\"path\":\"/a\",\"value\":1.0}]\n{\"a\":1}",
+        "! op 0 TestFailed\n",
+        Status::DocumentError,
+    ),
+    (
+        &["patch"],
+        b"[{\"op\":\"remove\",\"path\":\"/a/5\"}]\n{\"a\":[1]}",
+        "! op 0 Missing\n",
+        Status::DocumentError,
+    ),
+    (
+        &["patch"],
+        b"[{\"op\":\"move\",\"from\":\"/a\",\"path\":\"/a/b\"}]\n{\"a\":{}}",
+        "! op 0 IntoChild\n",
+        Status::DocumentError,
+    ),
+    (&["patch"], b"{}\n{}", "! patch 1\n", Status::BadLines),
+    (
+        &["patch"],
+        b"[]\n{\"a\":1} x",
+        "! syntax TrailingCharacters 1 9 8\n",
+        Status::DocumentError,
+    ),
     (
         &["fast"],
         b"[\"a\"]\n[\"b\"]\n\n{\"a\" : [ 1 ]} ",

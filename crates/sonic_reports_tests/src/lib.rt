@@ -44,6 +44,9 @@ mod lists;
 // One call after the other fails.
 #[cfg(test)]
 mod memory;
+// Runs of `patch`.
+#[cfg(test)]
+mod patches;
 // Where many paths lead.
 #[cfg(test)]
 mod paths;

@@ -12,19 +12,22 @@ from ctypes import Array, byref
 from typing import TYPE_CHECKING, Any, Generic, Iterable, Iterator, List, Optional, Sequence, TypeVar, Union, overload
 
 from . import _native
-from ._errors import BrokenText, Code, NotFound, PathError, SonicError, WrongType, error_of
+from ._errors import BrokenText, Code, DocumentError, Mismatch, NotFound, NotInteger, PathError, SonicError, Type, WrongType
+from ._errors import judge as _judge
 from ._native import Fault, Span, code_text
+from ._values import as_int, as_str, count, elements, members, type_of
 
 if TYPE_CHECKING:
     from typing_extensions import Buffer
 
 __version__ = "0.1.0"
 __all__ = [
-    "BrokenText", "Code", "Document", "NotFound", "PathError", "Paths", "SonicError", "WrongType",
-    "code_text", "get", "get_many", "validate",
+    "BrokenText", "Code", "Document", "DocumentError", "Mismatch", "NotFound", "NotInteger", "PathError", "Paths",
+    "SonicError", "Type", "WrongType", "as_int", "as_str", "code_text", "count", "elements", "get", "get_many",
+    "members", "type_of", "validate",
 ]  # fmt: skip
 
-for _kind in (BrokenText, Code, NotFound, PathError, SonicError, WrongType):
+for _kind in (BrokenText, Code, DocumentError, Mismatch, NotFound, NotInteger, PathError, SonicError, Type, WrongType):
     _kind.__module__ = __name__  # where they are called for, as a traceback tells
 
 Path = Sequence[Union[str, int]]
@@ -35,26 +38,6 @@ def _line(path: Path) -> bytes:
     if isinstance(path, (str, bytes, bytearray, memoryview)) or not isinstance(path, Sequence):
         raise TypeError(f"a path is a list or tuple of keys and indexes, and no {type(path).__name__}")
     return json.dumps(list(path)).encode()
-
-
-def _judge(status: int, fault: Fault, paths: Sequence[Path], index: int = 0) -> None:
-    """Raises what the status says."""
-    if status == _native.OK:
-        return
-    if status == _native.DOCUMENT_ERROR:
-        raise error_of(fault)
-    if status == _native.BAD_LINES:
-        raise PathError(paths[index], index)
-    if status == _native.NO_MEMORY:
-        raise MemoryError
-    raise AssertionError(f"status {status}")
-
-
-def _part(text: Any, source: _native.Source, span: Span) -> Any:
-    part = source[span.start : span.end]
-    if isinstance(text, str):
-        return str(part, "utf-8")
-    return bytes(part) if isinstance(text, bytes) else part
 
 
 class Paths:
@@ -98,12 +81,12 @@ def _get(name: str, text: Any, source: _native.Source, path: Path) -> Any:
     line, span, fault = _line(path), Span(), Fault()
     status = _native.call(name, source, line, len(line), byref(span), byref(fault))
     _judge(status, fault, [path])
-    return _part(text, source, span)
+    return _native.part_of(text, source, span)
 
 
 def _get_many(name: str, text: Any, source: _native.Source, paths: Union[Paths, Iterable[Path]]) -> List[Any]:
     spans = _ready(paths)._spans(name, source)
-    return [_part(text, source, span) if span.end else None for span in spans]
+    return [_native.part_of(text, source, span) if span.end else None for span in spans]
 
 
 def validate(text: Union[str, Buffer]) -> None:

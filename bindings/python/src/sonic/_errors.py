@@ -2,8 +2,9 @@
 from __future__ import annotations
 
 import enum
-from typing import Any
+from typing import Any, Sequence
 
+from . import _native
 from ._native import Fault, code_text
 
 
@@ -33,12 +34,27 @@ class Code(enum.IntEnum):
     MISMATCH = 100
 
 
+class Type(enum.IntEnum):
+    """The types of values, as sonic.h has them."""
+
+    NULL = 0
+    BOOLEAN = 1
+    NUMBER = 2
+    STRING = 3
+    OBJECT = 4
+    ARRAY = 5
+
+
 class SonicError(ValueError):
-    """Why there is no answer: the code, the line and the column from 1, and the offset from 0, all in
-    bytes of UTF-8. It is one of the three below."""
+    """Why there is no answer: a DocumentError, WrongType or NotInteger."""
+
+
+class DocumentError(SonicError):
+    """The text is broken, or a path leads nowhere in it: the code, the line and the column from 1, and the
+    offset from 0, all in bytes of UTF-8. It is BrokenText, NotFound or Mismatch."""
 
     def __init__(self, code: int, line: int, column: int, offset: int) -> None:
-        super().__init__(code, line, column, offset)
+        ValueError.__init__(self, code, line, column, offset)
         self.code, self.line, self.column, self.offset = code, line, column, offset
 
     @property
@@ -50,7 +66,7 @@ class SonicError(ValueError):
         return f"{self.words}: line {self.line} column {self.column} (byte {self.offset}), code {int(self.code)}"
 
 
-class BrokenText(SonicError):
+class BrokenText(DocumentError):
     """The text isn't JSON in UTF-8, as far as it was needed."""
 
     @property
@@ -59,12 +75,34 @@ class BrokenText(SonicError):
         return self.code == Code.EOF_WHILE_PARSING
 
 
-class NotFound(SonicError, LookupError):
+class NotFound(DocumentError, LookupError):
     """The object or the array on the way of the path has no such key or index."""
 
 
 class WrongType(SonicError, TypeError):
+    """A value is of another type than is asked for: `found` is its type."""
+
+    def __init__(self, found: Type) -> None:
+        ValueError.__init__(self, found)
+        self.found = found
+
+    def __str__(self) -> str:
+        return f"the value is of the type {self.found.name.lower()}, which wasn't asked for"
+
+
+class Mismatch(DocumentError, WrongType):
     """The value on the way of the path is neither the object nor the array that the path asks for."""
+
+    def __init__(self, code: int, line: int, column: int, offset: int) -> None:
+        DocumentError.__init__(self, code, line, column, offset)
+        self.found = Type((code - Code.MISMATCH) // 10)
+
+
+class NotInteger(SonicError):
+    """The number is no integer, or none in the range of the call."""
+
+    def __str__(self) -> str:
+        return "the number is no integer from -2**63 to 2**64 - 1"
 
 
 class PathError(ValueError):
@@ -81,7 +119,19 @@ class PathError(ValueError):
 _NOT_FOUND = range(Code.GET_IN_EMPTY_OBJECT, Code.GET_INDEX_OUT_OF_ARRAY + 1)
 
 
-def error_of(fault: Fault) -> SonicError:
-    """The error that a call told."""
-    kind = WrongType if fault.code >= Code.MISMATCH else NotFound if fault.code in _NOT_FOUND else BrokenText
+def _error_of(fault: Fault) -> DocumentError:
+    kind = Mismatch if fault.code >= Code.MISMATCH else NotFound if fault.code in _NOT_FOUND else BrokenText
     return kind(fault.code, fault.line, fault.column, fault.offset)
+
+
+def judge(status: int, fault: Fault, paths: Sequence[Any] = (), index: int = 0) -> None:
+    """Raises what the status says."""
+    if status == _native.OK:
+        return
+    if status == _native.DOCUMENT_ERROR:
+        raise _error_of(fault)
+    if status == _native.BAD_LINES:
+        raise PathError(paths[index], index)
+    if status == _native.NO_MEMORY:
+        raise MemoryError
+    raise AssertionError(f"status {status}")

@@ -3,11 +3,12 @@ from __future__ import annotations
 
 import ctypes
 import os
-from ctypes import POINTER, c_int, c_size_t, c_ssize_t, c_uint32, c_void_p
+from ctypes import POINTER, c_int, c_int64, c_size_t, c_ssize_t, c_uint32, c_uint64, c_void_p
 from typing import Any, Callable, Dict, Union
 
 # What a call comes to, as sonic.h says.
 OK, DOCUMENT_ERROR, WRONG_COUNT, BAD_LINES, NO_MEMORY = 0, 1, 2, 3, 7
+WRONG_TYPE, NO_INTEGER, END = 8, 9, 10
 
 
 class Span(ctypes.Structure):
@@ -22,6 +23,18 @@ class Fault(ctypes.Structure):
     _fields_ = [("code", c_uint32), ("line", c_size_t), ("column", c_size_t), ("offset", c_size_t)]
 
 
+class Items(ctypes.Structure):
+    """sonic_items."""
+
+    _fields_ = [("place", c_size_t), ("state", c_uint32)]
+
+
+class Item(ctypes.Structure):
+    """sonic_item."""
+
+    _fields_ = [("key", Span), ("value", Span)]
+
+
 _TEXT = (c_void_p, c_size_t)
 
 # What each call returns, and what it takes.
@@ -31,6 +44,13 @@ CALLS: Dict[str, Any] = {
     "sonic_get_unchecked": (c_uint32, [*_TEXT, *_TEXT, POINTER(Span), POINTER(Fault)]),
     "sonic_get_many": (c_uint32, [*_TEXT, *_TEXT, POINTER(Span), c_size_t, POINTER(Fault)]),
     "sonic_get_many_unchecked": (c_uint32, [*_TEXT, *_TEXT, POINTER(Span), c_size_t, POINTER(Fault)]),
+    "sonic_type": (c_uint32, [*_TEXT, POINTER(c_uint32), POINTER(Fault)]),
+    "sonic_u64": (c_uint32, [*_TEXT, POINTER(c_uint64), POINTER(Fault)]),
+    "sonic_i64": (c_uint32, [*_TEXT, POINTER(c_int64), POINTER(Fault)]),
+    "sonic_string_text": (c_uint32, [*_TEXT, c_void_p, c_size_t, POINTER(c_size_t), POINTER(Fault)]),
+    "sonic_count": (c_uint32, [*_TEXT, POINTER(c_size_t), POINTER(Fault)]),
+    "sonic_items_begin": (c_uint32, [*_TEXT, POINTER(Items), POINTER(Fault)]),
+    "sonic_items_next": (c_uint32, [*_TEXT, POINTER(Items), POINTER(Item), POINTER(Fault)]),
     "sonic_code_text": (c_size_t, [c_uint32, c_void_p, c_size_t]),
 }
 
@@ -93,6 +113,14 @@ def source_of(text: Any) -> Source:
     if isinstance(text, str):
         return str.encode(text)
     return memoryview(text).cast("B")
+
+
+def part_of(text: Any, source: Source, span: Span) -> Any:
+    """The part of a text that the span of its bytes has, of the text's kind."""
+    part = source[span.start : span.end]
+    if isinstance(text, str):
+        return str(part, "utf-8")
+    return bytes(part) if isinstance(text, bytes) else part
 
 
 def is_fixed(source: Source) -> bool:

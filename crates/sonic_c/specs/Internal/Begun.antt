@@ -24,9 +24,9 @@ pub data Misses (expected : Expected) (t : List ℕ) (refusal : Refusal) : Type 
   begins_other : (kind : JsonType) → Begins t kind → ¬ IsExpected expected kind → refusal ≡ WrongType → Misses expected t refusal
 
 -- why a text is refused that is asked for a value of an expected type
-pub data Refuses (expected : Expected) (t : List ℕ) (refusal : Refusal) : Type 0 where
-  misses : Misses expected t refusal → Refuses expected t refusal
-  is_invalid : (s : Stop) → HasBegun expected t → IsInvalid t true s → refusal ≡ At s → Refuses expected t refusal
+pub data RefusesText (expected : Expected) (t : List ℕ) (refusal : Refusal) : Type 0 where
+  misses : Misses expected t refusal → RefusesText expected t refusal
+  is_invalid : (s : Stop) → HasBegun expected t → IsInvalid t true s → refusal ≡ At s → RefusesText expected t refusal
 
 -- an error is at a place of the text
 abbrev pub IsStopIn : List ℕ → Refusal → Type 0
@@ -39,5 +39,5 @@ TellsRefusal t WrongType before after status = (status ≡ status_wrong_type) ×
 TellsRefusal t (At s) before after status = (status ≡ status_document_error) × AreNumbersOf t s after
 
 -- something follows the value that ends at e
-abbrev pub IsRest : List ℕ → ℕ → Stop → Type 0
-IsRest t e s = (after_space t e < length t) × (s ≡ record { place = after_space t e; code = TrailingCharacters })
+abbrev pub IsTrailing : List ℕ → ℕ → Stop → Type 0
+IsTrailing t e s = (after_space t e < length t) × (s ≡ record { place = after_space t e; code = TrailingCharacters })

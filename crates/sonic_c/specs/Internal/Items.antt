@@ -4,16 +4,16 @@ use Rattle.sonic_parser.specs.declared.fault.Fault.{Fault as Cause}
 use Rattle.sonic_parser.specs.declared.fault.Fault.TheVariants.{OutOfMemory, At}
 use Rattle.sonic_text.specs.Places.{after_space}
 use Rattle.sonic_text.specs.declared.stop.Stop.{Stop}
-use Rattle.sonic_c.specs.Internal.Begun.{IsRest}
+use Rattle.sonic_c.specs.Internal.Begun.{IsTrailing}
 use Rattle.sonic_c.specs.Statuses.{status_ok, status_document_error, status_no_memory, status_end}
 use Rattle.sonic_c.specs.Told.{AreNumbersOf}
 use Rattle.sonic_c.specs.Values.{ValueCells}
 use Rattle.sonic_c.specs.declared.fault.Fault.{Fault}
 
 -- nothing but white space follows the container that ends at e, or what follows is told
-pub data Closes (t : List ℕ) (e : ℕ) (before after : Fault) (status : ℕ) : Type 0 where
-  closes : after_space t e ≡ length t → status ≡ status_end → after ≡ before → Closes t e before after status
-  goes_past : (s : Stop) → IsRest t e s → status ≡ status_document_error → AreNumbersOf t s after → Closes t e before after status
+pub data TellsClosing (t : List ℕ) (e : ℕ) (before after : Fault) (status : ℕ) : Type 0 where
+  closes : after_space t e ≡ length t → status ≡ status_end → after ≡ before → TellsClosing t e before after status
+  goes_past : (s : Stop) → IsTrailing t e s → status ≡ status_document_error → AreNumbersOf t s after → TellsClosing t e before after status
 
 -- how many items there are is told, or why that isn't known
 abbrev pub TellsCount : List ℕ → Result ℕ Cause → ValueCells ℕ → ValueCells ℕ → ℕ → Type 0

@@ -17,9 +17,9 @@ pub data TellsError (e : Error) (before after : Fault) (status : ℕ) : Type 0 w
   told : error_code e ≢ NoMemory → status ≡ status_document_error → after ≡ numbers_of e → TellsError e before after status
 
 -- a span is told, or an error
-abbrev pub Tells : Result Slot Error → Cells → Cells → ℕ → Type 0
-Tells (Ok found) before after status = (status ≡ status_ok) × (after.span ≡ record { start = found.start; end = found.end }) × (after.error ≡ before.error)
-Tells (Err e) before after status = TellsError e before.error after.error status × (after.span ≡ before.span)
+abbrev pub TellsSlot : Result Slot Error → Cells → Cells → ℕ → Type 0
+TellsSlot (Ok found) before after status = (status ≡ status_ok) × (after.span ≡ record { start = found.start; end = found.end }) × (after.error ≡ before.error)
+TellsSlot (Err e) before after status = TellsError e before.error after.error status × (after.span ≡ before.span)
 
 -- lines are refused, as they say no paths, or not so many, or for want of memory
 pub data RefusesLines (lines : List ℕ) (count : ℕ) (before after : Fault) (status : ℕ) : Type 0 where

@@ -3,7 +3,7 @@ use Rattle.std.specs.Prelude.{◌≡◌, ℕ, List, codes}
 use Rattle.std.specs.Cow.{cow_str_bytes}
 use Rattle.sonic_lazy.specs.LazyValues.{raw_bytes}
 use Rattle.sonic_owned.specs.Forms.{Form, raw}
-use Rattle.sonic_patch.specs.Internal.Pieces.{IsRead}
+use Rattle.sonic_patch.specs.Internal.Pieces.{IsReadBy}
 use Rattle.sonic_patch.specs.Operations as operations
 use Rattle.sonic_patch.specs.Operations.{Operation}
 use Rattle.sonic_patch.specs.Pointers.{Token}
@@ -61,9 +61,9 @@ HasTexts object (of_paired w from path) = SaysText object (codes "op") (paired_w
 
 -- the pointers among the texts are read so
 abbrev pub AreRead : (List ℕ → List Token → Type 0) → Texts → Type 0
-AreRead Reads (of_remove path) = IsRead Reads path
-AreRead Reads (of_valued w path value) = IsRead Reads path
-AreRead Reads (of_paired w from path) = IsRead Reads from × IsRead Reads path
+AreRead Reads (of_remove path) = IsReadBy Reads path
+AreRead Reads (of_valued w path value) = IsReadBy Reads path
+AreRead Reads (of_paired w from path) = IsReadBy Reads from × IsReadBy Reads path
 
 -- and make this operation
 abbrev pub Makes : (List ℕ → List Token → Type 0) → Texts → Operation Form → Type 0

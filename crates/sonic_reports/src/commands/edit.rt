@@ -45,7 +45,7 @@ fn report_edits<'i>(
 }
 
 // The value of a whole document.
-fn read(alloc: Global, document: &[u8]) -> sonic_error::Result<OwnedLazyValue>
+pub(crate) fn read(alloc: Global, document: &[u8]) -> sonic_error::Result<OwnedLazyValue>
     ensures ok { IfOk result (λ value. IsRawDocument document.now (form value)) }
     ensures valid { OnOk result (IsValidDocument document.now) }
     ensures err { IfErr result (IsInvalidError document.now true) }

@@ -27,7 +27,7 @@ pub(crate) fn report<'i>(alloc: Global, input: &[u8]) -> Result<Reply<'i>, Alloc
 }
 
 // What comes after the first line, which ends there.
-fn after_line(input: &[u8], end: usize) -> &[u8]
+pub(crate) fn after_line(input: &[u8], end: usize) -> &[u8]
     requires { end ≡ line_end input.now 0 }
     ensures { result.now ≡ after_first_line input.now }
 {

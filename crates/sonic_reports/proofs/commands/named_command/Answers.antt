@@ -1,5 +1,5 @@
 use Rattle.std.proofs.Common.{ap, ◌∷◌, []}
-use Rattle.sonic_reports.specs.Commands.Asks.{get_word, list_word, edit_word, fill_word, fast_word, index_word, lines_word, min_word}
+use Rattle.sonic_reports.specs.Commands.Asks.{get_word, list_word, edit_word, fill_word, fast_word, index_word, lines_word, min_word, patch_word}
 use Rattle.sonic_reports.proofs.commands.named_command.Goals as goal
 
 pub returns-in-get-clause-asked : goal.returns-in-get-clause-asked
@@ -25,3 +25,6 @@ returns-in-lines-clause-asked c = lines_word (ap (λ w. w ∷ []) c.in-lines.is)
 
 pub returns-in-min-clause-asked : goal.returns-in-min-clause-asked
 returns-in-min-clause-asked c = min_word (ap (λ w. w ∷ []) c.in-min.is)
+
+pub returns-in-patch-clause-asked : goal.returns-in-patch-clause-asked
+returns-in-patch-clause-asked c = patch_word (ap (λ w. w ∷ []) c.in-patch.is)

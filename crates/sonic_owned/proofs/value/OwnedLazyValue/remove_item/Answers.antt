@@ -20,7 +20,8 @@ pub returns-in_err-load : goal.returns-in_err-load
 returns-in_err-load c =
     let led = some_of c.get.result c.is_none.ensures c.if-is_none.false c.get.ensures.some in
     change_stopped c.from_residual.result c.from_residual.ensures.0 (search rules)
-    (closed_of (form c.args.self.now) c.in_err-load.ensures.memory (led_kind (value_sound c.args.self.now) led.1)) (as_before c.in_err-load.ensures.same)
+    (closed_of (form c.args.self.now) c.in_err-load.ensures.memory (led_kind (value_sound c.args.self.now) led.1), (view_form led.0, led.1))
+    (as_before c.in_err-load.ensures.same)
 
 pub unreachable-requires : goal.unreachable-requires
 unreachable-requires c =

@@ -1,0 +1,63 @@
+//! That memory may run out in the library, and which calls take none.
+use sonic::{as_i64, as_str, as_u64, count, elements, get, members, path, type_of};
+use sonic::{validate, Error};
+use std::cell::Cell;
+use std::ffi::c_void;
+
+thread_local! {
+    static IS_REFUSED: Cell<bool> = const { Cell::new(false) };
+}
+
+extern "C" {
+    fn __libc_malloc(size: usize) -> *mut c_void;
+}
+
+/// What the library takes memory by, and Rust too.
+#[no_mangle]
+extern "C" fn malloc(size: usize) -> *mut c_void {
+    if IS_REFUSED.with(Cell::get) {
+        return std::ptr::null_mut();
+    }
+    // SAFETY: it is what this call was but for this file.
+    unsafe { __libc_malloc(size) }
+}
+
+/// What a call comes to while no memory is to be had.
+fn refused<V>(call: impl FnOnce() -> V) -> V {
+    IS_REFUSED.with(|it| it.set(true));
+    let found = call();
+    IS_REFUSED.with(|it| it.set(false));
+    found
+}
+
+#[test]
+fn runs_out() {
+    const DEEP: &str = r#"{"a\n": [[[7]]]}"#;
+    let (key, none) = (path!["a\n"], Error::NoMemory);
+    assert_eq!(refused(|| get(DEEP, &key)), Err(none));
+    assert_eq!(refused(|| validate(DEEP).map(|_| ())), Err(none));
+    assert_eq!(refused(|| count(DEEP)), Err(none));
+    assert_eq!(refused(|| as_str(r#""a\n""#)), Err(none));
+}
+
+#[test]
+fn goes_on_where_it_was() {
+    let mut found = refused(|| elements("[1, [[2]]]")).unwrap();
+    assert_eq!(refused(|| found.next()), Some(Ok("1")));
+    assert_eq!(refused(|| found.next()), Some(Err(Error::NoMemory)));
+    assert_eq!(refused(|| found.next()), Some(Err(Error::NoMemory)));
+    assert_eq!(found.next(), Some(Ok("[[2]]")));
+    assert_eq!(refused(|| found.next()), None);
+    let mut found = refused(|| members(r#"{"a": [[2]]}"#)).unwrap();
+    assert_eq!(refused(|| found.next()), Some(Err(Error::NoMemory)));
+    assert_eq!(found.next(), Some(Ok((r#""a""#, "[[2]]"))));
+}
+
+#[test]
+fn takes_none() {
+    assert!(refused(|| type_of("[1, 2]")).is_ok());
+    assert_eq!(refused(|| as_u64(" 12 ")), Ok(12));
+    assert_eq!(refused(|| as_i64("-12")), Ok(-12));
+    assert!(refused(|| as_u64("[")).is_err());
+    assert_eq!(refused(|| as_str(r#" "Zoë" "#)).unwrap(), "Zoë");
+}
