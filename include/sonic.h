@@ -1,6 +1,8 @@
 /* Look-ups in a JSON text (RFC 8259) that is in memory: where paths of keys and indexes lead, and what
-   the values are that are found, without building the document. The calls are proved to tell what the
-   standard says; crates/sonic_c of the repository has their contracts, and sonic(3) an example.
+   the values are that are found, without building the document; and texts that are made of one: without
+   white space or over lines, with edits or with a patch (RFC 6902), and of a schema that is filled from
+   it. The calls are proved to tell what the standards say; crates/sonic_c of the repository has their
+   contracts, and sonic(3) an example.
 
    What C has to uphold, as no call can check it:
    - A pointer is null only where its length is 0, which is taken as "": that is tested, as what is
@@ -8,21 +10,23 @@
    - A length is that of memory that is there, and is below 2^63.
    - What is written to, as *span, spans, *error and room, is initialised, and overlaps nothing else that
      is given.
-   - Nobody writes to the text, or to the paths, while a call runs.
+   - Nobody writes to the text, or to the paths, the edits, the patch or the schema, while a call runs.
    - sonic_get_unchecked and sonic_get_many_unchecked are called only for a text that sonic_validate
      took, or of which it is known otherwise that it begins with a value in UTF-8.
    - No call is made from a signal handler.
 
    Ownership: all memory that is given stays the caller's. No call keeps a pointer, and nothing that a
-   call gives is to be freed: spans are places in the caller's text, and a cursor is the caller's.
+   call gives is to be freed: spans are places in the caller's text, a cursor is the caller's, and so is the
+   room for a text.
    Memory: where a call takes any, it does so by malloc, and gives it back before it returns; which take
    none is said with them.
    Threads: nothing is kept between calls, so any number of threads may call at once, also for one text,
    a cursor or a room for each.
-   Stack: 256 KiB were measured to be enough for each call, with paths of 255 nodes; how deep the text is
-   plays no part in it.
-   Limits: a path has at most 255 nodes, and an index is below 2^64. How long or deep a text is, and how
-   many paths there are, memory alone limits. */
+   Stack: 256 KiB were measured to be enough for each call, with paths of 255 nodes, but 512 KiB for sonic_patch
+   and sonic_edit, with pointers and paths of so many; how deep the text is plays no part in it.
+   Limits: a path has at most 255 nodes, a pointer 255 tokens, and an index is below 2^64. How long or deep a
+   text is, and how many paths, edits or operations there are, memory alone limits, but for the depth of what
+   sonic_fill reads. */
 #ifndef SONIC_H
 #define SONIC_H
 
@@ -56,8 +60,8 @@ typedef struct sonic_error {
   size_t offset;
 } sonic_error;
 
-/* What a call comes to. What isn't told is left as it was: *span and spans are written where it is
-   SONIC_OK alone, and *error only where the status says so here. */
+/* What a call comes to. What isn't told is left as it was: *span, spans, room and *wanted are written where
+   it is SONIC_OK alone, and *error only where the status says so here. */
 enum {
   /* What was asked for is there, and is told. */
   SONIC_OK = 0,
@@ -66,8 +70,8 @@ enum {
   /* There are not as many paths as spans: error->line is the number of paths, and all else in *error
      is 0. */
   SONIC_WRONG_COUNT = 2,
-  /* The path is none, and *error is left as it was; or, of many, error->line is the number of the first
-     line that is none, from 1, and all else in *error is 0. */
+  /* The path is none, and *error is left as it was; or, of many paths, or of edits, error->line is the number
+     of the first line that is none, from 1, and all else in *error is 0. */
   SONIC_BAD_LINES = 3,
   /* Memory ran out. The call may be made again, as nothing was changed. */
   SONIC_NO_MEMORY = 7,
@@ -76,7 +80,28 @@ enum {
   /* The number is no integer that the call can tell. */
   SONIC_NO_INTEGER = 9,
   /* No item is left. */
-  SONIC_END = 10
+  SONIC_END = 10,
+  /* The width is above 8. */
+  SONIC_BAD_WIDTH = 11,
+  /* The patch is no JSON text, and *error says why, and where in the patch; or it is one, but no array, and
+     all in *error is 0. */
+  SONIC_BAD_PATCH = 12,
+  /* An element of the patch is no operation: error->line is the number of the first one, from 0, and all else
+     in *error is 0. */
+  SONIC_BAD_OPERATION = 13,
+  /* An operation of the patch isn't made, as a pointer of it leads to nothing: error->line is the number of
+     the operation, from 0, and all else in *error is 0. */
+  SONIC_MISSING = 14,
+  /* The same, as the value is another one than it tests for. */
+  SONIC_TEST_FAILED = 15,
+  /* The same, as it would move a value into itself. */
+  SONIC_INTO_CHILD = 16,
+  /* An edit isn't made, as its path leads to nothing or to a value of another type than it needs:
+     error->line is the number of its line, from 1, and all else in *error is 0. */
+  SONIC_EDIT_REFUSED = 17,
+  /* The schema isn't read as JSON, and *error says why, and where in the schema; or it is no object, and all
+     in *error is 0. */
+  SONIC_BAD_SCHEMA = 18
 };
 
 /* The types of values. */
@@ -194,6 +219,70 @@ uint32_t sonic_items_begin(const uint8_t *json, size_t json_length, sonic_items 
 uint32_t sonic_items_next(const uint8_t *json, size_t json_length, sonic_items *items, sonic_item *item,
                           sonic_error *error);
 
+/* What text is made of a document: each call from here to sonic_fill makes a text, and writes as much of it as
+   the room takes to the room's start, maybe a part of a character last, with no NUL after it; the room's rest
+   is left as it was. *wanted is the length of all of the text, in bytes, so it was cut if that is above
+   room_length; a room of 0 asks for the length alone. The text is made as a whole, in memory that the call
+   takes by malloc and gives back, however much the room takes: to ask for the length costs as much as the
+   text, so a first guess of the room saves a call. How long a text is at most is said with each call. It is a
+   document in UTF-8. room and *wanted are left as they were after any status but SONIC_OK, and *error after
+   SONIC_OK and SONIC_NO_MEMORY. But for sonic_fill, what is no document is SONIC_DOCUMENT_ERROR, with the error
+   that sonic_validate tells of it. Other statuses than these three are said with each call. */
+
+/* The document without white space outside strings, as [1,"a b"] of [ 1 , "a b" ]. Scalars and keys keep their
+   bytes, escapes and digits with them; members keep their order and their repeats. It is no longer than the
+   document. Takes as much memory as the document is long, and what sonic_validate takes. */
+uint32_t sonic_minify(const uint8_t *json, size_t json_length, uint8_t *room, size_t room_length,
+                      size_t *wanted, sonic_error *error);
+
+/* The document over lines, with width blanks for each level of depth, from 0 to 8. An opening bracket ends its
+   line, and a closing one has a line of its own; an empty container is [] or {}, and one blank is after the
+   colon of a key. No line feed ends the text. All else is as in sonic_minify. It may be much longer than the
+   document: of n arrays in each other about width times the square of n.
+
+   SONIC_BAD_WIDTH: the width is above 8, whatever the document is; *error is left as it was. */
+uint32_t sonic_indent(const uint8_t *json, size_t json_length, size_t width, uint8_t *room,
+                      size_t room_length, size_t *wanted, sonic_error *error);
+
+/* The document with a patch (RFC 6902): the operations are made in order, all of them or none. What no
+   operation changes keeps its text; the arrays and objects on the way to a change are written without white
+   space. Of equal keys the first counts. A pointer has at most 255 tokens. A test compares members in any
+   order, and numbers by their digits, so that 1 and 1.0 differ. To remove the whole document leaves null. It
+   is no longer than the document, the patch and the values that are copied together.
+
+   SONIC_BAD_PATCH, SONIC_BAD_OPERATION: the patch is none, whatever the document is.
+   SONIC_DOCUMENT_ERROR: it is one, and the document is none.
+   SONIC_MISSING, SONIC_TEST_FAILED, SONIC_INTO_CHILD: the first operation that isn't made. */
+uint32_t sonic_patch(const uint8_t *json, size_t json_length, const uint8_t *patch, size_t patch_length,
+                     uint8_t *room, size_t room_length, size_t *wanted, sonic_error *error);
+
+/* The document with edits, all of them or none. There is an edit on each line, and no blank line among them:
+   ["set",PATH,VALUE] puts a value where a path leads, ["push",PATH,VALUE] after the last element of the array
+   there, ["pair",PATH,KEY,VALUE] after the last member of the object there, and ["take",PATH] puts null. A
+   path is as for sonic_get. What no edit changes keeps its text; the arrays and objects on the way to a
+   change, and one to which is added, are written without white space. It is no longer than the document and
+   the edits together.
+
+   SONIC_BAD_LINES: a line says no edit, or is blank with more after it, whatever the document is.
+   SONIC_DOCUMENT_ERROR: each line says one, and the document is none.
+   SONIC_EDIT_REFUSED: the first edit that isn't made. */
+uint32_t sonic_edit(const uint8_t *json, size_t json_length, const uint8_t *edits, size_t edits_length,
+                    uint8_t *room, size_t room_length, size_t *wanted, sonic_error *error);
+
+/* The schema, an object, filled from the value that begins the text; what follows it may be anything. Each
+   member of the schema gets the value that the text's object has for its key, and keeps its own where that has
+   none; what the schema lacks is left out. An object with members is filled in the same way, and any other
+   value is replaced. Of equal keys of the schema the last counts; those of the text fill one after the other.
+   What is made has no white space, and as few escapes as may be; it is no longer than the text and the schema
+   together.
+
+   SONIC_BAD_SCHEMA: the schema isn't read, or is no object, whatever the text is. One with 255 containers
+   open at once is the deepest that is read.
+   SONIC_DOCUMENT_ERROR: the text is broken before its value ends, or has more than 255 containers open at
+   once in a value that takes the place of another. */
+uint32_t sonic_fill(const uint8_t *json, size_t json_length, const uint8_t *schema, size_t schema_length,
+                    uint8_t *room, size_t room_length, size_t *wanted, sonic_error *error);
+
 /* The words of a code, as "Invalid number" of SONIC_CODE_INVALID_NUMBER, in UTF-8 and with no NUL after
    them. As much of them as the room takes is written to its start, and its rest is left as it was; 128
    bytes take those of each code. The length of all of them is returned, as snprintf does, so they were
@@ -228,9 +317,11 @@ enum {
   SONIC_CODE_CONTROL_CHARACTER_WHILE_PARSING_STRING = 16,
   /* A key or a closing brace is expected, and no quote is here; after a comma, a key. */
   SONIC_CODE_EXPECT_OBJECT_KEY_OR_END = 17,
-  /* Something follows the value that was to be the whole text: of sonic_validate, and of the calls that read
-     one value. */
+  /* Something follows the value that was to be the whole text: of sonic_validate, of the calls that read one
+     value, and of those that make a text. */
   SONIC_CODE_TRAILING_CHARACTERS = 19,
+  /* More than 255 containers are open at once: of sonic_fill alone. */
+  SONIC_CODE_RECURSION_LIMIT_EXCEEDED = 20,
   /* A key of a path comes to an object without members. */
   SONIC_CODE_GET_IN_EMPTY_OBJECT = 21,
   /* No member of the object has the key of the path: of sonic_get and sonic_get_unchecked alone. */

@@ -45,6 +45,8 @@ static const row rows[] = {
     {CODE(CONTROL_CHARACTER_WHILE_PARSING_STRING), "Control character found while parsing a string", "\n \"a\tb\"", NULL, 4},
     {CODE(EXPECT_OBJECT_KEY_OR_END), "Expected this character to be '\"' or '}'", "\n {\"a\":1,}", NULL, 9},
     {CODE(TRAILING_CHARACTERS), "JSON has non-whitespace trailing characters after the value", "\n [1] 2", NULL, 6},
+    /* That more than 255 containers are open is told of a schema alone, or of a value that fills one. */
+    {CODE(RECURSION_LIMIT_EXCEEDED), "Encountered nesting of JSON maps and arrays more than 255 layers deep", NULL, NULL, 0},
     {CODE(GET_IN_EMPTY_OBJECT), "Get value from an empty object", "\n {}", "[\"a\"]", 3},
     {CODE(GET_UNKNOWN_KEY_IN_OBJECT), "Get unknown key from the object", "\n {\"a\":1}", "[\"b\"]", 8},
     {CODE(GET_IN_EMPTY_ARRAY), "Get value from an empty array", "\n []", "[0]", 3},
@@ -174,6 +176,57 @@ static void check_values(void) {
   printf("status %u: after the last item\n", status);
 }
 
+/* Each status of the calls that make a text. */
+static void check_made(void) {
+  static const char removal[] = "[{\"op\":\"remove\",\"path\":\"/1\"}]", test[] = "[{\"op\":\"remove\",\"path\":\"\"},{\"op\":\"test\"}]";
+  size_t wanted = 91;
+  uint8_t room[4] = {'.', '.', '.', '.'};
+  sonic_error error = {93, 94, 95, 96};
+  check(sonic_minify(bytes("[ 1 ]"), 5, room, 4, &wanted, &error) == SONIC_OK && wanted == 3 && memcmp(room, "[1].", 4) == 0
+            && is_error(&error, 93, 94, 95, 96),
+        "OK", "sonic_minify");
+  check(sonic_indent(bytes("[1]"), 3, 2, room, 4, &wanted, &error) == SONIC_OK && wanted == 7 && memcmp(room, "[\n  ", 4) == 0,
+        "OK", "sonic_indent");
+  uint32_t status = sonic_indent(bytes("[1]"), 3, 9, room, 4, &wanted, &error);
+  check(status == SONIC_BAD_WIDTH && wanted == 7 && is_error(&error, 93, 94, 95, 96), "BAD_WIDTH", "sonic_indent");
+  printf("status %u: a width of 9\n", status);
+  check(sonic_patch(bytes("[7,8]"), 5, bytes(removal), strlen(removal), room, 4, &wanted, &error) == SONIC_OK && wanted == 3
+            && memcmp(room, "[7] ", 4) == 0,
+        "OK", "sonic_patch");
+  status = sonic_patch(bytes("[7]"), 3, bytes("[\n,]"), 4, room, 4, &wanted, &error);
+  check(status == SONIC_BAD_PATCH && is_error(&error, SONIC_CODE_INVALID_JSON_VALUE, 2, 1, 2), "BAD_PATCH", "sonic_patch");
+  printf("status %u: code %u, line %zu, column %zu, offset %zu\n", status, error.code, error.line, error.column, error.offset);
+  status = sonic_patch(bytes("[7]"), 3, bytes("{}"), 2, room, 4, &wanted, &error);
+  check(status == SONIC_BAD_PATCH && is_error(&error, 0, 0, 0, 0), "BAD_PATCH", "sonic_patch");
+  status = sonic_patch(bytes("[7]"), 3, bytes(test), strlen(test), room, 4, &wanted, &error);
+  check(status == SONIC_BAD_OPERATION && is_error(&error, 0, 1, 0, 0), "BAD_OPERATION", "sonic_patch");
+  printf("status %u: line %zu\n", status, error.line);
+  status = sonic_patch(bytes("[7]"), 3, bytes(removal), strlen(removal), room, 4, &wanted, &error);
+  check(status == SONIC_MISSING && is_error(&error, 0, 0, 0, 0), "MISSING", "sonic_patch");
+  printf("status %u: line %zu\n", status, error.line);
+  static const char tests[] = "[{\"op\":\"test\",\"path\":\"\",\"value\":1},{\"op\":\"test\",\"path\":\"\",\"value\":2}]";
+  status = sonic_patch(bytes("1"), 1, bytes(tests), strlen(tests), room, 4, &wanted, &error);
+  check(status == SONIC_TEST_FAILED && is_error(&error, 0, 1, 0, 0), "TEST_FAILED", "sonic_patch");
+  printf("status %u: line %zu\n", status, error.line);
+  static const char moves[] = "[{\"op\":\"move\",\"from\":\"/0\",\"path\":\"/0/0\"}]";
+  status = sonic_patch(bytes("[[]]"), 4, bytes(moves), strlen(moves), room, 4, &wanted, &error);
+  check(status == SONIC_INTO_CHILD && is_error(&error, 0, 0, 0, 0), "INTO_CHILD", "sonic_patch");
+  printf("status %u: line %zu\n", status, error.line);
+  status = sonic_edit(bytes("[7]"), 3, bytes("[\"take\",[]]\n[]\n"), 15, room, 4, &wanted, &error);
+  check(status == SONIC_BAD_LINES && is_error(&error, 0, 2, 0, 0), "BAD_LINES", "sonic_edit");
+  status = sonic_edit(bytes("[7]"), 3, bytes("[\"take\",[1]]\n"), 13, room, 4, &wanted, &error);
+  check(status == SONIC_EDIT_REFUSED && is_error(&error, 0, 1, 0, 0), "EDIT_REFUSED", "sonic_edit");
+  printf("status %u: line %zu\n", status, error.line);
+  status = sonic_fill(bytes("{}"), 2, bytes("{\"a\"}"), 5, room, 4, &wanted, &error);
+  check(status == SONIC_BAD_SCHEMA && is_error(&error, SONIC_CODE_EXPECTED_COLON, 1, 5, 4), "BAD_SCHEMA", "sonic_fill");
+  printf("status %u: code %u, line %zu, column %zu, offset %zu\n", status, error.code, error.line, error.column, error.offset);
+  check(wanted == 3 && memcmp(room, "[7] ", 4) == 0, "a refusal", "a text");
+  check(sonic_edit(bytes("[7]"), 3, bytes("[\"take\",[]]"), 11, room, 4, &wanted, &error) == SONIC_OK && wanted == 4
+            && memcmp(room, "null", 4) == 0,
+        "OK", "sonic_edit");
+  check(sonic_fill(bytes("{\"a\":5}"), 7, bytes("{}"), 2, room, 4, &wanted, &error) == SONIC_OK && wanted == 7, "OK", "sonic_fill");
+}
+
 /* Where a length is 0, null is as good as "". */
 static void check_null(void) {
   sonic_span span = {91, 92};
@@ -189,6 +242,11 @@ static void check_null(void) {
   check(span.start == 91 && span.end == 92, "null", "the span");
   check(sonic_get_many(NULL, 0, NULL, 0, NULL, 0, &error) == SONIC_OK, "null", "sonic_get_many");
   check(sonic_get_many_unchecked(bytes("1"), 1, NULL, 0, NULL, 0, &error) == SONIC_OK, "null", "sonic_get_many_unchecked");
+  size_t wanted = 91;
+  check(sonic_minify(bytes("[ 1 ]"), 5, NULL, 0, &wanted, &error) == SONIC_OK && wanted == 3, "null", "sonic_minify");
+  check(sonic_edit(bytes("1"), 1, NULL, 0, NULL, 0, &wanted, &error) == SONIC_OK && wanted == 1, "null", "sonic_edit");
+  check(sonic_patch(bytes("1"), 1, NULL, 0, NULL, 0, &wanted, &error) == SONIC_BAD_PATCH, "null", "sonic_patch");
+  check(sonic_fill(NULL, 0, bytes("{}"), 2, NULL, 0, &wanted, &error) == SONIC_DOCUMENT_ERROR, "null", "sonic_fill");
   check(sonic_code_text(SONIC_CODE_INVALID_NUMBER, NULL, 0) == strlen("Invalid number"), "null", "sonic_code_text");
   printf("null with length 0 is taken as \"\"\n");
 }
@@ -204,6 +262,7 @@ int main(void) {
   check_version();
   check_statuses();
   check_values();
+  check_made();
   for (size_t i = 0; i < sizeof rows / sizeof *rows; i++) check_row(&rows[i]);
   check_texts();
   check_null();

@@ -122,6 +122,58 @@ static size_t items_next(cells *told) {
   return sonic_items_next(bytes(json), strlen(json), &told->items, &told->item, &told->error);
 }
 
+static size_t minify(cells *told) {
+  return sonic_minify(bytes(json), strlen(json), told->room, sizeof told->room, &told->wanted, &told->error);
+}
+
+static size_t minify_cut(cells *told) {
+  return sonic_minify(bytes(json), strlen(json) - 1, told->room, sizeof told->room, &told->wanted, &told->error);
+}
+
+static size_t indent(cells *told) {
+  return sonic_indent(bytes(json), strlen(json), 2, told->room, sizeof told->room, &told->wanted, &told->error);
+}
+
+static size_t patch_by(cells *told, const char *patch) {
+  return sonic_patch(bytes(json), strlen(json), bytes(patch), strlen(patch), told->room, sizeof told->room, &told->wanted,
+                     &told->error);
+}
+
+static size_t patch(cells *told) {
+  return patch_by(told, "[{\"op\":\"add\",\"path\":\"/list/0\",\"value\":{\"\\u0061\":[1]}},"
+                        "{\"op\":\"test\",\"path\":\"/list/2\",\"value\":\"t\\u0077o\"},"
+                        "{\"op\":\"move\",\"from\":\"/key/b\\n\",\"path\":\"/end\"}]");
+}
+
+static size_t patch_that_fails(cells *told) {
+  return patch_by(told, "[{\"op\":\"copy\",\"from\":\"/list\",\"path\":\"/new\"},"
+                        "{\"op\":\"test\",\"path\":\"/new\",\"value\":{\"a\":[1,2]}}]");
+}
+
+static size_t patch_cut(cells *told) { return patch_by(told, "[{\"op\":\"remove\",\"path\":\"/\\u0061\"},{"); }
+
+static size_t edit_by(cells *told, const char *edits) {
+  return sonic_edit(bytes(json), strlen(json), bytes(edits), strlen(edits), told->room, sizeof told->room, &told->wanted,
+                    &told->error);
+}
+
+static size_t edit(cells *told) {
+  return edit_by(told, "[\"set\",[\"list\",0],{\"a\":1}]\n[\"push\",[\"list\"],\"x\\n\"]\n[\"pair\",[],\"\\u0061\",[]]\n");
+}
+
+static size_t edit_that_fails(cells *told) { return edit_by(told, "[\"take\",[\"list\",2]]\n[\"push\",[\"end\"],1]\n"); }
+
+static size_t fill(cells *told) {
+  const char *schema = "{\"l\\u0069st\": 0, \"end\": {\"a\": 1}, \"more\": [\"y\\n\", 2.5]}";
+  return sonic_fill(bytes(json), strlen(json), bytes(schema), strlen(schema), told->room, sizeof told->room, &told->wanted,
+                    &told->error);
+}
+
+static size_t fill_from_cut(cells *told) {
+  return sonic_fill(bytes(json), strlen(json) - 1, bytes("{\"list\":0}"), 10, told->room, sizeof told->room, &told->wanted,
+                    &told->error);
+}
+
 /* What a call is to answer and to leave, unrefused and refused. */
 typedef struct answers {
   size_t plain, refused;
@@ -138,7 +190,7 @@ static int run_once(call *one, const answers *want) {
   int plain = live == 0 && told == want->plain && same(&now, &want->after);
   if (asked < refused) return plain ? 0 : 3;
   if (live == 0 && told == want->refused && same(&now, &want->before)) return 1;
-  return plain && !onwards ? 2 : 3;
+  return plain ? 2 : 3;
 }
 
 /* Refuses each allocation of the call in turn, until there is none to refuse: that one alone, and then all
@@ -180,5 +232,15 @@ int main(void) {
   wrong |= refuse_each("count", count, SONIC_NO_MEMORY);
   wrong |= refuse_each("count, cut", count_cut, SONIC_NO_MEMORY);
   wrong |= refuse_each("items_next", items_next, SONIC_NO_MEMORY);
+  wrong |= refuse_each("minify", minify, SONIC_NO_MEMORY);
+  wrong |= refuse_each("minify, cut", minify_cut, SONIC_NO_MEMORY);
+  wrong |= refuse_each("indent", indent, SONIC_NO_MEMORY);
+  wrong |= refuse_each("patch", patch, SONIC_NO_MEMORY);
+  wrong |= refuse_each("patch, that fails", patch_that_fails, SONIC_NO_MEMORY);
+  wrong |= refuse_each("patch, cut", patch_cut, SONIC_NO_MEMORY);
+  wrong |= refuse_each("edit", edit, SONIC_NO_MEMORY);
+  wrong |= refuse_each("edit, that fails", edit_that_fails, SONIC_NO_MEMORY);
+  wrong |= refuse_each("fill", fill, SONIC_NO_MEMORY);
+  wrong |= refuse_each("fill, from a cut text", fill_from_cut, SONIC_NO_MEMORY);
   return wrong;
 }

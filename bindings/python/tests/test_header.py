@@ -79,6 +79,14 @@ class Page(unittest.TestCase):
         doctest.DocTestRunner().run(test, out=told.append)
         self.assertEqual("".join(told), "")
 
+    def test_examples_of_calls(self):
+        for call in (sonic.minify, sonic.indent, sonic.patch, sonic.edit, sonic.fill):
+            test = doctest.DocTestParser().get_doctest(call.__doc__, {call.__name__: call}, call.__name__, None, 0)
+            self.assertGreater(len(test.examples), 0)
+            told = []
+            doctest.DocTestRunner().run(test, out=told.append)
+            self.assertEqual("".join(told), "")
+
 
 if __name__ == "__main__":
     unittest.main()

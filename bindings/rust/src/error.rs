@@ -14,6 +14,25 @@ pub enum Error {
     WrongType(Type),
     /// The number is no integer, or none in the range of the call.
     NotInteger,
+    /// The width is above 8.
+    BadWidth,
+    /// The patch is no JSON text, as the fault says; or it is one, but no array.
+    BadPatch(Option<Fault>),
+    /// An element of the patch is no operation: its index, from 0.
+    BadOperation(usize),
+    /// An operation of the patch isn't made, as a pointer of it leads to nothing: its index, from 0.
+    Missing(usize),
+    /// An operation of the patch isn't made, as the value is another one than it tests for: its index, from 0.
+    TestFailed(usize),
+    /// An operation of the patch isn't made, as it would move a value into itself: its index, from 0.
+    IntoChild(usize),
+    /// A line says no edit, or is blank with more after it: its number, from 1.
+    BadEdit(usize),
+    /// An edit isn't made, as its path leads to nothing or to a value of another type than it needs: the
+    /// number of its line, from 1.
+    EditRefused(usize),
+    /// The schema isn't read, as the fault says; or it is no object.
+    BadSchema(Option<Fault>),
     /// Memory ran out.
     NoMemory,
 }
@@ -40,7 +59,7 @@ pub struct Code(pub u32);
 /// What kind of error a code is.
 #[derive(Clone, Copy, Debug, PartialEq, Eq, Hash)]
 pub enum Category {
-    /// The text isn't JSON in UTF-8, as far as it was needed.
+    /// The text isn't JSON in UTF-8, as far as it was needed; or it is deeper than [`fill`](crate::fill) reads.
     Syntax,
     /// The text ends inside a value, or before one that is expected.
     Eof,
@@ -76,6 +95,7 @@ codes! {
     CONTROL_CHARACTER_WHILE_PARSING_STRING = 16,
     EXPECT_OBJECT_KEY_OR_END = 17,
     TRAILING_CHARACTERS = 19,
+    RECURSION_LIMIT_EXCEEDED = 20,
     GET_IN_EMPTY_OBJECT = 21,
     GET_UNKNOWN_KEY_IN_OBJECT = 22,
     GET_IN_EMPTY_ARRAY = 23,
@@ -142,6 +162,24 @@ impl fmt::Display for Error {
                 )
             }
             Error::NotInteger => f.write_str("the number is no integer in the range of the call"),
+            Error::BadWidth => f.write_str("the width is above 8"),
+            Error::BadPatch(Some(fault)) => write!(f, "the patch is no JSON text: {fault}"),
+            Error::BadPatch(None) => f.write_str("the patch is no array"),
+            Error::BadOperation(index)
+            | Error::Missing(index)
+            | Error::TestFailed(index)
+            | Error::IntoChild(index) => {
+                write!(
+                    f,
+                    "the element of index {index} of the patch {}",
+                    self.why()
+                )
+            }
+            Error::BadEdit(line) | Error::EditRefused(line) => {
+                write!(f, "line {line} of the edits {}", self.why())
+            }
+            Error::BadSchema(Some(fault)) => write!(f, "the schema isn't read: {fault}"),
+            Error::BadSchema(None) => f.write_str("the schema is no object"),
             Error::NoMemory => f.write_str("out of memory"),
         }
     }
@@ -150,6 +188,21 @@ impl fmt::Display for Error {
 impl std::error::Error for Error {}
 
 impl Error {
+    /// Why an operation of a patch, or an edit, isn't made.
+    fn why(&self) -> &'static str {
+        match self {
+            Error::BadOperation(_) => "is no operation",
+            Error::Missing(_) => "isn't made, as a pointer of it leads to nothing",
+            Error::TestFailed(_) => "isn't made, as the value is another one than it tests for",
+            Error::IntoChild(_) => "isn't made, as it would move a value into itself",
+            Error::BadEdit(_) => "says no edit, or is blank",
+            Error::EditRefused(_) => {
+                "isn't made, as its path leads to nothing or to a value of another type than it needs"
+            }
+            _ => "",
+        }
+    }
+
     /// What is wrong in the text, where it is that.
     pub fn fault(&self) -> Option<Fault> {
         match self {
@@ -165,24 +218,48 @@ impl Error {
     }
 }
 
-/// What a call comes to. Of many paths the fault has the number of the bad line, from 1.
-pub(crate) fn judge(status: u32, fault: raw::Fault) -> Result<(), Error> {
-    let raw::Fault {
-        code,
-        line,
-        column,
-        offset,
-    } = fault;
-    match status {
-        raw::OK => Ok(()),
-        raw::DOCUMENT_ERROR => Err(Error::Document(Fault {
+impl From<raw::Fault> for Fault {
+    fn from(fault: raw::Fault) -> Self {
+        let raw::Fault {
+            code,
+            line,
+            column,
+            offset,
+        } = fault;
+        Fault {
             code: Code(code),
             line,
             column,
             offset,
-        })),
-        raw::BAD_LINES => Err(Error::BadPath(line.saturating_sub(1))),
+        }
+    }
+}
+
+/// What a call comes to. Of many paths the fault has the number of the bad line, from 1.
+pub(crate) fn judge(status: u32, fault: raw::Fault) -> Result<(), Error> {
+    match status {
+        raw::OK => Ok(()),
+        raw::DOCUMENT_ERROR => Err(Error::Document(fault.into())),
+        raw::BAD_LINES => Err(Error::BadPath(fault.line.saturating_sub(1))),
         raw::NO_MEMORY => Err(Error::NoMemory),
         other => unreachable!("status {other}"),
     }
+}
+
+/// What a call comes to that makes a text. Of an operation the fault has the index as its line.
+pub(crate) fn judge_text(status: u32, fault: raw::Fault) -> Result<(), Error> {
+    let number = fault.line;
+    let place = |fault: raw::Fault| (fault.code != 0).then(|| fault.into());
+    Err(match status {
+        raw::BAD_LINES => Error::BadEdit(number),
+        raw::BAD_WIDTH => Error::BadWidth,
+        raw::BAD_PATCH => Error::BadPatch(place(fault)),
+        raw::BAD_OPERATION => Error::BadOperation(number),
+        raw::MISSING => Error::Missing(number),
+        raw::TEST_FAILED => Error::TestFailed(number),
+        raw::INTO_CHILD => Error::IntoChild(number),
+        raw::EDIT_REFUSED => Error::EditRefused(number),
+        raw::BAD_SCHEMA => Error::BadSchema(place(fault)),
+        other => return judge(other, fault),
+    })
 }

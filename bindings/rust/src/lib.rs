@@ -3,6 +3,7 @@
 
 mod error;
 mod items;
+mod made;
 mod path;
 mod raw;
 mod text;
@@ -10,6 +11,7 @@ mod value;
 
 pub use error::{Category, Code, Error, Fault};
 pub use items::{elements, members, Elements, Members};
+pub use made::{edit, fill, indent, minify, patch};
 pub use path::{Node, Path, Paths};
 pub use text::Text;
 pub use value::{as_i64, as_str, as_u64, count, type_of, Type};

@@ -37,6 +37,14 @@ pub(crate) const NO_MEMORY: u32 = 7;
 pub(crate) const WRONG_TYPE: u32 = 8;
 pub(crate) const NO_INTEGER: u32 = 9;
 pub(crate) const END: u32 = 10;
+pub(crate) const BAD_WIDTH: u32 = 11;
+pub(crate) const BAD_PATCH: u32 = 12;
+pub(crate) const BAD_OPERATION: u32 = 13;
+pub(crate) const MISSING: u32 = 14;
+pub(crate) const TEST_FAILED: u32 = 15;
+pub(crate) const INTO_CHILD: u32 = 16;
+pub(crate) const EDIT_REFUSED: u32 = 17;
+pub(crate) const BAD_SCHEMA: u32 = 18;
 
 /// Two calls that take the same, after a name for the type of both.
 macro_rules! pairs {
@@ -97,16 +105,46 @@ tells! {
     sonic_items_begin(items: Items);
 }
 
+/// Calls that write a text to a room, with what they take between the document and the room.
+macro_rules! makes {
+    ($($name:ident($($given:ident: $kind:ty),*);)*) => {
+        extern "C" {
+            $(pub(crate) fn $name(
+                json: *const u8,
+                json_length: usize,
+                $($given: $kind,)*
+                room: *mut u8,
+                room_length: usize,
+                wanted: *mut usize,
+                error: *mut Fault,
+            ) -> u32;)*
+        }
+    };
+}
+
+makes! {
+    sonic_string_text();
+    sonic_minify();
+    sonic_indent(width: usize);
+    sonic_patch(patch: *const u8, patch_length: usize);
+    sonic_edit(edits: *const u8, edits_length: usize);
+    sonic_fill(schema: *const u8, schema_length: usize);
+}
+
+/// What a call takes that makes a text of a document and another text.
+pub(crate) type Change = unsafe extern "C" fn(
+    *const u8,
+    usize,
+    *const u8,
+    usize,
+    *mut u8,
+    usize,
+    *mut usize,
+    *mut Fault,
+) -> u32;
+
 extern "C" {
     pub(crate) fn sonic_validate(json: *const u8, json_length: usize, error: *mut Fault) -> u32;
-    pub(crate) fn sonic_string_text(
-        json: *const u8,
-        json_length: usize,
-        room: *mut u8,
-        room_length: usize,
-        wanted: *mut usize,
-        error: *mut Fault,
-    ) -> u32;
     pub(crate) fn sonic_items_next(
         json: *const u8,
         json_length: usize,

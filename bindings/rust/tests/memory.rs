@@ -1,6 +1,6 @@
 //! That memory may run out in the library, and which calls take none.
-use sonic::{as_i64, as_str, as_u64, count, elements, get, members, path, type_of};
-use sonic::{validate, Error};
+use sonic::{as_i64, as_str, as_u64, count, edit, elements, fill, get, indent, members, minify};
+use sonic::{patch, path, type_of, validate, Error};
 use std::cell::Cell;
 use std::ffi::c_void;
 
@@ -38,6 +38,11 @@ fn runs_out() {
     assert_eq!(refused(|| validate(DEEP).map(|_| ())), Err(none));
     assert_eq!(refused(|| count(DEEP)), Err(none));
     assert_eq!(refused(|| as_str(r#""a\n""#)), Err(none));
+    assert_eq!(refused(|| minify(DEEP)), Err(none));
+    assert_eq!(refused(|| indent(DEEP, 2)), Err(none));
+    assert_eq!(refused(|| patch(DEEP, "[]")), Err(none));
+    assert_eq!(refused(|| edit(DEEP, r#"["take",[]]"#)), Err(none));
+    assert_eq!(refused(|| fill("{}", DEEP)), Err(none));
 }
 
 #[test]

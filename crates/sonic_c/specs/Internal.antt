@@ -2,4 +2,6 @@
 pub mod Begun
 pub mod Items
 pub mod Numbers
+pub mod Patches
+pub mod Texts
 pub mod Told

@@ -1,7 +1,11 @@
 pub mod Begun
+pub mod Changes
 pub mod Codes
 pub mod Containers
+pub mod Fills
 pub mod Internal
+pub mod Patches
 pub mod Statuses
+pub mod Texts
 pub mod Told
 pub mod Values

@@ -32,3 +32,35 @@ status_no_integer = 9
 -- no item is left
 abbrev pub status_end : ℕ
 status_end = 10
+
+-- a line is to be indented by too many blanks
+abbrev pub status_bad_width : ℕ
+status_bad_width = 11
+
+-- the patch is none
+abbrev pub status_bad_patch : ℕ
+status_bad_patch = 12
+
+-- an element of the patch is no operation
+abbrev pub status_bad_operation : ℕ
+status_bad_operation = 13
+
+-- a pointer of an operation leads to nothing
+abbrev pub status_missing : ℕ
+status_missing = 14
+
+-- the value that an operation tests is another one
+abbrev pub status_test_failed : ℕ
+status_test_failed = 15
+
+-- an operation would move a value into itself
+abbrev pub status_into_child : ℕ
+status_into_child = 16
+
+-- an edit makes nothing of the document
+abbrev pub status_edit_refused : ℕ
+status_edit_refused = 17
+
+-- the schema is none
+abbrev pub status_bad_schema : ℕ
+status_bad_schema = 18

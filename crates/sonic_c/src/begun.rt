@@ -101,7 +101,7 @@ pub(crate) fn expect(text: &[u8], expected: Expected) -> Result<usize, Refusal>
     Ok(start)
 }
 
-// TellsSlot why a text is refused, and gives the status.
+// Tells why a text is refused, and gives the status.
 pub(crate) fn refuse(told: &mut Fault, text: &[u8], refusal: Refusal) -> u32
     requires { IsStopIn text.now refusal }
     ensures { TellsRefusal text.now refusal told.old told.new result }

@@ -44,7 +44,7 @@ pub extern "C" fn sonic_count(
     tell_count(json, found, count, error)
 }
 
-// TellsSlot how many items there are, or the error.
+// Tells how many items there are, or the error.
 fn tell_count(
     text: &[u8],
     found: Result<usize, Fault>,

@@ -3,7 +3,7 @@ ghost use Rattle.std.specs.Prelude.{◌≡◌, ◌≤◌, length};
 ghost use Rattle.sonic_c.specs.Internal.Numbers.{numbers_of};
 ghost use Rattle.sonic_c.specs.Statuses.{status_document_error};
 ghost use Rattle.sonic_c.specs.Told.{at_line, AreNumbersOf};
-ghost use Rattle.sonic_c.specs.Internal.Told.{TellsError};
+ghost use Rattle.sonic_c.specs.Internal.Told.{TellsError, TellsErrorAs};
 
 use crate::code::number;
 use crate::status::{DOCUMENT_ERROR, NO_MEMORY};
@@ -51,18 +51,25 @@ impl Fault {
     }
 }
 
-// TellsSlot an error of the library, unless memory ran out, and gives the status.
+// Tells an error of the library, unless memory ran out, and gives the status.
 pub(crate) fn tell(told: &mut Fault, error: &Error) -> u32
     ensures { TellsError error.now told.old told.new result }
+{
+    tell_as(told, error, DOCUMENT_ERROR)
+}
+
+// The same with this status.
+pub(crate) fn tell_as(told: &mut Fault, error: &Error, status: u32) -> u32
+    ensures { TellsErrorAs status error.now told.old told.new result }
 {
     if let ErrorCode::NoMemory = error.code() {
         return NO_MEMORY;
     }
     *told = Fault::of(error);
-    DOCUMENT_ERROR
+    status
 }
 
-// TellsSlot an error of a text that is at a stop, and gives the status.
+// Tells an error of a text that is at a stop, and gives the status.
 pub(crate) fn tell_stop(told: &mut Fault, text: &[u8], stop: Stop) -> u32
     requires { stop.place ≤ length text.now }
     ensures numbers { AreNumbersOf text.now stop told.new }

@@ -70,7 +70,7 @@ pub extern "C" fn sonic_get_unchecked(
     }
 }
 
-// TellsSlot what was found, or the error.
+// Tells what was found, or the error.
 fn tell_found(found: Result<sonic_find::Span, Error>, span: &mut Span, error: &mut Fault) -> u32
     ensures { TellsSlot found (record { span = span.old; error = error.old })
         (record { span = span.new; error = error.new }) result }

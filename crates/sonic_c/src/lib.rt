@@ -9,8 +9,14 @@ mod begun;
 mod code;
 // How many items a container has.
 mod count;
+// The text of a document, without white space or over lines.
+mod document;
+// The text of a document with edits made in it.
+mod edit;
 // The errors that a caller is told.
 mod fault;
+// The text of a schema that is filled from a document.
+mod fill;
 // One path.
 mod get;
 // A way through the items of a container.
@@ -21,6 +27,12 @@ mod kind;
 mod many;
 // The integer that a number is.
 mod number;
+// The value of a document that is to be changed, and its text.
+mod owned;
+// The text of a document with a patch made on it.
+mod patch;
+// The caller's room for a text.
+mod room;
 // The spans that a caller is told.
 mod span;
 // What a call comes to.

@@ -129,7 +129,7 @@ fn tree_of(alloc: Global, lines: &[u8], count: usize, error: &mut Fault) -> Resu
     Ok(tree)
 }
 
-// TellsSlot what was found, or the error.
+// Tells what was found, or the error.
 fn tell_all(
     found: Result<(), Error>,
     slots: &[Option<sonic_find::Span>],

@@ -16,3 +16,19 @@ pub(crate) const WRONG_TYPE: u32 = 8;
 pub(crate) const NO_INTEGER: u32 = 9;
 // No item is left.
 pub(crate) const END: u32 = 10;
+// A line is to be indented by too many blanks.
+pub(crate) const BAD_WIDTH: u32 = 11;
+// The patch is none.
+pub(crate) const BAD_PATCH: u32 = 12;
+// An element of the patch is no operation: its number, from 0, is told as the line.
+pub(crate) const BAD_OPERATION: u32 = 13;
+// A pointer of an operation leads to nothing: the operation's number, from 0, is told as the line.
+pub(crate) const MISSING: u32 = 14;
+// The value that an operation tests is another one: told so too.
+pub(crate) const TEST_FAILED: u32 = 15;
+// An operation would move a value into itself: told so too.
+pub(crate) const INTO_CHILD: u32 = 16;
+// An edit makes nothing of the document: its number, from 1, is told as the line.
+pub(crate) const EDIT_REFUSED: u32 = 17;
+// The schema is none.
+pub(crate) const BAD_SCHEMA: u32 = 18;

@@ -9,8 +9,8 @@ ghost use Rattle.sonic_c.specs.Values.{IsStringCall};
 
 use crate::begun::{Expected, Refusal, expect, pass_rest, refuse};
 use crate::fault::Fault;
-use crate::status::{NO_MEMORY, OK};
-use crate::text::place;
+use crate::room::write_text;
+use crate::status::NO_MEMORY;
 use sonic_find::check;
 use sonic_parser::StringSpan;
 use sonic_text::{StringEnd, string_end};
@@ -36,11 +36,7 @@ pub extern "C" fn sonic_string_text(
         Err(refusal) => return refuse(error, json, refusal),
     };
     match string.text(alloc, json) {
-        Ok(text) => {
-            place(room, text.as_str().as_bytes());
-            *wanted = text.len();
-            OK
-        }
+        Ok(text) => write_text(text.as_str(), room, wanted),
         Err(_) => NO_MEMORY,
     }
 }

@@ -1,8 +1,8 @@
 // The words of an error.
-ghost use Rattle.std.specs.Prelude.{◌≡◌};
-ghost use Rattle.sonic_c.specs.Codes.{IsTextCall, placed};
+ghost use Rattle.sonic_c.specs.Codes.{IsTextCall};
 
 use crate::code::code_of;
+use crate::room::place;
 use std::alloc::Global;
 
 /// The text of the code that has this number, as `Expect a quote` for 29: writes as much of it as the
@@ -21,12 +21,4 @@ pub extern "C" fn sonic_code_text(alloc: Global, code: u32, room: &mut [u8]) -> 
     };
     place(room, text.as_bytes());
     text.len()
-}
-
-// Writes as much of the text as the room takes to its start.
-pub(crate) fn place(room: &mut [u8], bytes: &[u8])
-    ensures { room.new ≡ placed bytes.now room.old }
-{
-    let count = room.len().min(bytes.len());
-    room[..count].copy_from_slice(&bytes[..count]);
 }

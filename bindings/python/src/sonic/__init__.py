@@ -1,5 +1,5 @@
 """Look-ups in a JSON text that is in memory, by a proved library: where paths of keys and indexes lead,
-without building the document.
+without building the document; and texts that are made of one, small, over lines, or changed.
 
 A text is a str, bytes, or whatever has a buffer, as a bytearray, a memoryview or an mmap. A value is the
 exact JSON text of it, and of the text's kind: of a str a str, of bytes bytes, and of any other a memoryview
@@ -12,8 +12,10 @@ from ctypes import Array, byref
 from typing import TYPE_CHECKING, Any, Generic, Iterable, Iterator, List, Optional, Sequence, TypeVar, Union, overload
 
 from . import _native
-from ._errors import BrokenText, Code, DocumentError, Mismatch, NotFound, NotInteger, PathError, SonicError, Type, WrongType
+from ._errors import BrokenText, Cause, Code, DocumentError, EditError, Mismatch, NotFound, NotInteger, PatchError, PathError
+from ._errors import SchemaError, SonicError, Type, WidthError, WrongType
 from ._errors import judge as _judge
+from ._made import edit, fill, indent, minify, patch
 from ._native import Fault, Span, code_text
 from ._values import as_int, as_str, count, elements, members, type_of
 
@@ -22,12 +24,16 @@ if TYPE_CHECKING:
 
 __version__ = "0.1.0"
 __all__ = [
-    "BrokenText", "Code", "Document", "DocumentError", "Mismatch", "NotFound", "NotInteger", "PathError", "Paths",
-    "SonicError", "Type", "WrongType", "as_int", "as_str", "code_text", "count", "elements", "get", "get_many",
-    "members", "type_of", "validate",
+    "BrokenText", "Cause", "Code", "Document", "DocumentError", "EditError", "Mismatch", "NotFound", "NotInteger",
+    "PatchError", "PathError", "Paths", "SchemaError", "SonicError", "Type", "WidthError", "WrongType", "as_int", "as_str",
+    "code_text", "count", "edit", "elements", "fill", "get", "get_many", "indent", "members", "minify", "patch", "type_of",
+    "validate",
 ]  # fmt: skip
 
-for _kind in (BrokenText, Code, DocumentError, Mismatch, NotFound, NotInteger, PathError, SonicError, Type, WrongType):
+for _kind in (
+    BrokenText, Cause, Code, DocumentError, EditError, Mismatch, NotFound, NotInteger, PatchError, PathError, SchemaError,
+    SonicError, Type, WidthError, WrongType,
+):  # fmt: skip
     _kind.__module__ = __name__  # where they are called for, as a traceback tells
 
 Path = Sequence[Union[str, int]]

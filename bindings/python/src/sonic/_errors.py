@@ -2,7 +2,7 @@
 from __future__ import annotations
 
 import enum
-from typing import Any, Sequence
+from typing import Any, Optional, Sequence
 
 from . import _native
 from ._native import Fault, code_text
@@ -25,6 +25,7 @@ class Code(enum.IntEnum):
     CONTROL_CHARACTER_WHILE_PARSING_STRING = 16
     EXPECT_OBJECT_KEY_OR_END = 17
     TRAILING_CHARACTERS = 19
+    RECURSION_LIMIT_EXCEEDED = 20
     GET_IN_EMPTY_OBJECT = 21
     GET_UNKNOWN_KEY_IN_OBJECT = 22
     GET_IN_EMPTY_ARRAY = 23
@@ -45,8 +46,20 @@ class Type(enum.IntEnum):
     ARRAY = 5
 
 
+class Cause(enum.IntEnum):
+    """Why a document isn't changed: the statuses of sonic.h that say so."""
+
+    BAD_LINES = _native.BAD_LINES
+    BAD_PATCH = _native.BAD_PATCH
+    BAD_OPERATION = _native.BAD_OPERATION
+    MISSING = _native.MISSING
+    TEST_FAILED = _native.TEST_FAILED
+    INTO_CHILD = _native.INTO_CHILD
+    EDIT_REFUSED = _native.EDIT_REFUSED
+
+
 class SonicError(ValueError):
-    """Why there is no answer: a DocumentError, WrongType or NotInteger."""
+    """Why there is no answer: a DocumentError, WrongType, NotInteger, PatchError, EditError or SchemaError."""
 
 
 class DocumentError(SonicError):
@@ -67,7 +80,7 @@ class DocumentError(SonicError):
 
 
 class BrokenText(DocumentError):
-    """The text isn't JSON in UTF-8, as far as it was needed."""
+    """The text isn't JSON in UTF-8, as far as it was needed; or it is deeper than `fill` reads."""
 
     @property
     def is_cut(self) -> bool:
@@ -103,6 +116,63 @@ class NotInteger(SonicError):
 
     def __str__(self) -> str:
         return "the number is no integer from -2**63 to 2**64 - 1"
+
+
+_WHY = {
+    Cause.BAD_LINES: "says no edit, or is blank",
+    Cause.BAD_OPERATION: "is no operation",
+    Cause.MISSING: "isn't made, as a pointer of it leads to nothing",
+    Cause.TEST_FAILED: "isn't made, as the value is another one than it tests for",
+    Cause.INTO_CHILD: "isn't made, as it would move a value into itself",
+    Cause.EDIT_REFUSED: "isn't made, as its path leads to nothing or to a value of another type than it needs",
+}
+
+
+class PatchError(SonicError):
+    """A patch isn't made: the cause, and the index of the operation, from 0. Where the patch is none as a whole, the
+    cause is BAD_PATCH, there is no index, and `broken` says what isn't JSON in it, or is None where it is no array."""
+
+    def __init__(self, cause: Cause, index: Optional[int], broken: Optional[BrokenText] = None) -> None:
+        ValueError.__init__(self, cause, index, broken)
+        self.cause, self.index, self.broken = cause, index, broken
+
+    def __str__(self) -> str:
+        if self.cause != Cause.BAD_PATCH:
+            return f"the element of index {self.index} of the patch {_WHY[self.cause]}"
+        return f"the patch is no JSON text: {self.broken}" if self.broken else "the patch is no array"
+
+
+class EditError(SonicError):
+    """Edits aren't made: the cause, BAD_LINES or EDIT_REFUSED, and the line of the edit, from 1."""
+
+    def __init__(self, cause: Cause, line: int) -> None:
+        ValueError.__init__(self, cause, line)
+        self.cause, self.line = cause, line
+
+    def __str__(self) -> str:
+        return f"line {self.line} of the edits {_WHY[self.cause]}"
+
+
+class SchemaError(SonicError):
+    """A schema isn't read: `broken` says why not, or is None where it is no object."""
+
+    def __init__(self, broken: Optional[BrokenText] = None) -> None:
+        ValueError.__init__(self, broken)
+        self.broken = broken
+
+    def __str__(self) -> str:
+        return f"the schema isn't read: {self.broken}" if self.broken else "the schema is no object"
+
+
+class WidthError(ValueError):
+    """The width of an indent isn't from 0 to 8: `width`."""
+
+    def __init__(self, width: int) -> None:
+        super().__init__(width)
+        self.width = width
+
+    def __str__(self) -> str:
+        return f"the width is {self.width}, and isn't from 0 to 8"
 
 
 class PathError(ValueError):

@@ -4,11 +4,13 @@ from __future__ import annotations
 import ctypes
 import os
 from ctypes import POINTER, c_int, c_int64, c_size_t, c_ssize_t, c_uint32, c_uint64, c_void_p
-from typing import Any, Callable, Dict, Union
+from typing import Any, Callable, Dict, Tuple, Union
 
 # What a call comes to, as sonic.h says.
 OK, DOCUMENT_ERROR, WRONG_COUNT, BAD_LINES, NO_MEMORY = 0, 1, 2, 3, 7
 WRONG_TYPE, NO_INTEGER, END = 8, 9, 10
+BAD_WIDTH, BAD_PATCH, BAD_OPERATION, MISSING, TEST_FAILED, INTO_CHILD = 11, 12, 13, 14, 15, 16
+EDIT_REFUSED, BAD_SCHEMA = 17, 18
 
 
 class Span(ctypes.Structure):
@@ -36,6 +38,7 @@ class Item(ctypes.Structure):
 
 
 _TEXT = (c_void_p, c_size_t)
+_ROOM = (c_void_p, c_size_t, POINTER(c_size_t), POINTER(Fault))
 
 # What each call returns, and what it takes.
 CALLS: Dict[str, Any] = {
@@ -47,10 +50,15 @@ CALLS: Dict[str, Any] = {
     "sonic_type": (c_uint32, [*_TEXT, POINTER(c_uint32), POINTER(Fault)]),
     "sonic_u64": (c_uint32, [*_TEXT, POINTER(c_uint64), POINTER(Fault)]),
     "sonic_i64": (c_uint32, [*_TEXT, POINTER(c_int64), POINTER(Fault)]),
-    "sonic_string_text": (c_uint32, [*_TEXT, c_void_p, c_size_t, POINTER(c_size_t), POINTER(Fault)]),
+    "sonic_string_text": (c_uint32, [*_TEXT, *_ROOM]),
     "sonic_count": (c_uint32, [*_TEXT, POINTER(c_size_t), POINTER(Fault)]),
     "sonic_items_begin": (c_uint32, [*_TEXT, POINTER(Items), POINTER(Fault)]),
     "sonic_items_next": (c_uint32, [*_TEXT, POINTER(Items), POINTER(Item), POINTER(Fault)]),
+    "sonic_minify": (c_uint32, [*_TEXT, *_ROOM]),
+    "sonic_indent": (c_uint32, [*_TEXT, c_size_t, *_ROOM]),
+    "sonic_patch": (c_uint32, [*_TEXT, *_TEXT, *_ROOM]),
+    "sonic_edit": (c_uint32, [*_TEXT, *_TEXT, *_ROOM]),
+    "sonic_fill": (c_uint32, [*_TEXT, *_TEXT, *_ROOM]),
     "sonic_code_text": (c_size_t, [c_uint32, c_void_p, c_size_t]),
 }
 
@@ -105,6 +113,9 @@ _release_buffer.argtypes, _release_buffer.restype = [POINTER(_Buffer)], None
 
 Source = Union[bytes, memoryview]
 
+# Raises what a status says.
+Judge = Callable[[int, Fault], None]
+
 
 def source_of(text: Any) -> Source:
     """The bytes of a text, without a copy but of a str."""
@@ -139,6 +150,18 @@ def call(name: str, source: Source, *arguments: Any) -> int:
         return calls[name](held.buf, held.len, *arguments)
     finally:
         _release_buffer(held)
+
+
+def text_of(name: str, source: Source, arguments: Tuple[Any, ...], guess: int, judge: Judge) -> memoryview:
+    """The text that a call writes to a room: one of as many bytes as are guessed, and another where it is longer."""
+    wanted, fault, room = ctypes.c_size_t(), Fault(), bytearray(guess or 1)
+    while True:
+        start = ctypes.byref(ctypes.c_char.from_buffer(room))
+        cells = start, len(room), ctypes.byref(wanted), ctypes.byref(fault)
+        judge(call(name, source, *arguments, *cells), fault)
+        if wanted.value <= len(room):
+            return memoryview(room)[: wanted.value]
+        room = bytearray(wanted.value)
 
 
 def code_text(code: int) -> str:

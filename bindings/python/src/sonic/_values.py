@@ -1,7 +1,7 @@
 """What one value is, by its text."""
 from __future__ import annotations
 
-from ctypes import byref, c_char, c_int64, c_size_t, c_uint32, c_uint64
+from ctypes import byref, c_int64, c_size_t, c_uint32, c_uint64
 from typing import TYPE_CHECKING, Any, Iterator, Tuple, TypeVar, Union, overload
 
 from . import _native
@@ -61,13 +61,8 @@ def as_str(text: Union[str, Buffer]) -> str:
     Raises WrongType where the value is no string, and BrokenText where the text isn't one value in UTF-8 with
     nothing but white space round it."""
     source = _native.source_of(text)
-    wanted, fault, room = c_size_t(), Fault(), bytearray(1024)
-    while True:
-        start = byref(c_char.from_buffer(room))
-        _judge(_native.call("sonic_string_text", source, start, len(room), byref(wanted), byref(fault)), fault, source)
-        if wanted.value <= len(room):
-            return room[: wanted.value].decode()
-        room = bytearray(wanted.value)
+    found = _native.text_of("sonic_string_text", source, (), 1024, lambda status, fault: _judge(status, fault, source))
+    return str(found, "utf-8")
 
 
 def count(text: Union[str, Buffer]) -> int:

@@ -11,10 +11,14 @@ use Rattle.sonic_c.specs.Statuses.{status_wrong_count, status_ok, status_documen
 use Rattle.sonic_c.specs.Internal.Numbers.{numbers_of}
 use Rattle.sonic_c.specs.Told.{Cells, shown_span, Say, SayBad, ManyCells, at_line}
 
--- an error is told, unless memory ran out
-pub data TellsError (e : Error) (before after : Fault) (status : ℕ) : Type 0 where
-  no_memory : error_code e ≡ NoMemory → status ≡ status_no_memory → after ≡ before → TellsError e before after status
-  told : error_code e ≢ NoMemory → status ≡ status_document_error → after ≡ numbers_of e → TellsError e before after status
+-- an error is told with this status, unless memory ran out
+pub data TellsErrorAs (why : ℕ) (e : Error) (before after : Fault) (status : ℕ) : Type 0 where
+  no_memory : error_code e ≡ NoMemory → status ≡ status_no_memory → after ≡ before → TellsErrorAs why e before after status
+  told : error_code e ≢ NoMemory → status ≡ why → after ≡ numbers_of e → TellsErrorAs why e before after status
+
+-- and as one of the document
+abbrev pub TellsError : Error → Fault → Fault → ℕ → Type 0
+TellsError = TellsErrorAs status_document_error
 
 -- a span is told, or an error
 abbrev pub TellsSlot : Result Slot Error → Cells → Cells → ℕ → Type 0

@@ -1,4 +1,4 @@
-use Rattle.std.proofs.Common.{◌≡◌, ◌∙◌, ap}
+use Rattle.std.proofs.Common.{◌∙◌}
 use Rattle.sonic_c.proofs.ContainerLemmas.{bracket_begun}
 use Rattle.sonic_c.proofs.begun.kind_begun.Goals as goal
 use Rattle.sonic_text.specs.Places.{byte}
