@@ -1,5 +1,5 @@
 -- What was made and what is left, after a piece was added.
-use Rattle.std.proofs.Common.{◌≡◌, ◌∙◌, true, ℕ, ◌+◌, ◌≤◌, List, ◌++◌, length, take, append_assoc, length-append, arith, sym, ap}
+use Rattle.std.proofs.Common.{◌≡◌, ◌∙◌, ℕ, ◌+◌, ◌≤◌, List, ◌++◌, length, take, append_assoc, length-append, arith, sym, ap}
 use Rattle.std.proofs.lemmas.List.{length-take-le, take-take}
 use Rattle.std.proofs.lemmas.Simd.{length-put_chunk, take_more_put_chunk}
 use Rattle.std.proofs.Math.Seq.{take-append-add}
@@ -21,7 +21,7 @@ then_stores {a} {b} {c} {p} {q} at next same x y =
 made_on : {out now : Output} {s p : List ℕ} → IsMade out s → Adds out p now → IsMade now (s ++ p)
 made_on {out} {now} {s} {p} m a = record {
   count = omega (arith, m.count, a.count, length-append s p);
-  bytes = λ w. (let was : out.writes ≡ true = sym a.writes ∙ w in a.bytes was ∙ ap (λ b. b ++ p) (m.bytes was));
+  bytes = a.bytes ∙ ap (λ b. b ++ p) m.bytes;
 }
 
 -- and less is left

@@ -8,8 +8,10 @@ mod keep;
 mod law;
 // The brackets, commas and colons of a block of 64 bytes.
 mod marks;
-// A text that is made piece by piece: counted, and then written.
+// A text that is made piece by piece.
 mod output;
+// How many bytes the text of a document over lines has.
+mod room;
 // The text of a document without white space outside strings.
 mod small;
 // The text of a document over lines.

@@ -55,7 +55,7 @@ pub(crate) fn block_at(text: &[u8], place: usize) -> Block
 
 // The 64 bytes from `place` on, and zeros past the end.
 #[inline(always)]
-fn lanes_at(text: &[u8], place: usize) -> u8x64
+pub(crate) fn lanes_at(text: &[u8], place: usize) -> u8x64
     requires { place ≤ length text.now }
     ensures { (k : ℕ) → k < 64 → get_or result k 0 ≡ slice_index text.now (place + k) }
 {

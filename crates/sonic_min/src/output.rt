@@ -1,6 +1,5 @@
-// A text that is made piece by piece: its bytes are counted, and then written to room for so many. Nothing
-// fails but memory.
-ghost use Rattle.std.specs.Prelude.{◌≡◌, ◌+◌, ◌≤◌, [], ◌∷◌, true, length, replicate, take, ◌++◌, ◌<◌, IfErr, IfOk, OnOk};
+// A text that is made piece by piece, in room for so many bytes. Nothing fails but memory.
+ghost use Rattle.std.specs.Prelude.{◌≡◌, ◌+◌, ◌≤◌, [], ◌∷◌, length, replicate, take, ◌++◌, ◌<◌, IfErr, IfOk, OnOk};
 ghost use Rattle.sonic_min.specs.Internal.Outputs.{Adds, Stores};
 
 use sonic_parser::Fault;
@@ -9,15 +8,13 @@ use std::simd::prelude::*;
 // How many bytes of the room may be overwritten past what is written.
 pub(crate) const SLACK: usize = 32;
 
-// A text that is made: how many bytes it has so far and, where they are written, room that begins with them.
+// A text that is made: how many bytes it has so far, and room that begins with them.
 #[derive(Drop)]
 pub(crate) struct Output {
     // The room for the bytes.
     pub(crate) bytes: Vec<u8>,
     // How many bytes there are.
     pub(crate) count: usize,
-    // Whether they are written, or counted alone.
-    pub(crate) writes: bool,
 }
 
 // The sum of two lengths, which is no more than a length can be.
@@ -69,17 +66,16 @@ fn store_blanks(room: &mut [u8], at: usize, count: usize)
 }
 
 impl Output {
-    // How many bytes there are after so many more, for which there is room where they are written.
+    // How many bytes there are after so many more, for which there is room.
     #[inline(always)]
     fn after(&self, more: usize) -> Result<usize, Fault>
         ensures ok { IfOk result (λ end. end ≡ self.now.count + more) }
-        ensures room { IfOk result (λ end. self.now.writes ≡ true
-            → end + 32 ≤ length self.now.bytes.items) }
+        ensures room { IfOk result (λ end. end + 32 ≤ length self.now.bytes.items) }
         ensures memory { IfErr result (λ fault. fault ≡ Fault.OutOfMemory) }
     {
         let end = sum(self.count, more)?;
         let room = self.bytes.len();
-        if self.writes && (room < SLACK || room - SLACK < end) {
+        if room < SLACK || room - SLACK < end {
             return Err(Fault::OutOfMemory);
         }
         Ok(end)
@@ -93,9 +89,7 @@ impl Output {
         ensures memory { IfErr result (λ fault. fault ≡ Fault.OutOfMemory) }
     {
         let end = self.after(count)?;
-        if self.writes {
-            store_span(self.bytes.as_mut_slice(), self.count, bytes, count);
-        }
+        store_span(self.bytes.as_mut_slice(), self.count, bytes, count);
         self.count = end;
         Ok(())
     }
@@ -107,11 +101,9 @@ impl Output {
         ensures memory { IfErr result (λ fault. fault ≡ Fault.OutOfMemory) }
     {
         let end = self.after(2)?;
-        if self.writes {
-            let room = self.bytes.as_mut_slice();
-            store_byte(room, self.count, first);
-            store_byte(room, self.count + 1, second);
-        }
+        let room = self.bytes.as_mut_slice();
+        store_byte(room, self.count, first);
+        store_byte(room, self.count + 1, second);
         self.count = end;
         Ok(())
     }
@@ -123,12 +115,10 @@ impl Output {
         ensures memory { IfErr result (λ fault. fault ≡ Fault.OutOfMemory) }
     {
         let end = self.after(sum(blanks, 2)?)?;
-        if self.writes {
-            let room = self.bytes.as_mut_slice();
-            store_byte(room, self.count, byte);
-            store_byte(room, self.count + 1, b'\n');
-            store_blanks(room, self.count + 2, blanks);
-        }
+        let room = self.bytes.as_mut_slice();
+        store_byte(room, self.count, byte);
+        store_byte(room, self.count + 1, b'\n');
+        store_blanks(room, self.count + 2, blanks);
         self.count = end;
         Ok(())
     }
@@ -140,12 +130,10 @@ impl Output {
         ensures memory { IfErr result (λ fault. fault ≡ Fault.OutOfMemory) }
     {
         let end = self.after(sum(blanks, 2)?)?;
-        if self.writes {
-            let room = self.bytes.as_mut_slice();
-            store_byte(room, self.count, b'\n');
-            store_blanks(room, self.count + 1, blanks);
-            store_byte(room, self.count + 1 + blanks, byte);
-        }
+        let room = self.bytes.as_mut_slice();
+        store_byte(room, self.count, b'\n');
+        store_blanks(room, self.count + 1, blanks);
+        store_byte(room, self.count + 1 + blanks, byte);
         self.count = end;
         Ok(())
     }

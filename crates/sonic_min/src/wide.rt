@@ -1,4 +1,4 @@
-// The text of a document over lines, from mark to mark: first its bytes are counted, and then written.
+// The text of a document over lines, from mark to mark, in room for as many bytes as it has.
 ghost use Rattle.std.specs.Prelude.{◌≡◌, ◌⊎◌, ℕ, ◌+◌, ◌-◌, ◌<◌, ◌≤◌, [], length, true, false, slice_range, string_bytes, IfOk, IfErr, OnOk};
 ghost use Rattle.sonic_error.specs.Errors.{IsPlainError};
 ghost use Rattle.sonic_text.specs.Places.{byte, is_space, after_space};
@@ -13,6 +13,7 @@ ghost use Rattle.sonic_min.specs.Texts.{IsWideText};
 
 use crate::marks::block_at;
 use crate::output::{Output, SLACK, sum};
+use crate::room::wide_length;
 use sonic_blocks::{get_string_bits, next_bit};
 use sonic_error::{Error, ErrorCode, Result};
 use sonic_find::validate;
@@ -74,7 +75,6 @@ fn put_token(
     requires stop { IsNoSpace text.now end }
     ensures ok { OnOk result ((i j : ℕ) → IsToken text.now start end i j
         → Adds out.old (slice_range text.now i j) out.new) }
-    ensures writes { OnOk result (out.new.writes ≡ out.old.writes) }
     ensures memory { IfErr result (λ fault. fault ≡ Fault.OutOfMemory) }
 {
     let first = skip_space(text, start);
@@ -110,7 +110,6 @@ fn open(
     requires bracket { (byte text.now place ≡ 91) ⊎ (byte text.now place ≡ 123) }
     requires laid { IsLaidTo text.now width out.old so_far }
     ensures laid { IfOk result (IsLaidTo text.now width out.new) }
-    ensures writes { OnOk result (out.new.writes ≡ out.old.writes) }
     ensures later { IfOk result (λ reached. place < reached.start) }
     ensures memory { IfErr result (λ fault. fault ≡ Fault.OutOfMemory) }
 {
@@ -143,7 +142,6 @@ fn mark(
     requires next { IsNextMark text.now so_far.start place }
     requires laid { IsLaidTo text.now width out.old so_far }
     ensures laid { IfOk result (IsLaidTo text.now width out.new) }
-    ensures writes { OnOk result (out.new.writes ≡ out.old.writes) }
     ensures later { IfOk result (λ reached. place < reached.start) }
     ensures memory { IfErr result (λ fault. fault ≡ Fault.OutOfMemory) }
 {
@@ -188,7 +186,6 @@ fn pass_block(
     requires laid { IsLaidTo text.now width out.old so_far }
     ensures laid { IfOk result (IsLaidTo text.now width out.new) }
     ensures none { IfOk result (λ reached. HasNoMark text.now reached.start (marks.place + 64)) }
-    ensures writes { OnOk result (out.new.writes ≡ out.old.writes) }
     ensures memory { IfErr result (λ fault. fault ≡ Fault.OutOfMemory) }
 {
     let mut so_far = so_far;
@@ -208,7 +205,6 @@ fn lay_out(text: &[u8], out: &mut Output, width: usize) -> std::result::Result<(
     requires valid { IsValidDocument text.now }
     requires nothing { IsMade out.old [] }
     ensures ok { OnOk result (IsWideOutput text.now width out.new) }
-    ensures writes { OnOk result (out.new.writes ≡ out.old.writes) }
     ensures memory { IfErr result (λ fault. fault ≡ Fault.OutOfMemory) }
 {
     let (mut in_string, mut in_escape) = (0, 0);
@@ -228,26 +224,20 @@ fn lay_out(text: &[u8], out: &mut Output, width: usize) -> std::result::Result<(
     Ok(())
 }
 
-// The text of a document: its length is known before there is room for it.
+// The text of a document: its bytes are counted before there is room for it.
 fn text_of(alloc: Global, text: &[u8], width: usize) -> std::result::Result<Vec<u8>, Fault>
     requires valid { IsValidDocument text.now }
     ensures ok { IfOk result (λ bytes. IsWideText text.now width bytes.items) }
     ensures memory { IfErr result (λ fault. fault ≡ Fault.OutOfMemory) }
 {
-    let mut counted = Output {
-        bytes: Vec::new(alloc),
+    let room = sum(wide_length(text, width), SLACK)?;
+    let mut out = Output {
+        bytes: vec![in alloc; 0u8; room]?,
         count: 0,
-        writes: false,
     };
-    lay_out(text, &mut counted, width)?;
-    let mut written = Output {
-        bytes: vec![in alloc; 0u8; sum(counted.count, SLACK)?]?,
-        count: 0,
-        writes: true,
-    };
-    lay_out(text, &mut written, width)?;
-    written.bytes.truncate(written.count);
-    Ok(written.bytes)
+    lay_out(text, &mut out, width)?;
+    out.bytes.truncate(out.count);
+    Ok(out.bytes)
 }
 
 /// The text of a document over lines: a line for each part of an array or object, `width` blanks further
@@ -271,7 +261,7 @@ fn text_of(alloc: Global, text: &[u8], width: usize) -> std::result::Result<Vec<
 /// ```
 ///
 /// The text may have many more bytes than the input: of n arrays in each other some `width` times the
-/// square of n. So its length is found first, and room for it is taken once.
+/// square of n. So its bytes are counted first, and room for them is taken once.
 pub fn indent<'de, I: JsonInput<'de>>(alloc: Global, json: I, width: usize) -> Result<String>
     requires { width ≤ 8 }
     ensures ok { IfOk result (λ made.

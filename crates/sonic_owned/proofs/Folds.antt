@@ -1,5 +1,5 @@
 -- The form of one level.
-use Rattle.std.proofs.Common.{◌≡◌, ℕ, List, map}
+use Rattle.std.proofs.Common.{◌≡◌, ℕ, List}
 use Rattle.sonic_owned.specs.Forms.{Form, raw, level, unnamed, named}
 use Rattle.std.specs.Fmt.{signed_decimal}
 use Rattle.sonic_owned.specs.Integers.{value}
@@ -7,22 +7,15 @@ use Rattle.sonic_owned.specs.declared.integer.Integer.{Integer as AnInteger}
 use Rattle.sonic_owned.specs.declared.raw.RawValue.{RawValue}
 use Rattle.sonic_text.specs.declared.kind.Kind.TheVariants.{Array as KArray, Object as KObject}
 use Rattle.sonic_text.specs.Quoting.{quoted}
-use Rattle.sonic_owned.specs.Views.{pair_of, form, elements, members, node_step, value_step, array_step, object_step}
+use Rattle.sonic_owned.specs.Internal.Bulks.{node_form}
+pub use Rattle.sonic_owned.specs.Internal.Levels.{elements_of, formed, members_of}
+use Rattle.sonic_owned.specs.Views.{form, elements, members, node_step, value_step, array_step, object_step}
 use Rattle.sonic_owned.specs.declared.made.MadeText.{MadeText}
 use Rattle.sonic_owned.specs.declared.value.OwnedLazyValue.{OwnedLazyValue, roll-OwnedLazyValue, fold_out-OwnedLazyValue, fold-roll-OwnedLazyValue}
 use Rattle.sonic_owned.specs.declared.value.Node.TheOpen.{OwnedLazyValue-F, Node-F, LazyArray-F, LazyObject-F}
-use Rattle.sonic_owned.specs.declared.value.Node.{Node, Integer, Text, Raw, Array, Object, roll-Node, map-Node, fold-Node, fold-roll-Node}
+use Rattle.sonic_owned.specs.declared.value.Node.{Node, Integer, Text, Raw, Array, Object, roll-Node, map-Node, fold-roll-Node}
 use Rattle.sonic_owned.specs.declared.value.LazyArray.{LazyArray, out-LazyArray, fold-roll-LazyArray, fold_out-LazyArray, roll-LazyArray}
 use Rattle.sonic_owned.specs.declared.value.LazyObject.{LazyObject, out-LazyObject, fold-roll-LazyObject, fold_out-LazyObject, roll-LazyObject}
-
-abbrev pub elements_of : List OwnedLazyValue → List Form
-elements_of vs = map form vs
-
-abbrev pub formed : MadeText × OwnedLazyValue → MadeText × Form
-formed m = (m.0, form m.1)
-
-abbrev pub members_of : List (MadeText × OwnedLazyValue) → List (List ℕ × Form)
-members_of ms = map pair_of (map formed ms)
 
 pub elements-roll : (r : LazyArray-F Node LazyArray LazyObject OwnedLazyValue) → elements (roll-LazyArray r) ≡ elements_of r.elements.items
 elements-roll r = fold-roll-LazyArray Form (List Form) (List (List ℕ × Form)) Form node_step array_step object_step value_step r
@@ -35,10 +28,6 @@ members-roll r = fold-roll-LazyObject Form (List Form) (List (List ℕ × Form))
 
 pub members-out : (o : LazyObject) → members o ≡ members_of (out-LazyObject o).members.items
 members-out o = fold_out-LazyObject Form (List Form) (List (List ℕ × Form)) Form node_step array_step object_step value_step o
-
--- the form of what a value is kept as
-abbrev pub node_form : Node → Form
-node_form = fold-Node Form (List Form) (List (List ℕ × Form)) Form node_step array_step object_step value_step
 
 pub form-node : (v : OwnedLazyValue) → form v ≡ node_form v.node
 form-node v = fold_out-OwnedLazyValue Form (List Form) (List (List ℕ × Form)) Form node_step array_step object_step value_step v

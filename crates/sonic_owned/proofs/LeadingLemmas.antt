@@ -19,7 +19,8 @@ use Rattle.sonic_text.specs.Strings.{strict}
 use Rattle.sonic_text.specs.Values.{opening, IsValue}
 use Rattle.sonic_text.specs.declared.kind.Kind.{Kind}
 use Rattle.sonic_text.specs.declared.kind.Kind.TheVariants.{Array, Object}
-use Rattle.sonic_owned.proofs.Folds.{node_form, node-roll}
+use Rattle.sonic_owned.proofs.Folds.{node-roll}
+use Rattle.sonic_owned.specs.Internal.Bulks.{node_form}
 use Rattle.sonic_owned.specs.Views.{elements, members}
 use Rattle.sonic_text.specs.Quoting.{quoted}
 use Rattle.std.specs.Prelude.{codes, ⊤}

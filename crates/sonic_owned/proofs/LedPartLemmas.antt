@@ -1,18 +1,17 @@
 -- What a path leads to is one part, of a sound form a sound one, and a path leads on from there.
-use Rattle.std.proofs.Common.{◌≡◌, ◌∙◌, refl, sym, ap, ap₂, ℕ, ◌-◌, zero, suc, List, [], ◌∷◌, ◌++◌, length, arith}
+use Rattle.std.proofs.Common.{◌≡◌, ◌∙◌, refl, sym, ap, ℕ, ◌-◌, List, [], ◌++◌, length, arith}
 use Rattle.std.proofs.lemmas.List.{append-nil, take_all}
 use Rattle.std.proofs.lemmas.Option.{same_Some}
 use Rattle.std.specs.Prelude.{slice_range}
 use Rattle.std.specs.Str.{IsUtf8}
 use Rattle.sonic_find.proofs.PartLemmas.{leads_in_whole, same_text_in_part}
 use Rattle.sonic_find.proofs.PathLemmas.Outcome.{evaluates_one}
-use Rattle.sonic_find.specs.Answers.{Span}
 use Rattle.sonic_find.specs.Laws.{LeadsInPart}
-use Rattle.sonic_find.specs.Paths.{Outcome, found, Evaluates, found_here, Leads}
+use Rattle.sonic_find.specs.Paths.{found, found_here, Leads}
 use Rattle.sonic_owned.proofs.MeantPathLemmas.{text_leads}
 use Rattle.sonic_owned.proofs.OpenedLemmas.{span_sound}
 use Rattle.sonic_owned.proofs.PutLawLemmas.{item_stays}
-use Rattle.sonic_owned.specs.Forms.{Form, raw, IsSound, raw_sound, level_sound}
+use Rattle.sonic_owned.specs.Forms.{Form, raw, IsSound, raw_sound}
 use Rattle.sonic_owned.specs.Leading.{LeadsTo, leads_here, leads_on, leads_in_text}
 use Rattle.sonic_text.proofs.TreeLemmas.{tree_of, value_of}
 use Rattle.sonic_text.proofs.Values.{value_end_one, value_starts}

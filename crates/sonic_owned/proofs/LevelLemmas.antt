@@ -1,7 +1,8 @@
 -- The level that a value is opened to is that of its form.
 use Rattle.std.proofs.Common.{◌∙◌, sym}
 use Rattle.std.specs.Prelude.{⊤}
-use Rattle.sonic_owned.proofs.Folds.{node_form, node-roll, form-node}
+use Rattle.sonic_owned.proofs.Folds.{node-roll, form-node}
+use Rattle.sonic_owned.specs.Internal.Bulks.{node_form}
 use Rattle.sonic_owned.specs.Views.{form, node_array, node_object, array_in, object_in, IsLevelOf, an_array, an_object, no_level}
 use Rattle.sonic_owned.specs.declared.value.LazyArray.{LazyArray}
 use Rattle.sonic_owned.specs.declared.value.LazyObject.{LazyObject}

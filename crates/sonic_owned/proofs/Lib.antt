@@ -1,6 +1,8 @@
 mod Answered
 mod AnswerLemmas
+pub mod BulkLemmas
 mod ChangeLemmas
+pub mod CopyLemmas
 pub mod DocumentLemmas
 pub mod EditLemmas
 mod Folds
@@ -24,7 +26,7 @@ mod PutLawLemmas
 mod PutLemmas
 mod ReachLemmas
 mod TextLemmas
-mod Texts
+pub mod UnwrittenLemmas
 mod Utf8Lemmas
 pub mod ValueLemmas
 mod WalkLemmas

@@ -5,7 +5,8 @@ use Rattle.std.specs.Str.{IsUtf8}
 use Rattle.sonic_lazy.proofs.RawNumberLemmas.{whole_utf8}
 use Rattle.sonic_lazy.proofs.WholeLemmas.{null_is_whole, whole_had, false_not_true}
 use Rattle.sonic_lazy.specs.Wholes.{IsWholeValue}
-use Rattle.sonic_owned.proofs.Folds.{elements_of, elements-roll, members_of, members-roll, node_form, node-roll, form-node, form-roll}
+use Rattle.sonic_owned.proofs.Folds.{elements_of, elements-roll, members_of, members-roll, node-roll, form-node, form-roll}
+use Rattle.sonic_owned.specs.Internal.Bulks.{node_form}
 use Rattle.sonic_owned.proofs.IntegerLemmas.{integer_number}
 use Rattle.sonic_owned.specs.Forms.{Form, raw, level, Members, IsSound, raw_sound, level_sound, AreSound, none_sound, item_sound, text, FormMeans, raw_means, level_means, MembersMean, no_member_means, member_means, unnamed, named}
 use Rattle.sonic_owned.specs.Integers.{value as integer}

@@ -8,7 +8,7 @@ ghost use Rattle.sonic_owned.specs.TreeEdits.{edit_at, push, pair, insert, remov
 ghost use Rattle.sonic_owned.specs.Views.{form};
 ghost use Rattle.sonic_pointer.specs.Nodes.{node_of, path_of};
 
-use crate::value::OwnedLazyValue;
+use crate::value::{Opens, OwnedLazyValue};
 use sonic_error::{Error, ErrorCode, Result};
 use sonic_input::FastStr;
 use sonic_lazy::JsonValueTrait;

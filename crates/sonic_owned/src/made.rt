@@ -1,11 +1,9 @@
 // Text as it is denoted: keys and strings.
-ghost use Rattle.std.specs.Prelude.{◌≡◌, IfOk, IfErr, IsUtf8};
-ghost use Rattle.sonic_error.specs.Errors.{IsPlainError};
+ghost use Rattle.std.specs.Prelude.{◌≡◌, IfOk, IsUtf8};
 ghost use Rattle.std.proofs.Props.{props};
 
-use sonic_error::{ErrorCode, Result};
 use sonic_input::FastStr;
-use std::alloc::Global;
+use std::alloc::{AllocError, Global};
 
 // A key, or the text of a string: UTF-8, as it is denoted, without quotes and escapes.
 #[derive(Drop)]
@@ -16,13 +14,12 @@ pub(crate) struct MadeText {
 
 impl MadeText {
     // Another owner of the text.
-    pub(crate) fn clone(&self, alloc: Global) -> Result<MadeText>
-        ensures ok { IfOk result (λ made. made.text ≡ self.now.text) }
-        ensures err { IfErr result (λ error. IsPlainError error ErrorCode.NoMemory) }
+    pub(crate) fn clone(&self, alloc: Global) -> Result<MadeText, AllocError>
+        ensures { IfOk result (λ made. made.text ≡ self.now.text) }
     {
         match self.text.clone(alloc) {
             Ok(text) => Ok(MadeText { text }),
-            Err(error) => Err(error),
+            Err(_) => Err(AllocError),
         }
     }
 }

@@ -7,12 +7,12 @@ ghost use Rattle.sonic_lazy.specs.Wholes.{IsWholeValue};
 use sonic_error::{ErrorCode, Result};
 use sonic_input::{FastStr, JsonSlice};
 use sonic_lazy::LazyValue;
-use std::alloc::Global;
+use std::alloc::{AllocError, Global};
 
 // The text of one value in UTF-8, from end to end, and whether that is a string with a backslash.
 #[derive(Drop)]
 pub(crate) struct RawValue {
-    text: FastStr,
+    pub(crate) text: FastStr,
     has_escaped: bool,
     ghost whole: { ∥ IsWholeValue text has_escaped ∥₁ },
 }
@@ -30,12 +30,6 @@ impl RawValue {
         }
     }
 
-    pub(crate) fn as_str(&self) -> &str
-        ensures { result.now ≡ self.now.text }
-    {
-        self.text.as_str()
-    }
-
     // The value, as it is read.
     pub(crate) fn as_lazy(&self) -> LazyValue<'_>
         ensures { raw_bytes result ≡ self.now.text }
@@ -44,14 +38,13 @@ impl RawValue {
     }
 
     // Another owner of the text.
-    pub(crate) fn clone(&self, alloc: Global) -> Result<RawValue>
-        ensures ok { IfOk result (λ made. made.text ≡ self.now.text) }
-        ensures err { IfErr result (λ error. IsPlainError error ErrorCode.NoMemory) }
+    pub(crate) fn clone(&self, alloc: Global) -> std::result::Result<RawValue, AllocError>
+        ensures { IfOk result (λ made. made.text ≡ self.now.text) }
     {
         let has_escaped = self.has_escaped;
         match self.text.clone(alloc) {
             Ok(text) => Ok(RawValue { text, has_escaped }),
-            Err(error) => Err(error),
+            Err(_) => Err(AllocError),
         }
     }
 }

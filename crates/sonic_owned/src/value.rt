@@ -16,6 +16,8 @@ use sonic_input::FastStr;
 use sonic_lazy::LazyValue;
 use std::alloc::Global;
 
+// Values that are taken apart.
+mod apart;
 // Values that are taken and changed.
 mod change;
 // Values that are made of scalars and levels.
@@ -38,6 +40,10 @@ mod pointer;
 mod reach;
 // The text.
 mod show;
+// What of a text is still to be written.
+mod unwritten;
+
+pub(crate) use lend::Opens;
 
 /// A JSON value that owns its text, and is opened a level at a time.
 ///
@@ -56,7 +62,6 @@ pub struct OwnedLazyValue {
 
 // What a value is kept as.
 #[cycle(owned)]
-#[derive(Drop)]
 enum Node {
     Null,
     Bool(bool),
@@ -65,6 +70,18 @@ enum Node {
     Raw(RawValue),
     Array(LazyArray),
     Object(LazyObject),
+}
+
+// A loop that takes no memory, so that no value is too deep for it.
+impl Drop for Node {
+    fn drop(mut self) {
+        'values: loop {
+            match self.shrunk() {
+                Some(rest) => self = rest,
+                None => return,
+            }
+        }
+    }
 }
 
 /// An array that is opened: its elements, in order.

@@ -266,3 +266,28 @@ fn keeps_deep_values_unopened(rt: HostRuntime) -> Result<(), Fail> {
     }
     Ok(())
 }
+
+#[test]
+fn goes_as_deep_as_memory_lasts(rt: HostRuntime) -> Result<(), Fail> {
+    const PAIRS: usize = 500_000;
+    let alloc = rt.alloc();
+    let mut value = OwnedLazyValue::from(true);
+    for _ in 0..PAIRS {
+        let mut array = LazyArray::new(alloc);
+        assert!(rt; array.push(OwnedLazyValue::from(())).is_ok());
+        assert!(rt; array.push(value).is_ok());
+        let array = OwnedLazyValue::from(array);
+        let mut object = LazyObject::new(alloc);
+        assert!(rt; object.append_pair(FastStr::new(alloc, "a")?, array).is_ok());
+        value = OwnedLazyValue::from(object);
+    }
+    let mut text = "{\"a\":[null,".repeat(alloc, PAIRS)?;
+    text.push_str("true")?;
+    text.push_str(&"]}".repeat(alloc, PAIRS)?)?;
+    check_text(&rt, alloc, &value, &text);
+    match value.clone(alloc) {
+        Ok(copy) => check_text(&rt, alloc, &copy, &text),
+        Err(error) => panic!(rt; "{error}"),
+    }
+    Ok(())
+}

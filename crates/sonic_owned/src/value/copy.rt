@@ -1,12 +1,15 @@
 // Copies of values.
-ghost use Rattle.std.specs.Prelude.{◌≡◌, IfOk, IfErr};
+ghost use Rattle.std.specs.Prelude.{◌≡◌, ◌+◌, ◌<◌, option_map, Some, None, IfOk, IfErr, IfSome};
 ghost use Rattle.sonic_error.specs.Errors.{IsPlainError};
 ghost use Rattle.sonic_owned.specs.Forms.{raw, text};
+ghost use Rattle.sonic_owned.specs.Internal.Bulks.{bulk};
+ghost use Rattle.sonic_owned.specs.Internal.Copies.{copied_form, copying_bulk, next_form, waiting_bulk, HasCopied};
 ghost use Rattle.sonic_owned.specs.Seen.{view_form};
-ghost use Rattle.sonic_owned.specs.Views.{form, elements, members};
+ghost use Rattle.sonic_owned.specs.Views.{form};
 
 use super::{LazyArray, LazyObject, Node, OwnedLazyValue};
 use crate::integer::Integer;
+use crate::made::MadeText;
 use crate::view::OwnedView;
 use sonic_error::{Error, ErrorCode, Result};
 use sonic_input::JsonSlice;
@@ -16,6 +19,7 @@ use std::alloc::{AllocError, Global};
 impl OwnedLazyValue {
     /// An equal value: opened as far as this one is, with the same text.
     ///
+    /// A value may be opened as deep as memory lasts, as no level needs stack.
     /// The only error is `ErrorCode::NoMemory`.
     pub fn clone(&self, alloc: Global) -> Result<OwnedLazyValue>
         ensures ok { IfOk result (λ made. form made ≡ form self.now) }
@@ -53,50 +57,109 @@ impl OwnedView<'_> {
     }
 }
 
-// A copy of a value. It descends the levels that are opened, which callers opened one by one.
-#[cycle(copy)]
+// A copy that is being made: it is whole, or these items of a level are left, and those before them
+// are copied.
+#[derive(Drop)]
+enum Copying<'a> {
+    Whole(OwnedLazyValue),
+    Array(&'a [OwnedLazyValue], Vec<OwnedLazyValue>),
+    Object(&'a [(MadeText, OwnedLazyValue)], Vec<(MadeText, OwnedLazyValue)>),
+}
+
+// A copy of a value. The levels that are open wait in a vector, so that none is too deep.
 fn copy(value: &OwnedLazyValue, alloc: Global) -> std::result::Result<OwnedLazyValue, AllocError>
     ensures { IfOk result (λ made. form made ≡ form value.now) }
+{
+    let mut opened = Vec::new(alloc);
+    let mut level = begin(value, alloc)?;
+    'items: loop {
+        if let Some(item) = level.next() {
+            opened.push(level)?;
+            level = begin(item, alloc)?;
+            continue;
+        }
+        let made = level.close();
+        let Some(outer) = opened.pop() else {
+            return Ok(made);
+        };
+        level = outer.put(made, alloc)?;
+    }
+}
+
+// Begins a copy: of a scalar it is whole.
+fn begin(value: &OwnedLazyValue, alloc: Global) -> std::result::Result<Copying<'_>, AllocError>
+    ensures same { IfOk result (λ begun. copied_form begun ≡ form value.now) }
+    ensures less { IfOk result (λ begun. copying_bulk begun < bulk (form value.now)) }
 {
     let node = match &value.node {
         Node::Null => Node::Null,
         Node::Bool(truth) => Node::Bool(*truth),
         Node::Integer(integer) => Node::Integer(Integer { kept: integer.kept }),
-        Node::Text(text) => match text.clone(alloc) {
-            Ok(text) => Node::Text(text),
-            Err(_) => return Err(AllocError),
-        },
-        Node::Raw(raw) => match raw.clone(alloc) {
-            Ok(raw) => Node::Raw(raw),
-            Err(_) => return Err(AllocError),
-        },
-        Node::Array(level) => Node::Array(copy_elements(level, alloc)?),
-        Node::Object(level) => Node::Object(copy_members(level, alloc)?),
+        Node::Text(text) => Node::Text(text.clone(alloc)?),
+        Node::Raw(raw) => Node::Raw(raw.clone(alloc)?),
+        Node::Array(level) => {
+            let made = Vec::with_capacity(alloc, level.elements.len())?;
+            return Ok(Copying::Array(&level.elements, made));
+        }
+        Node::Object(level) => {
+            let made = Vec::with_capacity(alloc, level.members.len())?;
+            return Ok(Copying::Object(&level.members, made));
+        }
     };
-    Ok(OwnedLazyValue { node })
+    Ok(Copying::Whole(OwnedLazyValue { node }))
 }
 
-#[cycle(copy)]
-fn copy_elements(level: &LazyArray, alloc: Global) -> std::result::Result<LazyArray, AllocError>
-    ensures { IfOk result (λ made. elements made ≡ elements level.now) }
-{
-    let mut elements = Vec::with_capacity(alloc, level.elements.len())?;
-    for element in &level.elements {
-        elements.push(copy(element, alloc)?)?;
+impl<'a> Copying<'a> {
+    // The first item that is left.
+    fn next(&self) -> Option<&'a OwnedLazyValue>
+        ensures next { option_map (λ item. form item.now) result ≡ next_form self.now }
+        ensures less { IfSome result (λ item.
+            copying_bulk self.now ≡ waiting_bulk self.now + bulk (form item.now)) }
+    {
+        match self {
+            Copying::Whole(_) => None,
+            Copying::Array(elements, _) => elements.first(),
+            Copying::Object(members, _) => match members.first() {
+                Some((_, value)) => Some(value),
+                None => None,
+            },
+        }
     }
-    Ok(LazyArray { elements })
-}
 
-#[cycle(copy)]
-fn copy_members(level: &LazyObject, alloc: Global) -> std::result::Result<LazyObject, AllocError>
-    ensures { IfOk result (λ made. members made ≡ members level.now) }
-{
-    let mut members = Vec::with_capacity(alloc, level.members.len())?;
-    for (key, value) in &level.members {
-        let Ok(key) = key.clone(alloc) else {
-            return Err(AllocError);
-        };
-        members.push((key, copy(value, alloc)?))?;
+    // With a copy of that item.
+    fn put(
+        self,
+        item: OwnedLazyValue,
+        alloc: Global,
+    ) -> std::result::Result<Copying<'a>, AllocError>
+        ensures { IfOk result (λ next. next_form self.entry ≡ Some (form item)
+            → HasCopied self.entry (form item) next) }
+    {
+        match self {
+            Copying::Array([_, rest @ ..], mut made) => {
+                made.push(item)?;
+                Ok(Copying::Array(rest, made))
+            }
+            Copying::Object([(key, _), rest @ ..], mut made) => {
+                made.push((key.clone(alloc)?, item))?;
+                Ok(Copying::Object(rest, made))
+            }
+            full => Ok(full),
+        }
     }
-    Ok(LazyObject { members })
+
+    // The copy, where no item is left.
+    fn close(self) -> OwnedLazyValue
+        ensures { next_form self.entry ≡ None → form result ≡ copied_form self.entry }
+    {
+        match self {
+            Copying::Whole(made) => made,
+            Copying::Array(_, elements) => OwnedLazyValue {
+                node: Node::Array(LazyArray { elements }),
+            },
+            Copying::Object(_, members) => OwnedLazyValue {
+                node: Node::Object(LazyObject { members }),
+            },
+        }
+    }
 }

@@ -1,21 +1,19 @@
 // What a value is, and the level that it is opened to.
-ghost use Rattle.std.specs.Prelude.{◌≡◌, ◌↔◌, length, IsSome, IsTrue, IfSome, IfOk, IfErr, OnErr, None};
+ghost use Rattle.std.specs.Prelude.{◌≡◌, ◌↔◌, length, IsSome, IfSome, IfOk, IfErr, OnErr, None};
 ghost use Rattle.std.specs.Cow.{cow_str_bytes};
 ghost use Rattle.sonic_error.specs.Errors.{IsPlainError};
 ghost use Rattle.sonic_lazy.specs.RawNumbers.{IsNumberText};
-ghost use Rattle.sonic_find.specs.Paths.{kind_of};
-ghost use Rattle.sonic_lazy.specs.Scalars.{container, text as a_text};
+ghost use Rattle.sonic_lazy.specs.Scalars.{text as a_text};
 ghost use Rattle.sonic_lazy.specs.StringTexts.{IsEscapedText};
 ghost use Rattle.sonic_owned.specs.Forms.{text, scalar_of_form};
 ghost use Rattle.sonic_owned.specs.Seen.{IsLentText};
 ghost use Rattle.sonic_owned.specs.Views.{form, made_text};
-ghost use Rattle.sonic_pointer.specs.Nodes.{node_of};
 ghost use Rattle.sonic_text.specs.Strings.{strict, IsString};
 
 use super::{LazyArray, LazyObject, Node, OwnedLazyValue};
+use crate::integer::Kept;
 use sonic_error::{Error, ErrorCode, JsonType, Result};
 use sonic_lazy::{JsonContainerTrait, JsonValueTrait, RawNumber};
-use sonic_pointer::PointerNode;
 use sonic_text::quoted_text_is_a_string;
 use std::alloc::Global;
 use std::borrow::CowStr;
@@ -49,7 +47,10 @@ impl JsonValueTrait for OwnedLazyValue {
 
     fn as_i64(&self) -> Option<i64> {
         match &self.node {
-            Node::Integer(integer) => integer.as_i64(),
+            Node::Integer(integer) => match integer.kept {
+                Kept::Unsigned(n) => i64::try_from(n).ok(),
+                Kept::Signed(z) => Some(z),
+            },
             Node::Raw(raw) => raw.as_lazy().as_i64(),
             _ => None,
         }
@@ -57,7 +58,10 @@ impl JsonValueTrait for OwnedLazyValue {
 
     fn as_u64(&self) -> Option<u64> {
         match &self.node {
-            Node::Integer(integer) => integer.as_u64(),
+            Node::Integer(integer) => match integer.kept {
+                Kept::Unsigned(n) => Some(n),
+                Kept::Signed(z) => u64::try_from(z).ok(),
+            },
             Node::Raw(raw) => raw.as_lazy().as_u64(),
             _ => None,
         }
@@ -65,17 +69,6 @@ impl JsonValueTrait for OwnedLazyValue {
 }
 
 impl OwnedLazyValue {
-    // Whether the value is of the kind that a node asks for.
-    pub(super) fn is_for(&self, node: PointerNode<'_>) -> bool
-        ensures { IsTrue result
-            ↔ (scalar_of_form (form self.now) ≡ container (kind_of (node_of node.entry))) }
-    {
-        match node {
-            PointerNode::Index(_) => self.is_array(),
-            PointerNode::Key(_) => self.is_object(),
-        }
-    }
-
     /// What the value denotes where it is a string (RFC 8259, section 7), and else `None`.
     ///
     /// The text is borrowed exactly where the string was made of it, or has no backslash, and else made

@@ -18,8 +18,9 @@ ghost use Rattle.sonic_owned.specs.contracts.value.LazyObject.{the_row as object
 ghost use Rattle.sonic_pointer.specs.Nodes.{node_of, path_of};
 ghost use Rattle.sonic_text.specs.declared.kind.Kind.TheVariants.{Array, Object};
 
-use super::{LazyArray, LazyObject, OwnedLazyValue};
+use super::{LazyArray, LazyObject, Node, OwnedLazyValue};
 use sonic_error::{Error, ErrorCode, Result};
+use sonic_lazy::JsonValueTrait;
 use sonic_pointer::{MAX_NODES, PointerNode};
 use std::alloc::Global;
 
@@ -37,7 +38,7 @@ pub(super) enum Stop {
 //
 // The borrow checker proves what is lent of a type by way of this trait, and not what is lent of a
 // value as a value.
-trait Opens {
+pub(crate) trait Opens {
     // The form of the value.
     ghost seen: { Self → Form };
 
@@ -73,7 +74,10 @@ impl Opens for OwnedLazyValue {
     ghost seen = { form };
 
     fn is_for(&self, node: PointerNode<'_>) -> bool {
-        self.is_for(node)
+        match node {
+            PointerNode::Index(_) => self.is_array(),
+            PointerNode::Key(_) => self.is_object(),
+        }
     }
 
     fn open_level(&mut self, alloc: Global) -> bool {
@@ -84,11 +88,17 @@ impl Opens for OwnedLazyValue {
     }
 
     fn array_level<'a>(&'a mut self) -> Option<&'a mut LazyArray> {
-        self.array_level()
+        match &mut self.node {
+            Node::Array(level) => Some(level),
+            _ => None,
+        }
     }
 
     fn object_level<'a>(&'a mut self) -> Option<&'a mut LazyObject> {
-        self.object_level()
+        match &mut self.node {
+            Node::Object(level) => Some(level),
+            _ => None,
+        }
     }
 }
 

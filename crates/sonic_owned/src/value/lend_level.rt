@@ -13,7 +13,7 @@ ghost use Rattle.sonic_owned.specs.contracts.value.LazyArray.{the_row as array_r
 ghost use Rattle.sonic_owned.specs.contracts.value.LazyObject.{the_row as object_row};
 ghost use Rattle.sonic_text.specs.declared.kind.Kind.TheVariants.{Array, Object};
 
-use super::lend::{Stop, found_or_error};
+use super::lend::{Opens, Stop, found_or_error};
 use super::{LazyArray, LazyObject, OwnedLazyValue};
 use sonic_error::{ErrorCode, Result};
 use sonic_lazy::JsonValueTrait;

@@ -7,6 +7,7 @@ ghost use Rattle.sonic_owned.specs.Views.{form};
 ghost use Rattle.sonic_pointer.specs.Nodes.{path_of};
 
 use super::OwnedLazyValue;
+use super::lend::Opens;
 use sonic_error::{Error, ErrorCode, Result};
 use sonic_pointer::{MAX_NODES, PointerNode};
 use std::alloc::Global;

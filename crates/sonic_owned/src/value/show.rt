@@ -7,10 +7,10 @@ ghost use Rattle.sonic_owned.specs.Forms.{text, members_text, unnamed, named};
 ghost use Rattle.sonic_owned.specs.Seen.{view_form};
 ghost use Rattle.sonic_owned.specs.Views.{form, elements, members};
 
+use super::unwritten::{Unwritten, begin, show_left};
 use super::{LazyArray, LazyObject, Node, OwnedLazyValue};
 use crate::view::OwnedView;
 use sonic_error::{Error, ErrorCode, Result};
-use sonic_text::write_quoted;
 use std::alloc::Global;
 use std::borrow::CowStr;
 use std::fmt;
@@ -20,7 +20,8 @@ impl OwnedLazyValue {
     /// The text of the value: what was never opened as it is, and a level that was opened without
     /// white space.
     ///
-    /// The only error is `ErrorCode::NoMemory`. Of `{"\/" : 1}` it is `{"\/" : 1}`, and after
+    /// A value may be opened as deep as memory lasts, as no level needs stack. The only error is
+    /// `ErrorCode::NoMemory`. Of `{"\/" : 1}` it is `{"\/" : 1}`, and after
     /// the value was opened `{"/":1}`.
     pub fn to_string(&self, alloc: Global) -> Result<String>
         ensures ok { IfOk result (λ made. string_bytes made ≡ text (form self.now)) }
@@ -47,12 +48,16 @@ impl<'a> OwnedView<'a> {
             OwnedView::Raw(value) => return Ok(value.as_raw_cow()),
         };
         match &value.node {
-            Node::Raw(raw) => Ok(CowStr::Borrowed(raw.as_str())),
+            Node::Raw(raw) => Ok(CowStr::Borrowed(raw.text.as_str())),
             _ => Ok(CowStr::Owned(value.to_string(alloc)?)),
         }
     }
 }
 
+/// The text of the value, as [`OwnedLazyValue::to_string`] writes it.
+///
+/// Levels that are open wait in memory of where the value's own came from, and where that runs out it
+/// is an error of the formatter.
 impl fmt::Display for OwnedLazyValue {
     ghost use Rattle.std.specs.Prelude.{Some};
     ghost use Rattle.sonic_owned.specs.Forms.{text};
@@ -61,11 +66,14 @@ impl fmt::Display for OwnedLazyValue {
     ghost output = { λ value. Some (text (form value)) };
 
     fn fmt<W: Write>(&self, f: &mut fmt::Formatter<W>) -> fmt::Result {
-        show(self, f)
+        match begin(self, f)? {
+            Some(left) => show_left(left, f),
+            None => Ok(()),
+        }
     }
 }
 
-/// The text of the value.
+/// The text of the value, as `Display` writes it.
 impl fmt::Debug for OwnedLazyValue {
     ghost use Rattle.std.specs.Prelude.{Some};
     ghost use Rattle.sonic_owned.specs.Forms.{text};
@@ -74,7 +82,7 @@ impl fmt::Debug for OwnedLazyValue {
     ghost debug_output = { λ value. Some (text (form value)) };
 
     fn fmt<W: Write>(&self, f: &mut fmt::Formatter<W>) -> fmt::Result {
-        show(self, f)
+        fmt::Display::fmt(self, f)
     }
 }
 
@@ -88,7 +96,9 @@ impl fmt::Debug for LazyArray {
     ghost debug_output = { λ array. Some (text (level Array (unnamed (elements array)))) };
 
     fn fmt<W: Write>(&self, f: &mut fmt::Formatter<W>) -> fmt::Result {
-        show_elements(self, f)
+        f.write_str("[")?;
+        let alloc = *self.elements.allocator();
+        show_left(Unwritten::Elements(&self.elements, false, alloc), f)
     }
 }
 
@@ -102,55 +112,8 @@ impl fmt::Debug for LazyObject {
     ghost debug_output = { λ object. Some (text (level Object (named (members object)))) };
 
     fn fmt<W: Write>(&self, f: &mut fmt::Formatter<W>) -> fmt::Result {
-        show_members(self, f)
+        f.write_str("{")?;
+        let alloc = *self.members.allocator();
+        show_left(Unwritten::Members(&self.members, false, alloc), f)
     }
-}
-
-// Writes the text of a value. It descends the levels that are opened, which callers opened one by one.
-#[cycle(show)]
-fn show<W: Write>(value: &OwnedLazyValue, f: &mut fmt::Formatter<W>) -> fmt::Result
-    ensures { WritesOnOk W.Write.write_str_gives f.old result (text (form value.now)) f.new }
-{
-    match &value.node {
-        Node::Null => f.write_str("null"),
-        Node::Bool(true) => f.write_str("true"),
-        Node::Bool(false) => f.write_str("false"),
-        Node::Integer(integer) => write!(f, "{integer}"),
-        Node::Text(text) => write_quoted(text.text.as_str(), f),
-        Node::Raw(raw) => f.write_str(raw.as_str()),
-        Node::Array(level) => show_elements(level, f),
-        Node::Object(level) => show_members(level, f),
-    }
-}
-
-#[cycle(show)]
-fn show_elements<W: Write>(level: &LazyArray, f: &mut fmt::Formatter<W>) -> fmt::Result
-    ensures { WritesOnOk W.Write.write_str_gives f.old result
-        (91 ∷ members_text [] (unnamed (elements level.now)) ++ 93 ∷ []) f.new }
-{
-    f.write_str("[")?;
-    let mut before = "";
-    for element in &level.elements {
-        f.write_str(before)?;
-        show(element, f)?;
-        before = ",";
-    }
-    f.write_str("]")
-}
-
-#[cycle(show)]
-fn show_members<W: Write>(level: &LazyObject, f: &mut fmt::Formatter<W>) -> fmt::Result
-    ensures { WritesOnOk W.Write.write_str_gives f.old result
-        (123 ∷ members_text [] (named (members level.now)) ++ 125 ∷ []) f.new }
-{
-    f.write_str("{")?;
-    let mut before = "";
-    for (key, value) in &level.members {
-        f.write_str(before)?;
-        write_quoted(key.text.as_str(), f)?;
-        f.write_str(":")?;
-        show(value, f)?;
-        before = ",";
-    }
-    f.write_str("}")
 }

@@ -1,4 +1,4 @@
-use Rattle.std.proofs.Common.{◌∙◌, length, arith, refl}
+use Rattle.std.proofs.Common.{length, arith}
 use Rattle.sonic_blocks.proofs.BlockLemmas.{IsBlock, carried_on, carried_start}
 use Rattle.sonic_min.specs.Internal.Marks.{HasNoMark}
 use Rattle.sonic_min.proofs.LaidLemmas.{finished, started}
@@ -10,7 +10,6 @@ loop-place-init c = record {
   carried = carried_start c.args.text.now 0;
   none = λ k l m. absurd (omega arith);
   laid = started c.args.width c.requires.valid c.requires.nothing;
-  writes = refl;
 }
 
 pub pass_block-requires-clause-marks : goal.pass_block-requires-clause-marks
@@ -31,7 +30,6 @@ loop-place-preserved c =
       carried = carried_on block inside.ensures.escaped inside.ensures.instring;
       none = c.in_ok-so_far.ensures.none;
       laid = c.in_ok-so_far.ensures.laid;
-      writes = c.in_ok-so_far.ensures.writes ∙ c.loop-place.invariant.writes;
     }
 
 pub returns-clause-ok : goal.returns-clause-ok
@@ -39,6 +37,3 @@ returns-clause-ok c =
     let v = c.loop-place.invariant in
     let none : HasNoMark c.args.text.now c.loop-place.so_far.start (length c.args.text.now) = λ k l m. v.none k l (omega (arith, c.loop-place-test.false)) in
     finished v.laid none c.in_ok-put_token.ensures.ok
-
-pub returns-clause-writes : goal.returns-clause-writes
-returns-clause-writes c = c.in_ok-put_token.ensures.writes ∙ c.loop-place.invariant.writes

@@ -1,4 +1,4 @@
-use Rattle.std.proofs.Common.{◌≡◌, ◌-◌, length}
+use Rattle.std.proofs.Common.{◌-◌, length}
 use Rattle.sonic_blocks.specs.Internal.Carried.{AreCarried}
 use Rattle.sonic_min.specs.Internal.Lines.{IsLaidTo}
 use Rattle.sonic_min.specs.Internal.Marks.{HasNoMark}
@@ -9,7 +9,6 @@ invariant-loop-place l = record {
   carried : AreCarried l.text 0 l.place l.in_escape l.in_string;
   none : HasNoMark l.text l.so_far.start l.place;
   laid : IsLaidTo l.text l.width l.out l.so_far;
-  writes : l.out.writes ≡ l.fn.out.writes;
 }
 
 abbrev pub decreases-loop-place : goal.decreases-loop-place

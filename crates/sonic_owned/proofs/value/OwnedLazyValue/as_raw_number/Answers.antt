@@ -2,7 +2,8 @@ use Rattle.std.proofs.Common.{◌≡◌, ◌∙◌, ap, refl}
 use Rattle.std.specs.Fmt.{signed_decimal}
 use Rattle.sonic_lazy.proofs.RawNumberLemmas.{number_document_one, number_but_memory}
 use Rattle.sonic_lazy.specs.RawNumbers.{IsNumberDocument, IsNumberText}
-use Rattle.sonic_owned.proofs.Folds.{node_form, form-node, form-integer}
+use Rattle.sonic_owned.proofs.Folds.{form-node, form-integer}
+use Rattle.sonic_owned.specs.Internal.Bulks.{node_form}
 use Rattle.sonic_owned.proofs.IntegerLemmas.{integer_document, integer_number}
 use Rattle.sonic_owned.specs.Forms.{raw, text}
 use Rattle.sonic_owned.specs.Integers.{value}

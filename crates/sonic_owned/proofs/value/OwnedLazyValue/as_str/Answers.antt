@@ -1,7 +1,8 @@
 use Rattle.std.proofs.Common.{◌≡◌, ◌∙◌, sym, ap, ◌+◌, [], length, arith}
 use Rattle.std.proofs.lemmas.List.{append-nil}
 use Rattle.std.specs.Fmt.{signed_decimal}
-use Rattle.sonic_owned.proofs.Folds.{node_form, form-node, form-integer, form-raw, form-text}
+use Rattle.sonic_owned.proofs.Folds.{form-node, form-integer, form-raw, form-text}
+use Rattle.sonic_owned.specs.Internal.Bulks.{node_form}
 use Rattle.sonic_owned.proofs.IntegerLemmas.{known}
 use Rattle.sonic_owned.proofs.LentTexts.{raw_lent, raw_not_made}
 use Rattle.sonic_owned.specs.Integers.{value}

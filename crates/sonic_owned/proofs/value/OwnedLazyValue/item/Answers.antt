@@ -1,5 +1,6 @@
 use Rattle.std.proofs.Common.{◌≡◌, ◌∙◌, ap, sym, refl}
-use Rattle.sonic_owned.proofs.Folds.{node_form, form-node, form-array, form-object}
+use Rattle.sonic_owned.proofs.Folds.{form-node, form-array, form-object}
+use Rattle.sonic_owned.specs.Internal.Bulks.{node_form}
 use Rattle.sonic_owned.proofs.LeadingLemmas.{item_at_list, item_of_first, item_of_none}
 use Rattle.sonic_owned.proofs.value.OwnedLazyValue.item.Goals as goal
 use Rattle.sonic_owned.specs.Forms.{level, unnamed, named}

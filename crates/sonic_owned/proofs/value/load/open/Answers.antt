@@ -1,7 +1,8 @@
 use Rattle.std.proofs.Common.{◌≡◌, ◌∙◌, ap, refl}
 use Rattle.sonic_lazy.specs.Iterators.{Iterating}
 use Rattle.sonic_lazy.specs.Scalars.{container, scalar_of}
-use Rattle.sonic_owned.proofs.Folds.{node_form, form-node, form-raw, form-array, form-object, form-roll}
+use Rattle.sonic_owned.proofs.Folds.{form-node, form-raw, form-array, form-object, form-roll}
+use Rattle.sonic_owned.specs.Internal.Bulks.{node_form}
 use Rattle.sonic_owned.proofs.LeadingLemmas.{closed_raw}
 use Rattle.sonic_owned.specs.Forms.{unnamed, named}
 use Rattle.sonic_owned.specs.Opened.{AreAllMembers}

@@ -1,5 +1,6 @@
 use Rattle.std.proofs.Common.{◌≡◌, ◌∙◌, ap, inl, inr}
-use Rattle.sonic_owned.proofs.Folds.{node_form, form-node, form-array, form-object}
+use Rattle.sonic_owned.proofs.Folds.{form-node, form-array, form-object}
+use Rattle.sonic_owned.specs.Internal.Bulks.{node_form}
 use Rattle.sonic_owned.proofs.ValueLemmas.{level_whole, value_sound}
 use Rattle.sonic_owned.specs.Forms.{level, unnamed, named}
 use Rattle.sonic_owned.specs.Views.{form, elements, members}

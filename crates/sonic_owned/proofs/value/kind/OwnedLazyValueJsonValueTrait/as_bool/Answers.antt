@@ -1,6 +1,7 @@
 use Rattle.std.proofs.Common.{◌≡◌, ◌∙◌, ap, refl}
 use Rattle.std.specs.Fmt.{signed_decimal}
-use Rattle.sonic_owned.proofs.Folds.{node_form, form-node, form-integer}
+use Rattle.sonic_owned.proofs.Folds.{form-node, form-integer}
+use Rattle.sonic_owned.specs.Internal.Bulks.{node_form}
 use Rattle.sonic_owned.proofs.IntegerLemmas.{known}
 use Rattle.sonic_owned.specs.Forms.{raw}
 use Rattle.sonic_owned.specs.Integers.{value}
