@@ -1,4 +1,4 @@
-"""Runs commands and tests over what is deep on a small stack: depth.py PROGRAM TESTS FOLDER LEVELS STACK"""
+"""Runs commands and tests over what is deep on a small stack: depth.py PROGRAM FOLDER LEVELS STACK TESTS.."""
 import os
 import resource
 import subprocess
@@ -18,6 +18,16 @@ COMMANDS = [
     (["patch"], '[{"op":"move","from":"/a","path":"/b"}]\n{"a":', "}"),
     (["patch"], '[{"op":"copy","from":"/a","path":"/b"},{"op":"test","path":"/b","value":1}]\n{"a":', "}", 1),
     (["fill"], '{"b":1}\n{"a":', ',"b":2}'),
+]
+# The same with a path of as many nodes as one may have, for half that stack.
+PATH = "[" + ",".join(["0"] * 255) + "]"
+POINTER = "/0" * 255
+FOLLOWED = [
+    (["get"], f"{PATH}\n\n", ""),
+    (["fast"], f"{PATH}\n\n", ""),
+    (["lines"], f"{PATH}\n\n", "\n"),
+    (["edit"], f'["push",{PATH},[1]]\n["set",{PATH},2]\n\n', ""),
+    (["patch"], f'[{{"op":"move","from":"{POINTER}","path":""}}]\n', ""),
 ]
 TEST = "goes_as_deep_as_memory_lasts"
 
@@ -40,21 +50,24 @@ def tests_of(program, stack):
         yield name, subprocess.run([program, name], stdout=subprocess.DEVNULL, preexec_fn=on_stack(stack)).returncode
 
 
-def main(program, tests, folder, levels, stack):
+def main(program, folder, levels, stack, tests):
     bad = 0
     given = os.path.join(folder, "input")
-    for words, before, after, *other in COMMANDS:
-        with open(given, "w") as file:
-            file.write(before + "[" * levels + "]" * levels + after)
-        status = ended([program, *words], given, stack)
-        good = [status] == (other or [0])
-        bad += not good
-        print(f"{' '.join(words)}: status {status}{'' if good else ', and it should not be'}", flush=True)
-    for name, status in tests_of(tests, stack) if os.path.exists(tests) else []:
-        bad += status != 0
-        print(f"{name}: status {status}", flush=True)
+    for part, kibibytes in ((COMMANDS, stack), (FOLLOWED, stack // 2)):
+        for words, before, after, *other in part:
+            with open(given, "w") as file:
+                file.write(before + "[" * levels + "]" * levels + after)
+            status = ended([program, *words], given, kibibytes)
+            good = [status] == (other or [0])
+            bad += not good
+            wrong = "" if good else ", and it should not be"
+            print(f"{' '.join(words)} on {kibibytes} KiB: status {status}{wrong}", flush=True)
+    for built in filter(os.path.exists, tests):
+        for name, status in tests_of(built, stack):
+            bad += status != 0
+            print(f"{os.path.basename(built)} {name}: status {status}", flush=True)
     sys.exit(1 if bad else 0)
 
 
 if __name__ == "__main__":
-    main(sys.argv[1], sys.argv[2], sys.argv[3], int(sys.argv[4]), int(sys.argv[5]))
+    main(sys.argv[1], sys.argv[2], int(sys.argv[3]), int(sys.argv[4]), sys.argv[5:])

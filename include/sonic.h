@@ -22,8 +22,8 @@
    none is said with them.
    Threads: nothing is kept between calls, so any number of threads may call at once, also for one text,
    a cursor or a room for each.
-   Stack: 256 KiB were measured to be enough for each call, with paths of 255 nodes, but 512 KiB for sonic_patch
-   and sonic_edit, with pointers and paths of so many; how deep the text is plays no part in it.
+   Stack: 128 KiB, which is what musl gives a thread, were measured to be enough for each call, with paths of 255
+   nodes and pointers of 255 tokens; how deep the text is plays no part in it.
    Limits: a path has at most 255 nodes, a pointer 255 tokens, and an index is below 2^64. How long or deep a
    text is, and how many paths, edits or operations there are, memory alone limits, but for the depth of what
    sonic_fill reads. */

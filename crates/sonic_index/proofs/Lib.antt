@@ -16,6 +16,10 @@ pub mod WalkLemmas
 pub mod KeptLemmas
 -- What a walk has come to after a step, with its cells.
 pub mod StateLemmas
+-- What the cells say of the containers that are open.
+pub mod AroundLemmas
+-- What a walk has come to after a step, where the cells are its only stack.
+pub mod PlaceLemmas
 -- How the items of a value lie among the entries, and where a node leads by them.
 pub mod ItemLemmas
 -- What the cells say of the items of a value, and where a path leads by them.

@@ -1,32 +1,29 @@
 -- What a walk has come to after a step, with its cells.
-use Rattle.std.proofs.Common.{◌≡◌, ◌∙◌, inl, inr, true, false, sym, subst, ap, ℕ, Bool, ◌+◌, ◌<◌, ◌≤◌, List, [], ◌∷◌, ◌++◌, length, set, arith, refl}
+use Rattle.std.proofs.Common.{◌≡◌, ◌∙◌, inl, inr, true, false, sym, subst, ap, ℕ, Bool, ◌+◌, ◌<◌, ◌≤◌, List, [], ◌∷◌, ◌++◌, length, set, arith}
 use Rattle.std.proofs.lemmas.List.{length-append, length-set}
-use Rattle.std.specs.Prelude.{Option, Some, None, slice_get}
+use Rattle.std.specs.Prelude.{Option, Some, slice_get}
 use Rattle.sonic_text.specs.declared.kind.Kind.{Kind}
 use Rattle.sonic_text.specs.declared.kind.Kind.TheVariants.{Array, Object}
-use Rattle.sonic_text.specs.declared.string.StringEnd.{StringEnd}
 use Rattle.sonic_text.specs.Places.{after_space}
 use Rattle.sonic_text.specs.Strings.{strict}
-use Rattle.sonic_text.specs.Values.{ItemHead, no_head, key_head, IsKey, IsValue, ItemsFit}
+use Rattle.sonic_text.specs.Values.{ItemHead, IsValue, ItemsFit}
 use Rattle.sonic_text.proofs.Places.{after_space_later}
-use Rattle.sonic_text.proofs.Values.{head-later, items-later, key-longer, value-longer}
+use Rattle.sonic_text.proofs.Values.{head-later, items-later, value-longer}
 use Rattle.sonic_parser.specs.declared.descent.Step.TheVariants.{Passed, Entered}
-use Rattle.sonic_parser.specs.Descents.{Descending, IsMoved, IsAtEnd, IsAtItem, IsDescentStep, IsHeadPassed, IsNextOrClosed}
+use Rattle.sonic_parser.specs.Descents.{Descending, IsMoved, IsAtEnd, IsAtItem, IsDescentStep, IsNextOrClosed}
 use Rattle.sonic_parser.specs.OpenContainers.{here, IsItemEnded, IsTop}
 use Rattle.sonic_parser.specs.Parsers.{IsFilledContainer}
-use Rattle.sonic_parser.proofs.DescentLemmas.{fails_as, keeps_to}
+use Rattle.sonic_parser.proofs.DescentLemmas.{fails_as, head_at, keeps_to}
 use Rattle.sonic_parser.specs.declared.fault.Fault.{Fault}
 use Rattle.sonic_parser.specs.declared.fault.Fault.TheVariants.{OutOfMemory, At}
 use Rattle.sonic_parser.specs.Faults.{IsStopFor}
 use Rattle.sonic_text.specs.Documents.{IsRootFault}
 use Rattle.sonic_text.specs.Faults.{IsFault}
 use Rattle.sonic_parser.proofs.SkippingLemmas.{added_top}
-use Rattle.sonic_find.specs.Documents.{IsAfterRoot}
 use Rattle.sonic_index.specs.declared.build.Item.{Item}
 use Rattle.sonic_index.specs.declared.cell.Cell.{Cell}
 use Rattle.sonic_index.specs.declared.entry.Entry.{Entry}
-use Rattle.sonic_index.specs.Internal.Cells.{AreKept}
-use Rattle.sonic_index.specs.Internal.Walks.{AreBounded, AreOfAlone, ExpectsValue, ExpectsItem, EndsValue, AreWritten, IsHeadOf, IsValueEnded, label_at}
+use Rattle.sonic_index.specs.Internal.Walks.{AreBounded, AreOfAlone, ExpectsValue, ExpectsItem, EndsValue, AreWritten, IsValueEnded, label_at}
 use Rattle.sonic_index.proofs.WalkLemmas.{cell_for, closed, ended_part, entered, finished, get_pushed, get_set, headed, IsPlaced, passed, separated, started}
 
 -- bounds hold further on
@@ -66,46 +63,25 @@ bound_set {p} {cells} n end cell f b =
       ];
     }
 
--- what was passed before an item's value
-head_of : (w now : Descending) (kind : Kind) (key : Option StringEnd) → w.lossy ≡ strict → IsHeadPassed kind w now key → (l : Option (List ℕ)) × ItemHead strict w.text kind w.place now.place l
-head_of w now Array None s p = (None, no_head p)
-head_of w now Array (Some key) s p = absurd p
-head_of w now Object None s p = absurd p
-head_of w now Object (Some key) s p = (let y : IsKey strict w.text w.place now.place p.bytes = rw s at p.key in (Some p.bytes, key_head y))
-
-pub passed_later : (w now : Descending) (kind : Kind) (key : Option StringEnd) → IsHeadPassed kind w now key → w.place ≤ now.place
-passed_later w now Array None p = omega (arith, p)
-passed_later w now Array (Some key) p = absurd p
-passed_later w now Object None p = absurd p
-passed_later w now Object (Some key) p = let l = key-longer p.key in omega arith
-
 label_within : (kind : Kind) (n p q : ℕ) → n ≤ p → p ≤ q → label_at kind n p ≤ q
 label_within Array n p q a b = omega arith
 label_within Object n p q a b = b
 
-headed_at : {w : Descending} {cells : List Cell} {item : Item} (p : ℕ) (key : Option StringEnd) → ExpectsItem w cells item → IsHeadPassed item.kind w (record w { place = p }) key
+-- at the value of an item
+pub at_value : {w : Descending} {cells : List Cell} {item : Item} {p : ℕ} {l : Option (List ℕ)} → ExpectsItem w cells item → ItemHead strict w.text item.kind w.place p l
     → ExpectsValue (record w { place = p }) cells (record item { label = label_at item.kind item.label w.place })
-headed_at {w} {cells} {item} p key s passed =
-    let head = head_of w (record w { place = p }) item.kind key s.lossy passed in
-    let later = head-later head.1 in
+at_value {w} {cells} {item} {p} {l} s head =
+    let later = head-later head in
     let parent = s.parent in
     record {
       lossy = s.lossy;
-      at = (keeps_to (after_space w.text 0) w (record w { place = p }) refl).head item.kind key s.top s.at refl passed;
+      at = head_at {l = l} s.top s.at (rw s.lossy head);
       top = λ some. s.top;
       bounded = further later s.bounded;
       parent = omega arith;
       label = label_within item.kind item.label w.place p s.label later;
-      next = λ es of. headed of (s.next es of) head.1;
+      next = λ es of. headed of (s.next es of) head;
     }
-
--- at the value of an item
-pub at_value : {w now : Descending} {cells : List Cell} {item value : Item} → ExpectsItem w cells item → now ≡ record w { place = now.place } → IsHeadOf item w now value → ExpectsValue now cells value
-at_value {w} {now} {cells} {item} {value} s e h =
-    let there : IsHeadPassed item.kind w (record w { place = now.place }) h.key = subst (λ o. IsHeadPassed item.kind w o h.key) e h.passed in
-    let at = headed_at now.place h.key s there in
-    let moved = subst (λ o. ExpectsValue o cells (record item { label = label_at item.kind item.label w.place })) (sym e) at in
-    subst (λ o. ExpectsValue now cells o) (sym h.is) moved
 
 -- after a value without parts
 pub value_passed : {w now : Descending} {cells : List Cell} {item : Item} → ExpectsValue w cells item → IsMoved w now → IsDescentStep w now Passed → ¬ IsFilledContainer w.text w.place
@@ -231,12 +207,3 @@ pub value_fault : {w : Descending} {cells : List Cell} {item : Item} → Expects
     → IsStopFor (IsRootFault w.text) fault
 value_fault s OutOfMemory f = tt
 value_fault {w} s (At stop) f = rw s.lossy at ((fails_as (after_space w.text 0) w stop).value s.at f)
-
--- after the root and the white space round it
-pub document_passed : {t : List ℕ} (start at after : Descending) {p : ℕ} {cells : List Cell} → start.text ≡ t → IsMoved start at → AreWritten at cells
-    → after ≡ record at { place = after_space at.text at.place } → p ≡ after.place → IsAfterRoot t p × ((es : List Entry) → AreOfAlone t es → AreKept es cells)
-document_passed {t} start at after {p} s e w f q =
-    let text : at.text ≡ t = ap (λ o. o.text) e ∙ s in
-    let root : IsValue strict t (after_space t 0) at.place = rw text at w.root in
-    let place : after_space t at.place ≡ p = rw text at (sym (q ∙ ap (λ o. o.place) f)) in
-    (record { end = at.place; root = root; place = place }, rw text at w.kept)

@@ -3,4 +3,5 @@ pub mod Cells
 pub mod IndexViews
 pub mod Items
 pub mod Members
+pub mod Places
 pub mod Walks

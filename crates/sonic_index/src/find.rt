@@ -19,21 +19,21 @@ const EARLY: usize = 8;
 pub(crate) fn child(
     text: &[u8],
     cells: &[Cell],
-    members: &[u32],
+    members: Option<&[u32]>,
     i: usize,
     node: &PointerNode<'_>,
 ) -> Option<usize>
     requires entries { AreEntries text.now (entries_of text.now cells.now) }
-    requires ordered { AreOrdered text.now cells.now members.now }
+    requires ordered { IfSome members (λ numbers. AreOrdered text.now cells.now numbers.now) }
     requires within { i < length cells.now }
     ensures some { IfSome result (λ c. GoesTo text.now cells.now i (node_of node.now) c) }
     ensures none { IfNone result (GoesNowhere text.now cells.now i (node_of node.now)) }
 {
     match node {
-        PointerNode::Key(wanted) if is_wide(cells, i) => {
-            wide_member(text, cells, members, i, *wanted)
-        }
-        PointerNode::Key(wanted) => member(text, cells, i, *wanted),
+        PointerNode::Key(wanted) => match members {
+            Some(members) if is_wide(cells, i) => wide_member(text, cells, members, i, *wanted),
+            _ => member(text, cells, i, *wanted),
+        },
         PointerNode::Index(number) => element(text, cells, i, *number),
     }
 }

@@ -13,11 +13,11 @@ ghost use Rattle.sonic_index.specs.declared.entry.Entry.{Entry};
 ghost use Rattle.sonic_index.specs.Entries.{AreEntries, IsEntry};
 ghost use Rattle.sonic_index.specs.Internal.Cells.{label_of};
 
-use crate::build::document;
+use crate::build::{Written, document};
 use crate::cell::Cell;
 use crate::entry::{Entry, Label};
 use crate::find::child;
-use crate::members::order;
+use crate::members::order_wide;
 use sonic_error::{ErrorCode, Result};
 use sonic_find::{Span, with_status};
 use sonic_input::{JsonInput, JsonSlice, Read};
@@ -38,7 +38,7 @@ pub struct JsonIndex<'de> {
     json: JsonSlice<'de>,
     cells: Vec<Cell>,
     // The numbers of the members of wide objects, in order.
-    members: Vec<u32>,
+    members: Option<Vec<u32>>,
 }
 
 impl<'de> Model for JsonIndex<'de> {
@@ -63,8 +63,8 @@ impl<'de> JsonIndex<'de> {
     /// Running out of memory is `ErrorCode::NoMemory` without a place, and so is a text of 4 GiB and
     /// more, whose places don't fit the index.
     ///
-    /// The text is walked once, without recursion: 16 bytes are kept of each value, and one byte of each
-    /// container that is open. Depth is bounded by memory alone. Room is taken at once for as many values
+    /// The text is walked once, without recursion: 16 bytes are kept of each value, and they are the walk's
+    /// only stack. Depth is bounded by memory alone. Room is taken at once for as many values
     /// as commas and brackets allow, or bit by bit where that is refused. The members of objects within
     /// which more than 64 values lie are then sorted by their keys, in n log n comparisons: 4 bytes are
     /// kept of each, and while they are sorted 24 more, with a copy of each key that has an escape.
@@ -80,11 +80,11 @@ impl<'de> JsonIndex<'de> {
     {
         let text = json.to_u8_slice();
         let read = Read::unscanned(json.to_json_slice());
-        let cells = match document(alloc, read, json.need_utf8_valid()) {
-            Ok(cells) => cells,
+        let Written { cells, has_wide } = match document(alloc, read, json.need_utf8_valid()) {
+            Ok(written) => written,
             Err(fault) => return Err(fault.error(text)),
         };
-        match order(alloc, text, cells.as_slice()) {
+        match order_wide(alloc, text, cells.as_slice(), has_wide) {
             Ok(members) => Ok(JsonIndex {
                 json: json.to_json_slice(),
                 cells,
@@ -153,7 +153,10 @@ impl<'de> JsonIndex<'de> {
     {
         let text = self.json.bytes();
         let cells = self.cells.as_slice();
-        let members = self.members.as_slice();
+        let members = match &self.members {
+            Some(members) => Some(members.as_slice()),
+            None => None,
+        };
         let mut at = 0;
         for node in path {
             at = child(text, cells, members, at, node)?;

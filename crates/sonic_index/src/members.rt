@@ -28,13 +28,16 @@ struct Members<'a> {
     escaped: Vec<Unescaped>,
 }
 
+// So many cells after that of a wide value is one that lies within it, too: more than 64 do, at any depth.
+pub(crate) const WIDE: usize = 65;
+
 // Whether more than 64 cells lie within the value with this number, at any depth.
 #[inline(always)]
 pub(crate) fn is_wide(cells: &[Cell], i: usize) -> bool
     requires { i < length cells.now }
     ensures { IsTrue result ↔ IsWide cells.now i }
 {
-    let last = i + 65;
+    let last = i + WIDE;
     last < cells.len() && cells[last].start < cells[i].end
 }
 
@@ -47,7 +50,7 @@ fn is_member(text: &[u8], cells: &[Cell], n: usize) -> bool
     ensures no { (p : ℕ) (b : List ℕ) → IsWide cells.now p → IsMember text.now cells.now p n b → IsTrue result }
 {
     let parent = cells[n].parent as usize;
-    parent < n && is_wide(cells, parent) && byte_at(text, cells[parent].start as usize) == b'{'
+    parent < n && byte_at(text, cells[parent].start as usize) == b'{' && is_wide(cells, parent)
 }
 
 // Adds the member that has this number.
@@ -130,7 +133,7 @@ fn join<'a>(
 
 // The numbers of the members of wide objects, ordered by their objects, then by the bytes that their
 // keys denote, and then as they come.
-pub(crate) fn order(alloc: Global, text: &[u8], cells: &[Cell]) -> Result<Vec<u32>, AllocError>
+fn order(alloc: Global, text: &[u8], cells: &[Cell]) -> Result<Vec<u32>, AllocError>
     requires short { length cells.now ≤ 2 ^ 32 }
     requires linked { AreLinked text.now cells.now }
     ensures { IfOk result (λ numbers. AreOrdered text.now cells.now numbers.items) }
@@ -140,6 +143,24 @@ pub(crate) fn order(alloc: Global, text: &[u8], cells: &[Cell]) -> Result<Vec<u3
     join(cells, &escaped, &mut members)?;
     members.sort_unstable();
     numbers_of(alloc, &members)
+}
+
+// The same where an object is wide, and else nothing.
+pub(crate) fn order_wide(
+    alloc: Global,
+    text: &[u8],
+    cells: &[Cell],
+    has_wide: bool,
+) -> Result<Option<Vec<u32>>, AllocError>
+    requires short { length cells.now ≤ 2 ^ 32 }
+    requires linked { AreLinked text.now cells.now }
+    ensures { IfOk result (λ numbers. IfSome numbers (λ some. AreOrdered text.now cells.now some.items)) }
+{
+    if has_wide {
+        Ok(Some(order(alloc, text, cells)?))
+    } else {
+        Ok(None)
+    }
 }
 
 // How the member with this number compares with those of the object i by this key.

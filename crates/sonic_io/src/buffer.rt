@@ -35,6 +35,7 @@ impl Buffer {
     /// The first fault ends the writing, and what the sink took before it stays written. In a room of
     /// four bytes the pieces `[1`, `,` and `23` are held up to the second, and `[1,` is written before
     /// the third is held.
+    #[inline(always)]
     pub fn write<K: Sink>(&mut self, sink: &mut K, piece: &[u8]) -> Result<(), Failed>
         ensures all { OnOk result (TookBut (K.written sink.old) (K.written sink.new)
             (held self.new) (held self.old ++ piece.now)) }
@@ -47,6 +48,19 @@ impl Buffer {
             self.hold(piece);
             return Ok(());
         }
+        self.write_over(sink, piece)
+    }
+
+    // The same of a piece for which what is held leaves no room, so that `write` stays short.
+    #[inline(never)]
+    fn write_over<K: Sink>(&mut self, sink: &mut K, piece: &[u8]) -> Result<(), Failed>
+        ensures all { OnOk result (TookBut (K.written sink.old) (K.written sink.new)
+            (held self.new) (held self.old ++ piece.now)) }
+        ensures prefix { OnErr result
+            (TookPrefix (K.written sink.old) (K.written sink.new) (held self.old ++ piece.now)) }
+        ensures calm { OnOk result (K.faults sink.new ≡ K.faults sink.old) }
+        ensures cause { OnErr result (Rose (K.faults sink.old) (K.faults sink.new)) }
+    {
         self.flush(sink)?;
         if piece.len() < self.room.len() {
             self.hold(piece);
@@ -72,6 +86,7 @@ impl Buffer {
     }
 
     // Puts a piece after what is held.
+    #[inline(always)]
     fn hold(&mut self, piece: &[u8])
         requires { self.old.filled + length piece.now ≤ vec_len self.old.room }
         ensures { held self.new ≡ held self.old ++ piece.now }

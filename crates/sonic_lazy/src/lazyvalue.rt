@@ -73,6 +73,8 @@ impl<'a> LazyValue<'a> {
     ///
     /// Where the input is shared bytes it is another owner of them, and else a copy. The only error
     /// is `ErrorCode::NoMemory`. Of the value `"a"` it has both quotes.
+    // Inlined, what it gives is moved byte by byte.
+    #[inline(never)]
     pub fn as_raw_faststr(&self, alloc: Global) -> sonic_error::Result<FastStr>
         ensures ok { IfOk result (λ made. made ≡ raw_bytes self.now) }
         ensures err { IfErr result (λ error. IsPlainError error ErrorCode.NoMemory) }

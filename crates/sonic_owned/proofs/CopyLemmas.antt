@@ -1,23 +1,29 @@
 -- Copies that are being made.
-use Rattle.std.proofs.Common.{◌≡◌, ◌∙◌, ap, sym, refl, arith, ℕ, ◌+◌, ◌<◌, List, [], ◌∷◌, ◌++◌, map, Some, None}
+use Rattle.std.proofs.Common.{◌≡◌, ◌∙◌, ap, sym, refl, arith, ℕ, ◌+◌, ◌<◌, List, [], ◌∷◌, ◌++◌, map, true, Some, None, Result, Ok, Err}
 use Rattle.std.proofs.lemmas.List.{append-nil}
 use Rattle.std.specs.List.{slice_get}
+use Rattle.std.specs.Result.{is_ok, result_or}
 use Rattle.std.specs.declared.alloc.Global.{Global}
 use Rattle.std.specs.declared.vec.Vec.{Vec}
-use Rattle.sonic_owned.proofs.Folds.{elements-roll, members-out, members-roll, form-array, form-node, form-object, form-roll}
+use Rattle.sonic_owned.proofs.Folds.{elements-out, elements-roll, members-out, members-roll, form-array, form-node, form-object, form-roll}
 use Rattle.sonic_owned.specs.Forms.{Form, level, unnamed, named}
 use Rattle.sonic_owned.specs.Internal.Bulks.{node_form}
 use Rattle.sonic_owned.specs.Internal.Copies.{copied_form, copying_bulk, next_form, waiting_bulk, waiting_bulks, AreOpen}
 use Rattle.sonic_owned.specs.Internal.Levels.{elements_of, members_of}
-use Rattle.sonic_owned.specs.Views.{form, members}
+use Rattle.sonic_owned.specs.Views.{form, elements, members}
 use Rattle.sonic_owned.specs.declared.made.MadeText.{MadeText}
-use Rattle.sonic_owned.specs.declared.value.LazyArray.{roll-LazyArray}
+use Rattle.sonic_owned.specs.declared.value.LazyArray.{LazyArray, out-LazyArray, roll-LazyArray}
 use Rattle.sonic_owned.specs.declared.value.LazyObject.{LazyObject, out-LazyObject, roll-LazyObject}
 use Rattle.sonic_owned.specs.declared.value.Node as node
 use Rattle.sonic_owned.specs.declared.value.OwnedLazyValue.{OwnedLazyValue, roll-OwnedLazyValue}
 use Rattle.sonic_owned.specs.declared.value.copy.Copying.{Copying}
 use Rattle.sonic_owned.specs.declared.value.copy.Copying.TheVariants.{Whole, Array, Object}
 use Rattle.sonic_text.specs.declared.kind.Kind.TheVariants as kind
+
+-- memory for one more level was found
+pub pushed : {T E D : Type 0} (r : Result T E) (e : D) (x : T) → result_or r (Err e) ≡ Ok x → is_ok r ≡ true
+pushed (Ok y) e x ok = refl
+pushed (Err z) e x ok = absurd cc
 
 -- one more level is opened
 pub open_more : (f g : Form) (us : List Copying) (u : Copying) → AreOpen f us (copied_form u) → next_form u ≡ Some g → AreOpen f (us ++ u ∷ []) g
@@ -56,6 +62,12 @@ object_closed [] made none = form-roll _ ∙ form-object _ ∙ ap (λ ms. level 
 object_closed (m ∷ ms) made none = absurd cc
 
 -- a level none of whose items is copied yet
+pub array_begun : (v : OwnedLazyValue) (a : LazyArray) (made vs : List OwnedLazyValue) → v.node ≡ node.Array a → made ≡ [] → vs ≡ (out-LazyArray a).elements.items
+    → level kind.Array (unnamed (elements_of made ++ elements_of vs)) ≡ form v
+array_begun v a made vs is none items =
+    let all : elements_of made ++ elements_of vs ≡ elements a = rw (none, items) (sym (elements-out a)) in
+    sym (form-node v ∙ ap node_form is ∙ form-array a ∙ ap (λ fs. level kind.Array (unnamed fs)) (sym all))
+
 pub object_begun : (v : OwnedLazyValue) (o : LazyObject) (made ms : List (MadeText × OwnedLazyValue)) → v.node ≡ node.Object o → made ≡ [] → ms ≡ (out-LazyObject o).members.items
     → level kind.Object (named (members_of made ++ members_of ms)) ≡ form v
 object_begun v o made ms is none items =

@@ -1,10 +1,10 @@
 -- Items that are lent.
-use Rattle.std.proofs.Common.{[], ◌∷◌, ◌≡◌, ◌∙◌, ap, sym, refl, ℕ, ◌+◌, ◌-◌, ◌<◌, ◌≤◌, length, get_or, Ok, Err, List, Option, Some, None, option_map, OnSome, OnErr, IfSome, MutBor, subst, arith, ◌≢◌}
+use Rattle.std.proofs.Common.{[], ◌∷◌, ◌≡◌, ◌∙◌, ap, sym, refl, ℕ, ◌+◌, ◌-◌, ◌<◌, ◌≤◌, length, get_or, Ok, Err, IsOk, List, Option, Some, None, option_map, OnSome, OnErr, IfSome, MutBor, subst, arith}
 use Rattle.std.specs.List.{slice_get, slice_set}
 use Rattle.sonic_owned.proofs.LeadingLemmas.{item_at_list, item_of_first, next_node}
 use Rattle.sonic_owned.proofs.Lists.{none_not_some}
 use Rattle.sonic_owned.proofs.ReachLemmas.{kept_along, put_unnamed, put_named}
-use Rattle.sonic_owned.specs.Forms.{Form, level, unnamed, named, raw, Members}
+use Rattle.sonic_owned.specs.Forms.{Form, level, unnamed, named}
 use Rattle.sonic_owned.specs.Leading.{item_in}
 use Rattle.sonic_owned.specs.Internal.Lends.{IsItemPut, AtNode, Lending, OfPart, IsLent, IsLeft, IsPathFound, last_nodes}
 use Rattle.sonic_owned.specs.Lends.{IsLeftBehind}
@@ -74,16 +74,9 @@ next_is path left d P fits less p =
     let on : length path - left + 1 ≡ length path - (left - 1) = omega (arith, fits, less) in
     record { node = _; first = rw on at more; holds = p }
 
--- a form that isn't an array has no element, and one that isn't an object no member
-pub no_array_item : {f : Form} (n : ℕ) → ((ms : Members) → f ≢ level Array ms) → item_in (index n) f ≡ None
-no_array_item {f = raw b} n none = refl
-no_array_item {f = level Array ms} n none = absurd (none ms refl)
-no_array_item {f = level Object ms} n none = refl
-
-pub no_object_item : {f : Form} (k : List ℕ) → ((ms : Members) → f ≢ level Object ms) → item_in (key k) f ≡ None
-no_object_item {f = raw b} k none = refl
-no_object_item {f = level Array ms} k none = refl
-no_object_item {f = level Object ms} k none = absurd (none ms refl)
+-- what is said of what is lent, where something is
+pub of_lent : {r : Lending} {part : MutBor OwnedLazyValue} (P : Form → Type 0) → r ≡ Ok part → (IsOk r → OfPart r P) → P (form part.now)
+of_lent P is holds = (rw is at holds) refl
 
 -- what follows of a part that is lent
 pub of_part : (r : Lending) (P Q : Form → Type 0) → ((i : Form) → P i → Q i) → OfPart r P → OfPart r Q

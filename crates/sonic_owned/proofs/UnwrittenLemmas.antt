@@ -53,10 +53,6 @@ module _ {W : Type 0} {took : W → List ℕ → W → Type 0} where
     whole = append_assoc x.done y.done (rest ++ others) ∙ ap (λ l. x.done ++ l) (sym (append_assoc y.done rest others) ∙ ap (λ l. l ++ others) y.whole) ∙ x.whole;
   }
 
-  -- with more after all
-  pub up_to_before : {f g : Formatter W} {all rest : List ℕ} (others : List ℕ) → IsWrittenUpTo took f all rest g → IsWrittenUpTo took f (all ++ others) (rest ++ others) g
-  up_to_before {rest = rest} others x = record { done = x.done; has = x.has; whole = sym (append_assoc x.done rest others) ∙ ap (λ l. l ++ others) x.whole }
-
   -- or all of it
   pub up_to_end : {f g h : Formatter W} {all rest : List ℕ} → IsWrittenUpTo took f all rest g → HasWritten took g rest h → HasWritten took f all h
   up_to_end x y = has_written_of_eq _ _ _ _ _ x.whole (has_written_append _ _ _ _ _ _ x.has y)

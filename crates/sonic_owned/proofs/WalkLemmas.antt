@@ -7,7 +7,7 @@ use Rattle.sonic_owned.proofs.Lent.{found_by}
 use Rattle.sonic_owned.proofs.ReachLemmas.{longer}
 use Rattle.sonic_find.specs.Paths.{kind_of}
 use Rattle.sonic_lazy.specs.Scalars.{container, scalar_of}
-use Rattle.sonic_owned.specs.Forms.{Form, raw, level, Members, scalar_of_form, IsSound, raw_sound, level_sound}
+use Rattle.sonic_owned.specs.Forms.{Form, raw, level, Members, IsSound, raw_sound, level_sound}
 use Rattle.sonic_owned.specs.Internal.Seen.{Nowhere}
 use Rattle.sonic_owned.specs.Leading.{item_in}
 use Rattle.sonic_owned.specs.Internal.Lends.{AtNode, HasItem, HasNoItem, lacks_item, other_kind, IfAtNode, IsLent, IsItemPut, IsLeft, Lending, last_nodes}
@@ -18,7 +18,7 @@ use Rattle.sonic_owned.specs.declared.value.lend.Stop.{Stop}
 use Rattle.sonic_owned.specs.declared.value.lend.Stop.TheVariants.{Nowhere as Lost, NoMemory, TooDeep}
 use Rattle.sonic_pointer.specs.declared.node.PointerNode.{PointerNode}
 use Rattle.sonic_text.proofs.Values.{value_starts}
-use Rattle.sonic_text.specs.Paths.{Node, Path, key, index}
+use Rattle.sonic_text.specs.Paths.{Node, key, index}
 use Rattle.sonic_text.specs.Places.{byte}
 use Rattle.sonic_text.specs.Values.{opening}
 use Rattle.sonic_text.specs.declared.kind.Kind.{Kind}
@@ -94,9 +94,6 @@ lost_nowhere sound (lacks_item opened none) = no_item_nowhere sound opened none
 lost_nowhere {node} (raw_sound {b} value u) (other_kind other) =
     kind_nowhere node (λ e. other (bracket_kind b (kind_of node) (rw (value_starts value) at e)))
 lost_nowhere {node} (level_sound {kind} {ms} s) (other_kind other) = level_nowhere node (kinds_apart node kind ms other) (λ b e. absurd cc)
-
-pub kind_lost : {node : Node} {path rest : Path} {f : Form} → path ≡ node ∷ rest → IsSound f → ¬ (scalar_of_form f ≡ container (kind_of node)) → LeadsNowhere path f
-kind_lost is sound other g l = lost_nowhere sound (other_kind other) _ g (rw is at l)
 
 -- where nothing is lent the path leads nowhere, or a level is to be opened, if it is said so
 pub found_stop : (left : ℕ) (path : List PointerNode) {f : Form} (stop : Stop) (P : Form → Type 0) → IsSound f → 0 < left

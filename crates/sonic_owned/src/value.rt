@@ -76,7 +76,16 @@ enum Node {
 impl Drop for Node {
     fn drop(mut self) {
         'values: loop {
-            match self.shrunk() {
+            let rest = match self {
+                Node::Null => None,
+                Node::Bool(_) => None,
+                Node::Integer(_) => None,
+                Node::Text(_) => None,
+                Node::Raw(_) => None,
+                Node::Array(LazyArray { elements }) => Node::array_shrunk(elements),
+                Node::Object(LazyObject { members }) => Node::object_shrunk(members),
+            };
+            match rest {
                 Some(rest) => self = rest,
                 None => return,
             }
@@ -107,9 +116,10 @@ impl OwnedLazyValue {
         ensures ok { IfOk result (λ made. form made ≡ raw (raw_bytes value.now)) }
         ensures err { IfErr result (λ error. IsPlainError error ErrorCode.NoMemory) }
     {
-        match RawValue::new(alloc, value) {
-            Ok(raw) => Ok(OwnedLazyValue {
-                node: Node::Raw(raw),
+        let has_escaped = value.has_escaped();
+        match value.as_raw_faststr(alloc) {
+            Ok(text) => Ok(OwnedLazyValue {
+                node: Node::Raw(RawValue { text, has_escaped }),
             }),
             Err(error) => Err(error),
         }

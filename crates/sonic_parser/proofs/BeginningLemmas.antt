@@ -14,7 +14,8 @@ use Rattle.sonic_parser.specs.declared.begin.Begun.TheVariants.{Inside}
 use Rattle.sonic_parser.specs.declared.container.Next.TheVariants.{Item, End}
 use Rattle.sonic_parser.specs.declared.status.ParseStatus.TheVariants.{HasEscaped, None as NoNeed}
 use Rattle.sonic_parser.specs.Internal.Containers.{IsAfterBracket}
-use Rattle.sonic_parser.specs.Internal.Skipping.{IsComplete, IsBegun, IsItem}
+use Rattle.sonic_parser.specs.Internal.Skipping.{IsComplete, IsBegun}
+use Rattle.sonic_parser.specs.Parts.{IsItem}
 
 -- what begins with another byte is no string with a backslash
 pub no_escape : (t : List ℕ) (i e : ℕ) → byte t i ≢ 34 → (NoNeed ≡ HasEscaped) ↔ IsEscapedString t i e

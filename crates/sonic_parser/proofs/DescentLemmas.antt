@@ -1,5 +1,6 @@
 -- What a step of a walk says of the value that is walked through.
 use Rattle.std.proofs.Common.{◌≡◌, ◌≢◌, ◌∙◌, true, false, sym, ap, ℕ, ◌+◌, ◌-◌, ◌<◌, Bool, List, [], ◌∷◌, ◌++◌, length, take, arith, refl}
+use Rattle.std.proofs.lemmas.List.Sums.{prefix_len-drop_no}
 use Rattle.std.specs.Prelude.{Option, Some, None}
 use Rattle.sonic_text.specs.declared.kind.Kind.{Kind}
 use Rattle.sonic_text.specs.declared.kind.Kind.TheVariants.{Array, Object}
@@ -7,7 +8,7 @@ use Rattle.sonic_text.specs.declared.stop.Stop.{Stop}
 use Rattle.sonic_text.specs.declared.string.StringEnd.{StringEnd}
 use Rattle.sonic_parser.specs.declared.descent.Step.{Step}
 use Rattle.sonic_parser.specs.declared.descent.Step.TheVariants.{Passed, Entered}
-use Rattle.sonic_text.specs.Places.{byte, after_space}
+use Rattle.sonic_text.specs.Places.{byte, after_space, is_space}
 use Rattle.sonic_text.specs.Values.{opening, closing, ItemHead, no_head, key_head, IsValue, ItemsFit, first_item, next_item}
 use Rattle.sonic_text.proofs.Items.{closing_not_end, opening_one}
 use Rattle.sonic_text.proofs.Places.{after_space_later, byte_within}
@@ -15,10 +16,10 @@ use Rattle.sonic_text.proofs.Within.{value_within}
 use Rattle.sonic_parser.specs.declared.container.Next.TheVariants.{End}
 use Rattle.sonic_parser.specs.Containers.{IsEnd, IsSeparated}
 use Rattle.sonic_parser.specs.Descents.{Descending, IsAtValue, IsAtItem, IsAtEnd, IsDescentStep, IsAfterStep, IsHeadPassed, IsNextOrClosed, IsAfterNext, IsMoved, KeepsTo, FailsAs}
-use Rattle.sonic_parser.specs.Internal.Containers.{IsAfterValue}
 use Rattle.sonic_parser.specs.Parsers.{IsFilledContainer}
 use Rattle.sonic_parser.specs.OpenContainers.{IsOpen, inside, IsItemExpected, IsItemEnded, IsTop}
 use Rattle.sonic_parser.proofs.SkippingLemmas.{IsClosed, closed_all, closed_more, fault_after, fault_item, fault_up, last_ended, top}
+use Rattle.sonic_parser.specs.Parts.{IsAfterValue}
 
 -- the innermost part is whole: the value of an item ended, or the whole value
 closed_at : {m : Bool} {t : List ℕ} {i j : ℕ} {kinds : List Kind} → IsClosed m t i kinds j → IsAtEnd i (record { text = t; place = j; lossy = m; opened = kinds })
@@ -59,6 +60,19 @@ ended_at {t = t} {e = e} {j} {kind = kind} last x b =
 -- what begins after a container's bracket
 pub items_begin : {m : Bool} {t : List ℕ} {kind : Kind} {i h : ℕ} → byte t i ≡ opening kind → h ≡ after_space t (i + 1) → byte t h ≢ closing kind → ItemsFit m t kind i 0 h
 items_begin b e d = first_item b e d refl
+
+-- after an array's bracket another one opens
+pub nested_begins : (t : List ℕ) (i : ℕ) → byte t i ≡ 91 → byte t (i + 1) ≡ 91 → (i + 1 < length t) × ((m : Bool) → ItemsFit m t Array i 0 (i + 1))
+nested_begins t i b d =
+    let within : i + 1 < length t = byte_within t (i + 1) (λ z. absurd (omega (arith, z, d))) in
+    let none : is_space (byte t (i + 1)) ≡ false = ap is_space d in
+    let here = prefix_len-drop_no is_space t (i + 1) 0 within none in
+    (within, λ m. items_begin b (omega (arith, here)) (λ e. absurd (omega (arith, e, d))))
+
+-- what begins with another byte is no container
+pub scalar_unfilled : (t : List ℕ) (i : ℕ) → byte t i ≢ 91 → byte t i ≢ 123 → ¬ IsFilledContainer t i
+scalar_unfilled t i b d (Array, o, some) = b o
+scalar_unfilled t i b d (Object, o, some) = d o
 
 -- what is empty is no container with an item
 pub empty_unfilled : (t : List ℕ) (kind : Kind) (i : ℕ) → byte t i ≡ opening kind → byte t (after_space t (i + 1)) ≡ closing kind → IsFilledContainer t i → ⊥

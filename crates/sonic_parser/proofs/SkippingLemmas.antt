@@ -15,10 +15,10 @@ use Rattle.sonic_parser.specs.declared.begin.Begun.TheVariants.{Inside}
 use Rattle.sonic_parser.specs.declared.begin.Skipped.{Skipped}
 use Rattle.sonic_parser.specs.declared.container.Next.TheVariants.{Item, End}
 use Rattle.sonic_parser.specs.declared.skip.Reached.TheVariants.{Expected, Closed}
-use Rattle.sonic_parser.specs.Internal.Containers.{IsAfterValue}
 use Rattle.sonic_parser.specs.Containers.{IsSeparatorFault}
-use Rattle.sonic_parser.specs.Internal.Skipping.{IsComplete, IsBegun, IsItem, IsItemFault, IsReached, IsValueEnd}
+use Rattle.sonic_parser.specs.Internal.Skipping.{IsComplete, IsBegun, IsItemFault, IsReached}
 use Rattle.sonic_parser.specs.OpenContainers.{IsOpen, here, inside, IsItemExpected, IsItemEnded, IsTop}
+use Rattle.sonic_parser.specs.Parts.{IsAfterValue, IsItem, IsValueEnd}
 
 -- a container whose first item is expected is open alone
 pub first_item_expected : {m : Bool} {t : List ℕ} {kind : Kind} {i h : ℕ} → h ≤ length t → ItemsFit m t kind i 0 h → IsReached m t i (kind ∷ []) (Expected h)

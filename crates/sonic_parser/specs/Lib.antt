@@ -5,6 +5,7 @@ pub mod Honest
 pub mod Internal
 pub mod OpenContainers
 pub mod Parsers
+pub mod Parts
 pub mod Rows
 pub mod StringSpans
 pub mod Texts

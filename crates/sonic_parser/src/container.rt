@@ -5,18 +5,19 @@ ghost use Rattle.sonic_text.specs.Places.{byte};
 ghost use Rattle.sonic_text.specs.Strings.{IsString, IsEscapedString};
 ghost use Rattle.sonic_text.specs.Values.{opening, IsKey};
 ghost use Rattle.sonic_text.specs.Faults.{IsKeyFault};
-ghost use Rattle.sonic_parser.specs.Internal.Containers.{IsAfterBracket, IsAfterValue};
+ghost use Rattle.sonic_parser.specs.Internal.Containers.{IsAfterBracket};
 ghost use Rattle.sonic_parser.specs.Containers.{IsSeparatorFault};
+ghost use Rattle.sonic_parser.specs.Parts.{IsAfterValue};
 
 use sonic_error::ErrorCode;
 use sonic_text::{Kind, Stop, StringEnd, byte_at, skip_space, skip_string, stop_at, string_end};
 
-// How a container goes on.
-#[derive(Clone, Copy)]
-pub(crate) enum Next {
-    // With an item, which is expected here.
+/// How a container goes on.
+#[derive(Clone, Copy, Debug, PartialEq, Eq)]
+pub enum Next {
+    /// With an item, which is expected here.
     Item(usize),
-    // With its closing bracket, which ends here.
+    /// With its closing bracket, which ends here.
     End(usize),
 }
 
@@ -35,9 +36,12 @@ pub(crate) fn first_item(text: &[u8], place: usize, kind: Kind) -> Next
     }
 }
 
-// How a container goes on after the item whose value ended at a place.
+/// How a container of this kind goes on after the item whose value ended at a place, or why it doesn't:
+/// with the next item after a comma, or with the closing bracket (RFC 8259, sections 4 and 5).
+///
+/// After the `1` of `[1 , 2]` the next item is expected at 5.
 #[inline(always)]
-pub(crate) fn next_item(text: &[u8], end: usize, kind: Kind) -> Result<Next, Stop>
+pub fn next_item(text: &[u8], end: usize, kind: Kind) -> Result<Next, Stop>
     requires { end ≤ length text.now }
     ensures ok { IfOk result (λ next. IsAfterValue text.now kind end next) }
     ensures err { IfErr result (λ s. IsSeparatorFault text.now kind end s) }

@@ -16,6 +16,8 @@ mod fault;
 mod law;
 // The calls, over a cursor.
 mod parser;
+// What is at a place of a text, for a walk that keeps its own stack.
+mod parts;
 // The loop over items that fit.
 mod quick;
 // Text that is borrowed from one of two places.
@@ -32,10 +34,13 @@ mod string_span;
 mod unchecked;
 
 pub use blocks::container_end;
+pub use container::{Next, next_item};
 pub use descent::{Descent, Step};
 pub use fault::Fault;
 pub use law::{a_walk_keeps_to_its_value, honest_error_shows_the_fault};
 pub use parser::Parser;
+pub use parts::{ValueAt, item_at, opens_nested_array, value_at};
+pub use quick::{after_comma, scalar_end, value_place};
 pub use reference::Reference;
 pub use status::ParseStatus;
 pub use string_span::StringSpan;

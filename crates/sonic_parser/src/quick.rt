@@ -1,13 +1,13 @@
 // The loop over the items of a container that fit, in registers.
 //
 // It finds no fault: where an item doesn't fit, it says how far it came, and `skip` goes on there.
-ghost use Rattle.std.specs.Prelude.{◌≡◌, ◌+◌, ◌<◌, ◌≤◌, ℕ, Bool, true, length, take, vec_len, IfSome, MatchOption};
+ghost use Rattle.std.specs.Prelude.{◌≡◌, ◌+◌, ◌<◌, ◌≤◌, ◌≢◌, ◌↔◌, ℕ, Bool, true, length, take, vec_len, IfSome, IsSome, MatchOption, OnSome};
 ghost use Rattle.sonic_text.specs.Numbers.{IsNumber};
 ghost use Rattle.sonic_text.specs.Places.{byte, IsDigit};
 ghost use Rattle.sonic_text.specs.Values.{opening};
-ghost use Rattle.sonic_parser.specs.Internal.Containers.{IsAfterValue};
-ghost use Rattle.sonic_parser.specs.Internal.Skipping.{IsItem, IsAhead, IsValueEnd, IsReached, IsOngoing, place_of};
+ghost use Rattle.sonic_parser.specs.Internal.Skipping.{IsAhead, IsReached, IsOngoing, place_of};
 ghost use Rattle.sonic_parser.specs.OpenContainers.{IsTop};
+ghost use Rattle.sonic_parser.specs.Parts.{IsAfterValue, IsItem, IsValueEnd};
 
 use crate::container::{Next, first_item, skip_key};
 use crate::skip::{Extent, Reached, leave};
@@ -24,11 +24,14 @@ pub(crate) enum Ahead {
     Other,
 }
 
-// The place where the value is expected of the item that is expected at a place, unless its key
-// doesn't fit.
+/// The place where the value is expected of the item that is expected at a place, in a container of
+/// this kind, by a quick look. `None` says nothing of the text: what is there, `item_at` says.
+///
+/// An element's value is expected where the element is, and a member's after its key and colon: at the
+/// start of `"a" : 1` it is 6.
 #[inline(always)]
 #[tactic(auto, using(crate::proofs::BeginningLemmas::items))]
-fn value_place(text: &[u8], place: usize, kind: Kind, lossy: bool) -> Option<usize>
+pub fn value_place(text: &[u8], place: usize, kind: Kind, lossy: bool) -> Option<usize>
     requires { place ≤ length text.now }
     ensures { IfSome result (λ value. IsItem lossy text.now kind place value) }
 {
@@ -69,11 +72,15 @@ pub(crate) fn digits_ahead(text: &[u8], place: usize) -> Option<usize>
     }
 }
 
-// The end of the string, the number or the literal at a place, unless none fits there.
+/// The end of the string, the number or the literal at a place (RFC 8259, sections 3, 6 and 7), by a
+/// quick look. `None` says nothing of the text: what is there, `value_at` says.
+///
+/// At the start of `1,2` it is 1.
 #[inline(always)]
-pub(crate) fn scalar_end(text: &[u8], place: usize, lossy: bool) -> Option<usize>
+pub fn scalar_end(text: &[u8], place: usize, lossy: bool) -> Option<usize>
     requires { place ≤ length text.now }
-    ensures { IfSome result (IsValueEnd lossy text.now place) }
+    ensures end { IfSome result (IsValueEnd lossy text.now place) }
+    ensures scalar { OnSome result ((byte text.now place ≢ 91) × (byte text.now place ≢ 123)) }
 {
     let byte = byte_at(text, place);
     if byte == b'"' {
@@ -179,11 +186,16 @@ fn open_arrays(text: &[u8], kinds: &mut [Kind], depth: usize, place: usize) -> u
     }
 }
 
-// Where the next item is expected after a value, where a comma comes directly behind it, as mostly.
+/// Where the next item is expected after a value, if a comma comes directly behind it, as mostly, and
+/// `None` where none does: how the container goes on there, `next_item` says.
+///
+/// After the `1` of `[1, 2]` it is 4.
 #[inline(always)]
-fn after_comma(text: &[u8], ended: usize) -> Option<usize>
+pub fn after_comma(text: &[u8], ended: usize) -> Option<usize>
     requires { ended ≤ length text.now }
-    ensures { IfSome result (λ next. (kind : Kind) → IsAfterValue text.now kind ended (Next.Item next)) }
+    ensures next { IfSome result (λ next. (kind : Kind)
+        → IsAfterValue text.now kind ended (Next.Item next)) }
+    ensures comma { IsSome result ↔ (byte text.now ended ≡ 44) }
 {
     if byte_at(text, ended) == b',' {
         Some(skip_space(text, ended + 1))

@@ -3,8 +3,9 @@ ghost use Rattle.std.specs.Prelude.{◌≡◌, ◌<◌, ◌≤◌, ℕ, Bool, le
 ghost use Rattle.sonic_text.specs.Values.{IsValue};
 ghost use Rattle.sonic_text.specs.Faults.{IsFault};
 ghost use Rattle.sonic_parser.specs.Faults.{IsStopFor};
-ghost use Rattle.sonic_parser.specs.Internal.Skipping.{IsItem, IsItemFault, IsReached, IsOngoing, place_of};
+ghost use Rattle.sonic_parser.specs.Internal.Skipping.{IsItemFault, IsReached, IsOngoing, place_of};
 ghost use Rattle.sonic_parser.specs.OpenContainers.{IsItemEnded};
+ghost use Rattle.sonic_parser.specs.Parts.{IsItem};
 
 use crate::begin::{Begun, begin};
 use crate::container::{Next, key_end, next_item};

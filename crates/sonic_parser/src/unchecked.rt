@@ -12,9 +12,9 @@ ghost use Rattle.sonic_text.specs.Places.{byte, after_space};
 ghost use Rattle.sonic_text.specs.Strings.{IsString, IsEscapedString};
 ghost use Rattle.sonic_text.specs.Values.{opening, IsKey, IsValue};
 ghost use Rattle.sonic_parser.specs.Containers.{GoesOn};
-ghost use Rattle.sonic_parser.specs.Internal.Containers.{IsAfterValue};
 ghost use Rattle.sonic_parser.specs.Internal.Skipping.{IsComplete};
 ghost use Rattle.sonic_parser.specs.Internal.Unchecked.{IsMark, IsWholeString};
+ghost use Rattle.sonic_parser.specs.Parts.{IsAfterValue};
 
 use crate::begin::Skipped;
 use crate::blocks::{open_string, whole_container};

@@ -20,6 +20,9 @@ mod faults;
 // Values of another type than is wanted.
 #[cfg(test)]
 mod mismatches;
+// What is at a place of a text.
+#[cfg(test)]
+mod parts;
 // A plain program beside the skipper.
 #[cfg(test)]
 mod reference;

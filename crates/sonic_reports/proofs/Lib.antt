@@ -1,4 +1,5 @@
 mod CommandLemmas
+mod DigitLemmas
 mod EditLemmas
 mod EntryLemmas
 mod FastLemmas

@@ -2,8 +2,7 @@
 use Rattle.std.proofs.Common.{◌≡◌, ℕ, List, ◌++◌, length, codes, decimal, refl, append_assoc}
 use Rattle.std.specs.Cow.{cow_str_bytes}
 use Rattle.std.specs.declared.borrow.CowStr.{CowStr}
-use Rattle.sonic_lazy.specs.LazyValues.{raw_bytes}
-use Rattle.sonic_lazy.specs.declared.lazyvalue.LazyValue.{LazyValue}
+use Rattle.std.specs.Borrow.{Bor}
 use Rattle.sonic_reports.specs.Internal.Replies.{line_of_member}
 use Rattle.sonic_reports.specs.Lines.{counted, line_of_text}
 
@@ -12,6 +11,6 @@ pub counted_parts : {digits : List ℕ} (text : List ℕ) → digits ≡ decimal
 counted_parts text number = rw (number, append_assoc) refl
 
 -- the line of a member, by its parts
-pub member_parts : {Z : Type 0} (member : CowStr Z × LazyValue)
-    → line_of_member member ≡ (counted (cow_str_bytes member.0) ++ codes " ") ++ line_of_text (raw_bytes member.1)
-member_parts member = rw (append_assoc (counted (cow_str_bytes member.0)) (codes " ") (line_of_text (raw_bytes member.1))) refl
+pub member_parts : {Z : Type 0} (member : CowStr Z × Bor (List ℕ))
+    → line_of_member member ≡ (counted (cow_str_bytes member.0) ++ codes " ") ++ line_of_text member.1.now
+member_parts member = rw (append_assoc (counted (cow_str_bytes member.0)) (codes " ") (line_of_text member.1.now)) refl

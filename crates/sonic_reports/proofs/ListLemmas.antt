@@ -3,12 +3,13 @@ use Rattle.std.proofs.Common.{◌≡◌, ◌∙◌, sym, ap, inl, inr, refl, ℕ
 use Rattle.std.proofs.lemmas.Grind.{flat_map-append}
 use Rattle.std.specs.List.{flat_map}
 use Rattle.std.specs.Prelude.{Option, Some, None}
+use Rattle.std.specs.Borrow.{Bor}
 use Rattle.std.specs.declared.borrow.CowStr.{CowStr}
-use Rattle.std.specs.declared.option.Option.{Option as Maybe}
 use Rattle.sonic_error.specs.declared.error.Error.{Error}
 use Rattle.sonic_lazy.proofs.ListingLemmas.{listing_one}
 use Rattle.sonic_lazy.specs.Items.{Item, closed, stopped, Listing, IsItemAt, no_items, one_more_item, EndsItems, IsListing}
 use Rattle.sonic_lazy.specs.Iterators.{Iterating, iterator_over, ShowsElement, ShowsMember, IsNextError, out_of_memory as no_memory, no_next_item, IsOver}
+use Rattle.sonic_lazy.specs.LazyValues.{raw_bytes}
 use Rattle.sonic_lazy.specs.declared.lazyvalue.LazyValue.{LazyValue}
 use Rattle.sonic_text.specs.Values.{ItemHead, no_head}
 use Rattle.sonic_text.specs.declared.kind.Kind.{Kind}
@@ -18,7 +19,7 @@ use Rattle.sonic_reports.proofs.GetLemmas.{Same, SomeText}
 use Rattle.sonic_reports.proofs.ReplyLemmas.{line_at}
 use Rattle.sonic_reports.specs.Commands.Items.{listed_kind, line_of_item, line_of_ending, status_of_ending, IsListReport}
 use Rattle.sonic_reports.specs.Internal.Listed.{IsLastError, out_of_memory, last_stop, EndsBy, AreLinesOf, IsListed}
-use Rattle.sonic_reports.specs.Internal.Replies.{line_of_value, line_of_member, text_of_lines, IsLineOf}
+use Rattle.sonic_reports.specs.Internal.Replies.{line_of_shown, line_of_member, text_of_lines, IsLineOf}
 use Rattle.sonic_reports.specs.declared.commands.list.Listed.{Listed}
 use Rattle.sonic_reports.specs.declared.status.Status.{Status}
 use Rattle.sonic_reports.specs.declared.status.Status.TheVariants.{Done, DocumentError}
@@ -60,19 +61,19 @@ lines_more text {t} xs x item lines is same = record {
 no_label : {t : List ℕ} {h v : ℕ} {label : Option (List ℕ)} → ItemHead strict t Array h v label → label ≡ None
 no_label (no_head e) = refl
 
--- its line is that of its value
-pub element_more : {t : List ℕ} {n : ℕ} (values : List (Maybe LazyValue)) {value : LazyValue} → AreLinesOf t Array n (flat_map line_of_value values)
-    → ShowsElement t n value → AreLinesOf t Array (n + 1) (flat_map line_of_value (values ++ Some value ∷ []))
-element_more {t} values {value} lines x =
+-- its line is that of its text
+pub element_more : {t : List ℕ} {n : ℕ} (texts : List (Bor (List ℕ))) (text : Bor (List ℕ)) {value : LazyValue} → AreLinesOf t Array n (flat_map line_of_shown texts)
+    → ShowsElement t n value → text.now ≡ raw_bytes value → AreLinesOf t Array (n + 1) (flat_map line_of_shown (texts ++ text ∷ []))
+element_more {t} texts text lines x same =
     let label = no_label x.is.head in
-    lines_more line_of_value values (Some value) x.item lines x.is (rw (x.shown, label) refl)
+    lines_more line_of_shown texts text x.item lines x.is (rw (same, x.shown, label) refl)
 
--- and the line of a member that of its key and its value
-pub member_more : {Z : Type 0} {t : List ℕ} {n : ℕ} (members : List (CowStr Z × LazyValue)) {member : CowStr Z × LazyValue}
-    → AreLinesOf t Object n (flat_map line_of_member members) → ShowsMember {Z = Z} t n member
-    → AreLinesOf t Object (n + 1) (flat_map line_of_member (members ++ member ∷ []))
-member_more {Z} {t} members {member} lines x =
-    lines_more line_of_member members member x.item lines x.is (rw (x.shown, x.key, append_assoc) refl)
+-- and the line of a member that of its key and its text
+pub member_more : {Z : Type 0} {t : List ℕ} {n : ℕ} (members : List (CowStr Z × Bor (List ℕ))) (text : Bor (List ℕ)) {member : CowStr Z × LazyValue}
+    → AreLinesOf t Object n (flat_map line_of_member members) → ShowsMember {Z = Z} t n member → text.now ≡ raw_bytes member.1
+    → AreLinesOf t Object (n + 1) (flat_map line_of_member (members ++ (member.0, text) ∷ []))
+member_more {Z} {t} members text {member} lines x same =
+    lines_more line_of_member members (member.0, text) x.item lines x.is (rw (same, x.shown, x.key, append_assoc) refl)
 
 -- an iterator that has given so many items
 abbrev Gave : Iterating → List ℕ → Kind → ℕ → Type 0

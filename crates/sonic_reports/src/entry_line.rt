@@ -14,9 +14,78 @@ pub(crate) struct Numbered {
     pub(crate) entry: Entry,
 }
 
-// Room for a line with a key of at most `SHORT` bytes. Five numbers of at most 20 digits and the words take
-// less than 128.
-pub(crate) type Room = [u8; 192];
+// A number with its digits, which end with the room: mostly the next one of its column is the same, or one
+// more.
+#[derive(Drop)]
+pub(crate) struct Digits {
+    number: usize,
+    room: [u8; 20],
+    start: usize,
+    ghost within: { start ≤ 20 },
+    ghost digits: { drop start room ≡ decimal number },
+}
+
+impl Digits {
+    // Those of 0.
+    fn zero() -> Digits {
+        Digits {
+            number: 0,
+            room: [b'0'; 20],
+            start: 19,
+        }
+    }
+
+    // Goes on to this number. The one after it has the same digits but the last, unless that is a 9.
+    #[inline(always)]
+    fn set(&mut self, number: usize)
+        ensures { self.new.number ≡ number }
+    {
+        if number == self.number {
+            return;
+        }
+        if number == self.number.saturating_add(1) && self.room[19] < b'9' {
+            self.room[19] += 1;
+            self.number = number;
+            return;
+        }
+        self.start = write_digits(number as u64, &mut self.room, 20);
+        self.number = number;
+    }
+
+    // Puts the digits and a blank before a place: where they start.
+    #[inline(always)]
+    fn put(&self, room: &mut [u8], end: usize) -> usize
+        requires room { 21 ≤ end }
+        requires inside { end ≤ length room.old }
+        ensures start { result ≤ end }
+        ensures near { end ≤ result + 21 }
+        ensures text { drop result room.new ≡ decimal self.now.number ++ codes " " ++ drop end room.old }
+    {
+        let at = put(room, end, b" ");
+        let first = put(room, at, &self.room);
+        first + self.start
+    }
+}
+
+// Room for a line with a key of at most `SHORT` bytes, at its end, and the numbers of the line before. Five
+// numbers of at most 20 digits and the words take less than 128.
+#[derive(Drop)]
+pub(crate) struct Room {
+    pub(crate) line: [u8; 192],
+    number: Digits,
+    parent: Digits,
+}
+
+impl Room {
+    // Room in which no line is.
+    pub(crate) fn new() -> Room {
+        Room {
+            line: [0; 192],
+            number: Digits::zero(),
+            parent: Digits::zero(),
+        }
+    }
+}
 
 pub(crate) const SHORT: usize = 63;
 
@@ -24,11 +93,11 @@ pub(crate) const SHORT: usize = 63;
 pub(crate) fn line(room: &mut Room, value: &Numbered, key: &[u8]) -> usize
     requires { length key.now ≤ 63 }
     ensures within { result ≤ 192 }
-    ensures text { drop result room.new ≡ (words_of_value value.now.number value.now.entry
+    ensures text { drop result room.new.line ≡ (words_of_value value.now.number value.now.entry
         ++ word_of_label value.now.entry.label) ++ (key.now ++ codes "\n") }
 {
-    let at = put(room, 192, b"\n");
-    let at = put(room, at, key);
+    let at = put(&mut room.line, 192, b"\n");
+    let at = put_key(&mut room.line, at, key);
     put_words(room, at, value)
 }
 
@@ -36,7 +105,7 @@ pub(crate) fn line(room: &mut Room, value: &Numbered, key: &[u8]) -> usize
 // where they start.
 pub(crate) fn words(room: &mut Room, value: &Numbered) -> usize
     ensures within { result ≤ 192 }
-    ensures text { drop result room.new
+    ensures text { drop result room.new.line
         ≡ words_of_value value.now.number value.now.entry ++ word_of_label value.now.entry.label }
 {
     put_words(room, 192, value)
@@ -44,19 +113,21 @@ pub(crate) fn words(room: &mut Room, value: &Numbered) -> usize
 
 // Puts the words of a value's line, up to its key where it has one, before a place: where they start.
 #[inline(always)]
-fn put_words(room: &mut [u8], end: usize, value: &Numbered) -> usize
+fn put_words(room: &mut Room, end: usize, value: &Numbered) -> usize
     requires room { 128 ≤ end }
-    requires inside { end ≤ length room.old }
+    requires inside { end ≤ 192 }
     ensures start { result ≤ end }
-    ensures text { drop result room.new ≡ (words_of_value value.now.number value.now.entry
-        ++ word_of_label value.now.entry.label) ++ drop end room.old }
+    ensures text { drop result room.new.line ≡ (words_of_value value.now.number value.now.entry
+        ++ word_of_label value.now.entry.label) ++ drop end room.old.line }
 {
-    let at = put_label(room, end, value.entry.label);
-    let at = put_number(room, at, value.entry.end);
-    let at = put_number(room, at, value.entry.start);
-    let at = put_type(room, at, value.entry.kind);
-    let at = put_number(room, at, value.entry.parent);
-    put_number(room, at, value.number)
+    room.number.set(value.number);
+    room.parent.set(value.entry.parent);
+    let at = put_label(&mut room.line, end, value.entry.label);
+    let at = put_number(&mut room.line, at, value.entry.end);
+    let at = put_number(&mut room.line, at, value.entry.start);
+    let at = put_type(&mut room.line, at, value.entry.kind);
+    let at = room.parent.put(&mut room.line, at);
+    room.number.put(&mut room.line, at)
 }
 
 // Puts the label without the key before a place: where it starts.
@@ -99,7 +170,7 @@ fn put_type(room: &mut [u8], end: usize, kind: JsonType) -> usize
 
 // Puts a number and a blank before a place: where they start.
 #[inline(always)]
-fn put_number(room: &mut [u8], end: usize, number: usize) -> usize
+pub(crate) fn put_number(room: &mut [u8], end: usize, number: usize) -> usize
     requires room { 21 ≤ end }
     requires inside { end ≤ length room.old }
     ensures start { result ≤ end }
@@ -110,9 +181,23 @@ fn put_number(room: &mut [u8], end: usize, number: usize) -> usize
     write_digits(number as u64, room, at)
 }
 
+// Puts a key, if there is one, before a place: where it starts. An element has none.
+#[inline(always)]
+fn put_key(room: &mut [u8], end: usize, key: &[u8]) -> usize
+    requires room { length key.now ≤ end }
+    requires inside { end ≤ length room.old }
+    ensures start { result + length key.now ≡ end }
+    ensures text { drop result room.new ≡ key.now ++ drop end room.old }
+{
+    if key.is_empty() {
+        return end;
+    }
+    put(room, end, key)
+}
+
 // Puts bytes before a place: where they start.
 #[inline(always)]
-fn put(room: &mut [u8], end: usize, piece: &[u8]) -> usize
+pub(crate) fn put(room: &mut [u8], end: usize, piece: &[u8]) -> usize
     requires room { length piece.now ≤ end }
     requires inside { end ≤ length room.old }
     ensures start { result + length piece.now ≡ end }

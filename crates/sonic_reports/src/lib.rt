@@ -17,6 +17,8 @@ mod runs;
 mod status;
 // Runs that no fault stops.
 mod sure;
+// The lines of short texts.
+mod text_line;
 
 pub use commands::{Command, MOST, MOST_BLANKS};
 pub use law::{input_has_one_report, patch_writes_the_patched_tree};

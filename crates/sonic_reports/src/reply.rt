@@ -4,7 +4,7 @@ ghost use Rattle.std.specs.Cow.{cow_str_bytes};
 ghost use Rattle.std.specs.List.{flat_map};
 ghost use Rattle.sonic_lazy.specs.LazyValues.{raw_bytes};
 ghost use Rattle.sonic_io.specs.Buffers.{held, TookBut};
-ghost use Rattle.sonic_reports.specs.Internal.Replies.{text_of, text_of_lines, line_of_value, line_of_member};
+ghost use Rattle.sonic_reports.specs.Internal.Replies.{text_of, text_of_lines, line_of_value, line_of_shown, line_of_member};
 ghost use Rattle.sonic_reports.specs.Commands.Entries.{line_of_value_at, lines_from};
 ghost use Rattle.sonic_reports.specs.Internal.EntryLines.{HasKeyWithin};
 ghost use Rattle.sonic_reports.specs.Lines.{counted, line_of_text};
@@ -12,6 +12,7 @@ ghost use Rattle.sonic_io.specs.Outside.{Rose, Took, TookPrefix};
 
 use crate::entry_line::{Numbered, Room, SHORT, key, line, words};
 use crate::status::Status;
+use crate::text_line::{Line, is_short, member_line, value_line};
 use sonic_index::JsonIndex;
 use sonic_io::{Buffer, Failed, Sink};
 use sonic_lazy::LazyValue;
@@ -26,8 +27,10 @@ const ROOM: usize = 65_536;
 pub(crate) enum Lines<'i> {
     // Of values, and a dash where there is none.
     Values(Vec<Option<LazyValue<'i>>>),
-    // Of members, each with its key.
-    Members(Vec<(CowStr<'i>, LazyValue<'i>)>),
+    // Of the texts of values.
+    Texts(Vec<&'i str>),
+    // Of members, each its key and the text of its value.
+    Members(Vec<(CowStr<'i>, &'i str)>),
     // Of all values of a document.
     Entries(JsonIndex<'i>),
     // Lines that are made.
@@ -126,6 +129,7 @@ fn write_lines<K: Sink>(sink: &mut K, buffer: &mut Buffer, lines: &Lines<'_>) ->
 {
     match lines {
         Lines::Values(values) => write_values(sink, buffer, values),
+        Lines::Texts(texts) => write_texts(sink, buffer, texts),
         Lines::Members(members) => write_members(sink, buffer, members),
         Lines::Entries(index) => write_entries(sink, buffer, index),
         Lines::Made(bytes) => buffer.write(sink, bytes),
@@ -145,8 +149,9 @@ fn write_values<K: Sink>(
     ensures calm { OnOk result (K.faults sink.new ≡ K.faults sink.old) }
     ensures cause { OnErr result (Rose (K.faults sink.old) (K.faults sink.new)) }
 {
+    let mut room = [0u8; 192];
     for value in values {
-        write_entry(sink, buffer, value)?;
+        write_entry(sink, buffer, &mut room, value)?;
     }
     Ok(())
 }
@@ -155,6 +160,7 @@ fn write_values<K: Sink>(
 fn write_entry<K: Sink>(
     sink: &mut K,
     buffer: &mut Buffer,
+    room: &mut Line,
     value: &Option<LazyValue<'_>>,
 ) -> Result<(), Failed>
     ensures all { OnOk result (TookBut (K.written sink.old) (K.written sink.new)
@@ -165,9 +171,25 @@ fn write_entry<K: Sink>(
     ensures cause { OnErr result (Rose (K.faults sink.old) (K.faults sink.new)) }
 {
     match value {
-        Some(value) => write_value(sink, buffer, value),
+        Some(value) => write_text(sink, buffer, room, value.as_raw_str().as_bytes()),
         None => buffer.write(sink, b"-\n"),
     }
+}
+
+// Writes the lines of the texts, through a buffer.
+fn write_texts<K: Sink>(sink: &mut K, buffer: &mut Buffer, texts: &[&str]) -> Result<(), Failed>
+    ensures all { OnOk result (TookBut (K.written sink.old) (K.written sink.new)
+        (held buffer.new) (held buffer.old ++ flat_map line_of_shown texts.now)) }
+    ensures prefix { OnErr result (TookPrefix (K.written sink.old) (K.written sink.new)
+        (held buffer.old ++ flat_map line_of_shown texts.now)) }
+    ensures calm { OnOk result (K.faults sink.new ≡ K.faults sink.old) }
+    ensures cause { OnErr result (Rose (K.faults sink.old) (K.faults sink.new)) }
+{
+    let mut room = [0u8; 192];
+    for text in texts {
+        write_text(sink, buffer, &mut room, text.as_bytes())?;
+    }
+    Ok(())
 }
 
 // Writes the lines of all values of a document, through a buffer.
@@ -183,7 +205,7 @@ fn write_entries<K: Sink>(
     ensures calm { OnOk result (K.faults sink.new ≡ K.faults sink.old) }
     ensures cause { OnErr result (Rose (K.faults sink.old) (K.faults sink.new)) }
 {
-    let mut room = [0u8; 192];
+    let mut room = Room::new();
     for number in 0..index.len() {
         let Some(entry) = index.entry(number) else {
             unreachable!();
@@ -218,10 +240,10 @@ fn write_entry_line<K: Sink>(
     let key = key(text, value.entry.label);
     if key.len() <= SHORT {
         let start = line(room, value, key);
-        return buffer.write(sink, &room[start..]);
+        return buffer.write(sink, &room.line[start..]);
     }
     let start = words(room, value);
-    buffer.write(sink, &room[start..])?;
+    buffer.write(sink, &room.line[start..])?;
     buffer.write(sink, key)?;
     buffer.write(sink, b"\n")
 }
@@ -230,7 +252,7 @@ fn write_entry_line<K: Sink>(
 fn write_members<K: Sink>(
     sink: &mut K,
     buffer: &mut Buffer,
-    members: &[(CowStr<'_>, LazyValue<'_>)],
+    members: &[(CowStr<'_>, &str)],
 ) -> Result<(), Failed>
     ensures all { OnOk result (TookBut (K.written sink.old) (K.written sink.new)
         (held buffer.new) (held buffer.old ++ flat_map line_of_member members.now)) }
@@ -239,17 +261,19 @@ fn write_members<K: Sink>(
     ensures calm { OnOk result (K.faults sink.new ≡ K.faults sink.old) }
     ensures cause { OnErr result (Rose (K.faults sink.old) (K.faults sink.new)) }
 {
+    let mut room = [0u8; 192];
     for member in members {
-        write_member(sink, buffer, member)?;
+        write_member(sink, buffer, &mut room, member)?;
     }
     Ok(())
 }
 
-// Writes the line of a member, through a buffer.
+// Writes the line of a member, through a buffer: as one piece, if it is short.
 fn write_member<K: Sink>(
     sink: &mut K,
     buffer: &mut Buffer,
-    member: &(CowStr<'_>, LazyValue<'_>),
+    room: &mut Line,
+    member: &(CowStr<'_>, &str),
 ) -> Result<(), Failed>
     ensures all { OnOk result (TookBut (K.written sink.old) (K.written sink.new)
         (held buffer.new) (held buffer.old ++ line_of_member member.now)) }
@@ -258,26 +282,35 @@ fn write_member<K: Sink>(
     ensures calm { OnOk result (K.faults sink.new ≡ K.faults sink.old) }
     ensures cause { OnErr result (Rose (K.faults sink.old) (K.faults sink.new)) }
 {
-    let (key, value) = member;
-    write_counted(sink, buffer, key.as_bytes())?;
+    let (key, text) = (member.0.as_bytes(), member.1.as_bytes());
+    if is_short(key) && is_short(text) {
+        let start = member_line(room, key, text);
+        return buffer.write(sink, &room[start..]);
+    }
+    write_counted(sink, buffer, key)?;
     buffer.write(sink, b" ")?;
-    write_value(sink, buffer, value)
+    write_text(sink, buffer, room, text)
 }
 
-// Writes the line of a value, through a buffer.
-fn write_value<K: Sink>(
+// Writes the line of a text, through a buffer: as one piece, if it is short.
+fn write_text<K: Sink>(
     sink: &mut K,
     buffer: &mut Buffer,
-    value: &LazyValue<'_>,
+    room: &mut Line,
+    text: &[u8],
 ) -> Result<(), Failed>
     ensures all { OnOk result (TookBut (K.written sink.old) (K.written sink.new)
-        (held buffer.new) (held buffer.old ++ line_of_text (raw_bytes value.now))) }
+        (held buffer.new) (held buffer.old ++ line_of_text text.now)) }
     ensures prefix { OnErr result (TookPrefix (K.written sink.old) (K.written sink.new)
-        (held buffer.old ++ line_of_text (raw_bytes value.now))) }
+        (held buffer.old ++ line_of_text text.now)) }
     ensures calm { OnOk result (K.faults sink.new ≡ K.faults sink.old) }
     ensures cause { OnErr result (Rose (K.faults sink.old) (K.faults sink.new)) }
 {
-    write_counted(sink, buffer, value.as_raw_str().as_bytes())?;
+    if is_short(text) {
+        let start = value_line(room, text);
+        return buffer.write(sink, &room[start..]);
+    }
+    write_counted(sink, buffer, text)?;
     buffer.write(sink, b"\n")
 }
 

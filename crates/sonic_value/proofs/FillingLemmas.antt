@@ -158,6 +158,10 @@ pub has_members : (ms : List (String Global × Value)) → ms ≢ [] → HasMemb
 has_members [] some = absurd (some refl)
 has_members (m ∷ ms) some = tt
 
+pub some_members : (ms : List (String Global × Value)) → 0 < length ms → HasMembers (container Object (items_of ms))
+some_members [] less = absurd (omega (arith, less))
+some_members (m ∷ ms) less = tt
+
 -- and one with none has none
 pub has_none : (ms : List (String Global × Value)) → length ms ≡ 0 → ¬ HasMembers (container Object (items_of ms))
 has_none [] e = λ has. has

@@ -1,6 +1,8 @@
 pub mod AnyModeLemmas
 mod AskedNode
+mod CloneLemmas
 mod CompactLemmas
+mod ComparisonLemmas
 pub mod DepthLemmas
 pub mod DocumentLemmas
 pub mod FillerLemmas
@@ -16,14 +18,15 @@ mod LevelLemmas
 mod Lists
 mod Loans
 mod NumberLemmas
+pub mod OpenLemmas
+mod OpenTextLemmas
 pub mod OutcomeLemmas
 pub mod PassedLemmas
 mod PathLemmas
 pub mod ReaderLemmas
 pub mod ScalarLemmas
 pub mod SchemaLemmas
-mod ShownLemmas
-mod SpelledLemmas
 pub mod StringLemmas
 pub mod TreeLemmas
 pub mod UnfilledLemmas
+pub mod ValueCountLemmas

@@ -1,11 +1,5 @@
 -- The lists that two values hold, item by item.
-use Rattle.std.proofs.Common.{◌≡◌, ◌∙◌, ap, ap₂, refl, sym, ℕ, ◌+◌, ◌<◌, List, [], ◌∷◌, ◌++◌, length, get_or, map, take, Bool, not, true, false, string_bytes}
-use Rattle.std.proofs.lemmas.Bool.{false≢true}
-use Rattle.std.proofs.lemmas.List.{get_or-map, map_more}
-use Rattle.std.proofs.lemmas.Slice.Eq.{bytes_eq-Decides}
-use Rattle.std.specs.String.{string_eq}
-use Rattle.std.specs.declared.alloc.Global.{Global}
-use Rattle.std.specs.declared.string.String.{String}
+use Rattle.std.proofs.Common.{◌≡◌, ap₂, refl, ℕ, List, [], ◌∷◌}
 use Rattle.sonic_text.specs.Trees.{Tree}
 use Rattle.sonic_value.specs.Views.{elements_of, members_of}
 
@@ -30,27 +24,3 @@ members_one (x ∷ xs) (y ∷ ys) e =
     let pair : List ℕ → Tree → List ℕ × Tree = λ k v. (k, v) in
     let first : x ≡ y = ap₂ pair key value in
     rw (first, members_one xs ys others) refl
-
-not_down : (b : Bool) → not b ≡ false → b ≡ true
-not_down true e = refl
-not_down false e = absurd cc
-
--- what `!=` says of two keys
-pub keys_alike : (k l : String Global) → not (string_eq k l) ≡ false → string_bytes k ≡ string_bytes l
-keys_alike k l e = (bytes_eq-Decides (string_bytes k) (string_bytes l)).0 (not_down (string_eq k l) e)
-
-pub keys_differ : (k l : String Global) → not (string_eq k l) ≡ true → ¬ (string_bytes k ≡ string_bytes l)
-keys_differ k l e same = let equal : string_eq k l ≡ true = (bytes_eq-Decides (string_bytes k) (string_bytes l)).1 same in false≢true (ap not (sym equal) ∙ e)
-
--- one more item that is seen alike
-pub alike_more : {A B : Type 0} (f : A → B) (xs ys : List A) (n : ℕ) (x y : A) → n < length xs → n < length ys → x ≡ get_or xs n x → y ≡ get_or ys n y
-    → f x ≡ f y → map f (take n xs) ≡ map f (take n ys) → map f (take (n + 1) xs) ≡ map f (take (n + 1) ys)
-alike_more f xs ys n x y in_xs in_ys is_x is_y one before =
-    let last : f (get_or xs n x) ≡ f (get_or ys n y) = ap f (sym is_x) ∙ one ∙ ap f is_y in
-    map_more f xs n x in_xs ∙ ap₂ (λ l z. l ++ z ∷ []) before last ∙ sym (map_more f ys n y in_ys)
-
--- an item of lists that are seen alike
-pub alike_at : {A B : Type 0} (f : A → B) (xs ys : List A) (n : ℕ) (x y : A) → n < length xs → n < length ys → x ≡ get_or xs n x → y ≡ get_or ys n y
-    → map f xs ≡ map f ys → f x ≡ f y
-alike_at f xs ys n x y in_xs in_ys is_x is_y all =
-    ap f is_x ∙ sym (get_or-map f xs n x (f x) in_xs) ∙ ap (λ l. get_or l n (f x)) all ∙ get_or-map f ys n y (f x) in_ys ∙ sym (ap f is_y)

@@ -10,7 +10,6 @@ use Rattle.sonic_text.specs.Strings.{strict, IsString, IsEscapedString}
 use Rattle.sonic_text.specs.Trees.{text}
 use Rattle.sonic_text.specs.Trees.Means.{means_string}
 use Rattle.sonic_text.specs.Values.{key_head, IsKey, IsValue}
-use Rattle.sonic_text.specs.Values.IsValue.{string}
 use Rattle.sonic_text.specs.declared.kind.Kind.TheVariants.{Object}
 use Rattle.sonic_value.proofs.ScalarLemmas.{string_there}
 use Rattle.sonic_value.specs.Internal.Keeping.{kept_text}

@@ -1,28 +1,44 @@
 // Schemas, filled from the values of a text.
-ghost use Rattle.std.specs.Prelude.{◌≡◌, ◌≢◌, ℕ, List, [], IfOk, IfErr, OnOk};
+//
+// One loop goes from member to member of the data. The objects of the schema that are open wait in a
+// vector, which is all that grows.
+ghost use Rattle.std.specs.Prelude.{◌≡◌, ◌<◌, ◌≤◌, ℕ, List, None, length, IfOk, IfErr, IfSome, OnOk};
 ghost use Rattle.sonic_parser.specs.Faults.{IsStopFor};
 ghost use Rattle.sonic_text.specs.Faults.{IsKeyFault};
 ghost use Rattle.sonic_text.specs.Places.{byte};
 ghost use Rattle.sonic_text.specs.Strings.{strict};
+ghost use Rattle.sonic_text.specs.Trees.{Tree};
 ghost use Rattle.sonic_text.specs.Values.{opening};
-ghost use Rattle.sonic_value.specs.Internal.Fillers.{items_of, IsFillRead, IsFillStopped, IsObjectRead, IsObjectStopped, IsMemberRead, IsMemberUnread, IsMemberFound, IsPlaceOf};
+ghost use Rattle.sonic_value.specs.Internal.Fillers.{items_of, IsFillRead, IsFillStopped, IsMemberFound, IsPlaceOf};
+ghost use Rattle.sonic_value.specs.Internal.OpenSchemas.{IsFillable, IsFillingBegun, IsFilling, IsMemberEnded};
+ghost use Rattle.sonic_value.specs.Schemas.{IsReplaced};
 ghost use Rattle.sonic_value.specs.Views.{tree};
+
+// Objects that are open.
+mod level;
 
 use crate::Value;
 use crate::read::read_value;
 use crate::reader::Reader;
+use level::Level;
 use sonic_parser::Fault;
 use sonic_text::Kind;
-use std::mem;
+
+// How far a value of a schema is filled.
+#[derive(Drop)]
+enum Begun {
+    // It is filled.
+    Filled(Value),
+    // It is an object with these members, and another member of the data is expected.
+    Open(Vec<(String, Value)>),
+}
 
 // Fills a schema from the value at the cursor. Inside a value that takes the place of one so many
-// containers may be open at once. The stack has room for so many levels more.
-#[cycle(fill)]
+// containers may be open at once.
 pub(crate) fn fill_value(
     reader: &mut Reader<'_>,
     schema: Value,
     room: usize,
-    levels: usize,
 ) -> Result<Value, Fault>
     ensures ok { IfOk result (λ made. IsFillRead reader.old.source room (tree schema) (tree made)
         reader.old.place reader.new.place) }
@@ -30,70 +46,108 @@ pub(crate) fn fill_value(
     ensures err { IfErr result (IsStopFor (IsFillStopped reader.old.source room (tree schema)
         reader.old.place)) }
 {
-    if !reader.at_object() {
-        return read_value(reader, room);
+    let mut opened = Vec::new(reader.alloc());
+    let mut begun = begin(reader, schema, room)?;
+    'members: loop {
+        match begun {
+            Begun::Filled(value) => return Ok(value),
+            Begun::Open(members) => begun = fill_member(reader, &mut opened, members, room)?,
+        }
     }
-    let Value::Object(members) = schema else {
-        return read_value(reader, room);
-    };
-    if members.is_empty() {
-        return read_value(reader, room);
-    }
-    if levels == 0 {
-        return Err(Fault::OutOfMemory);
-    }
-    Ok(Value::Object(fill_members(reader, members, room, levels - 1)?))
 }
 
-// Fills the members of a schema, one or more, from those of the object at the cursor.
-#[cycle(fill)]
-fn fill_members(
-    reader: &mut Reader<'_>,
-    schema: Vec<(String, Value)>,
-    room: usize,
-    levels: usize,
-) -> Result<Vec<(String, Value)>, Fault>
-    requires object { byte reader.old.source.text reader.old.place ≡ opening Kind.Object }
-    requires some { schema.items ≢ [] }
-    ensures ok { IfOk result (λ made. IsObjectRead reader.old.source room (items_of schema.items)
-        (items_of made.items) reader.old.place reader.new.place) }
+// Begins to fill a schema from the value at the cursor.
+fn begin(reader: &mut Reader<'_>, schema: Value, room: usize) -> Result<Begun, Fault>
+    ensures ok { IfOk result (λ begun. IsFillingBegun reader.old.source room (tree schema) begun
+        reader.old.place reader.new.place) }
     ensures moved { reader.new ≡ record reader.old { place = reader.new.place } }
-    ensures err { IfErr result (IsStopFor (IsObjectStopped reader.old.source room
-        (items_of schema.items) reader.old.place)) }
+    ensures err { IfErr result (IsStopFor (IsFillStopped reader.old.source room (tree schema)
+        reader.old.place)) }
 {
-    let mut members = schema;
-    let mut more = reader.enter(Kind::Object);
-    while more {
-        let found = find_next(reader, &members)?;
-        fill_member(reader, found, &mut members, room, levels)?;
-        more = reader.next_item(Kind::Object)?;
+    let Some(members) = fillable(reader, schema) else {
+        return Ok(Begun::Filled(read_value(reader, room)?));
+    };
+    if reader.enter(Kind::Object) {
+        return Ok(Begun::Open(members));
     }
-    Ok(members)
+    Ok(Begun::Filled(Value::Object(members)))
 }
 
-// Fills the member at a position from the value at the cursor, or none.
-#[cycle(fill)]
+// The members of a schema that the value at the cursor fills, and `None` where that takes its place.
+fn fillable(reader: &Reader<'_>, schema: Value) -> Option<Vec<(String, Value)>>
+    ensures some { IfSome result (λ members. IsFillable (tree schema) (items_of members.items)) }
+    ensures object { IfSome result (λ members.
+        byte reader.now.source.text reader.now.place ≡ opening Kind.Object) }
+    ensures none { result ≡ None → IsReplaced reader.now.source.text (tree schema) reader.now.place }
+{
+    match reader.container() {
+        Some(Kind::Object) => schema.into_members(),
+        Some(Kind::Array) => None,
+        None => None,
+    }
+}
+
+// Passes the member of the data that is expected at the cursor, or begins to fill a value from it.
+//
+// The innermost object of the schema has these members.
 fn fill_member(
     reader: &mut Reader<'_>,
-    found: Option<usize>,
-    members: &mut Vec<(String, Value)>,
+    opened: &mut Vec<Level>,
+    members: Vec<(String, Value)>,
     room: usize,
-    levels: usize,
-) -> Result<(), Fault>
-    requires { (key : List ℕ) × IsPlaceOf key members.old.items found }
-    ensures ok { OnOk result ((key : List ℕ) → IsPlaceOf key members.old.items found
-        → IsMemberRead reader.old.source room key (items_of members.old.items)
-        (items_of members.new.items) reader.old.place reader.new.place) }
+) -> Result<Begun, Fault>
+    ensures ok { IfOk result (λ begun. (schema : Tree) (i : ℕ)
+        → IsFilling reader.old.source room schema i opened.old.items (Begun.Open members) reader.old.place
+        → IsFilling reader.old.source room schema i opened.new.items begun reader.new.place) }
     ensures moved { reader.new ≡ record reader.old { place = reader.new.place } }
-    ensures err { IfErr result (IsStopFor (λ s. (key : List ℕ) → IsPlaceOf key members.old.items found
-        → IsMemberUnread reader.old.source room key (items_of members.old.items) reader.old.place s)) }
+    ensures later { OnOk result (reader.old.place < reader.new.place) }
+    ensures err { IfErr result (IsStopFor (λ s. (schema : Tree) (i : ℕ)
+        → IsFilling reader.old.source room schema i opened.old.items (Begun.Open members) reader.old.place
+        → IsFillStopped reader.old.source room schema i s)) }
 {
-    let Some(index) = found else {
-        return reader.skip_value();
+    let Some(index) = find_next(reader, &members)? else {
+        reader.skip_value()?;
+        return leave(reader, opened, members, room);
     };
-    let schema = mem::replace(&mut members[index].1, Value::Null);
-    members[index].1 = fill_value(reader, schema, room, levels)?;
-    Ok(())
+    let (level, schema) = Level::take(members, index);
+    match begin(reader, schema, room)? {
+        Begun::Filled(value) => leave(reader, opened, level.put(value), room),
+        Begun::Open(inner) => {
+            opened.push(level)?;
+            Ok(Begun::Open(inner))
+        }
+    }
+}
+
+// After a member of the data, ends objects as long as they close.
+//
+// The innermost object of the schema has these members. `room` is for the contract alone.
+fn leave(
+    reader: &mut Reader<'_>,
+    opened: &mut Vec<Level>,
+    members: Vec<(String, Value)>,
+    room: usize,
+) -> Result<Begun, Fault>
+    ensures ok { IfOk result (λ begun. (schema : Tree) (i : ℕ)
+        → IsMemberEnded reader.old.source room schema i opened.old.items (items_of members.items) reader.old.place
+        → IsFilling reader.old.source room schema i opened.new.items begun reader.new.place) }
+    ensures moved { reader.new ≡ record reader.old { place = reader.new.place } }
+    ensures later { OnOk result (reader.old.place ≤ reader.new.place) }
+    ensures err { IfErr result (IsStopFor (λ s. (schema : Tree) (i : ℕ)
+        → IsMemberEnded reader.old.source room schema i opened.old.items (items_of members.items) reader.old.place
+        → IsFillStopped reader.old.source room schema i s)) }
+{
+    let mut members = members;
+    'levels: loop {
+        if reader.next_item(Kind::Object)? {
+            return Ok(Begun::Open(members));
+        }
+        let value = Value::Object(members);
+        match opened.pop() {
+            Some(level) => members = level.put(value),
+            None => return Ok(Begun::Filled(value)),
+        }
+    }
 }
 
 // Reads the key at the cursor, up to the member's value: the position of the last of the members

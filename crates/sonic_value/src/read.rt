@@ -93,7 +93,7 @@ fn read_document(alloc: Global, text: &[u8], utf8: bool) -> std::result::Result<
     ensures err { IfErr result (IsStopFor (λ s. (is_bytes : Bool) → IsUnread text.now is_bytes s)) }
     ensures within { IfErr result (IsStopFor (λ s. s.place ≤ length text.now)) }
 {
-    let mut reader = Reader::new(alloc, text, utf8);
+    let mut reader = Reader::at(alloc, text, 0, utf8);
     reader.skip_space();
     let value = read_value(&mut reader, MAX_DEPTH)?;
     reader.skip_space();

@@ -1,5 +1,5 @@
 // A cursor that makes plain values of what it passes.
-ghost use Rattle.std.specs.Prelude.{◌≡◌, ◌≢◌, ◌+◌, ◌-◌, ◌≤◌, ◌<◌, ◌↔◌, ℕ, List, None, true, false, length, slice_range, string_bytes, IfOk, IfErr, IfSome, IsTrue, OnOk};
+ghost use Rattle.std.specs.Prelude.{◌≡◌, ◌≢◌, ◌+◌, ◌-◌, ◌≤◌, ◌<◌, ℕ, List, None, true, false, length, slice_range, string_bytes, IfOk, IfErr, IfSome, OnOk};
 ghost use Rattle.std.specs.Cow.{cow_str_bytes};
 ghost use Rattle.std.specs.Str.{IsUtf8};
 ghost use Rattle.sonic_parser.specs.Containers.{IsEnd, IsSeparated, IsSeparatorFault};
@@ -12,7 +12,7 @@ ghost use Rattle.sonic_text.specs.Strings.{strict, IsString, IsEscapedString};
 ghost use Rattle.sonic_text.specs.Values.{opening, closing, IsValue};
 ghost use Rattle.sonic_text.specs.declared.kind.Kind.{Kind};
 ghost use Rattle.sonic_value.specs.Internal.Keeping.{spelling};
-ghost use Rattle.sonic_value.specs.Internal.Readers.{IsValueRead, IsUnreadValue, IsScalarToken, IsKeySpan, string_of_token, IsKeptText, IsKept, IsHeadRead};
+ghost use Rattle.sonic_value.specs.Internal.Readers.{IsValueRead, IsUnreadValue, IsScalarToken, IsKeySpan, IsKeptText, IsKept, IsHeadRead};
 ghost use Rattle.sonic_value.specs.Views.{tree};
 
 use crate::Value;
@@ -45,14 +45,6 @@ impl<'de> Model for Reader<'de> {
 }
 
 impl<'de> Reader<'de> {
-    // At the first byte of a text, which is UTF-8 where this says so.
-    pub(crate) fn new(alloc: Global, text: &'de [u8], utf8: bool) -> Reader<'de>
-        requires { utf8 ≡ true → IsUtf8 text.now }
-        ensures { result ≡ record { source = record { text = text.now; is_utf8 = utf8 }; place = 0 } }
-    {
-        Reader::at(alloc, text, 0, utf8)
-    }
-
     // At a place of a text, which is UTF-8 where this says so.
     pub(crate) fn at(alloc: Global, text: &'de [u8], place: usize, utf8: bool) -> Reader<'de>
         requires utf8 { utf8 ≡ true → IsUtf8 text.now }
@@ -95,13 +87,6 @@ impl<'de> Reader<'de> {
             → byte self.now.source.text self.now.place ≢ opening kind }
     {
         Kind::opened_by(byte_at(self.parser.text(), self.parser.offset()))
-    }
-
-    // Whether an object begins at the cursor.
-    pub(crate) fn at_object(&self) -> bool
-        ensures { IsTrue result ↔ (byte self.now.source.text self.now.place ≡ opening Kind.Object) }
-    {
-        byte_at(self.parser.text(), self.parser.offset()) == b'{'
     }
 
     // Goes past the bracket of the container of this kind at the cursor: whether an item is expected,
@@ -210,7 +195,11 @@ impl<'de> Reader<'de> {
             b'n' => Ok(Value::Null),
             b't' => Ok(Value::Bool(true)),
             b'f' => Ok(Value::Bool(false)),
-            b'"' => Ok(Value::String(self.string(value.string())?)),
+            b'"' => Ok(Value::String(self.string(StringSpan {
+                start: value.start,
+                end: value.end,
+                escaped: value.escaped,
+            })?)),
             _ => Ok(Value::Number(number_text(self.alloc, text, value)?)),
         }
     }
@@ -237,19 +226,6 @@ struct Token {
     start: usize,
     end: usize,
     escaped: bool,
-}
-
-impl Token {
-    // The string that it is.
-    fn string(self) -> StringSpan
-        ensures { result ≡ string_of_token self }
-    {
-        StringSpan {
-            start: self.start,
-            end: self.end,
-            escaped: self.escaped,
-        }
-    }
 }
 
 // Bytes spelled out, two letters for each.

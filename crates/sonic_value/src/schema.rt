@@ -11,16 +11,13 @@ use crate::Value;
 use crate::fill::fill_value;
 use crate::read::MAX_DEPTH;
 use crate::reader::Reader;
-use crate::value::spelled_value;
+use crate::value::copy;
 use sonic_error::{ErrorCode, Note, Result};
 use sonic_input::JsonInput;
 use sonic_lazy::JsonValueTrait;
 use sonic_parser::{Fault, Parser};
 use sonic_text::Stop;
 use std::alloc::Global;
-
-// How many levels of a schema are filled at most: a stack surely has room for these.
-const MAX_LEVELS: usize = 1024;
 
 /// A schema, filled from the value that begins a text after white space.
 ///
@@ -32,8 +29,7 @@ const MAX_LEVELS: usize = 1024;
 /// The errors are: `Note::SchemaNotObject` at 0; the first bracket inside 255 others of a value that
 /// takes the place of one, `ErrorCode::RecursionLimitExceeded`; the fault of the value; and for bytes
 /// `ErrorCode::InvalidUTF8` at the first place before the value's end that is broken. Running out of
-/// memory is `ErrorCode::NoMemory` without a place, and so is a schema that is filled more than 1024
-/// levels deep, for which the stack may have no room.
+/// memory is `ErrorCode::NoMemory` without a place.
 ///
 /// ```text
 /// let schema = Value::from_str(alloc, "{\"a\":1,\"b\":[1],\"c\":{}}")?;
@@ -125,7 +121,7 @@ fn fill_text(
 {
     let mut reader = Reader::at(alloc, text, place, true);
     reader.skip_space();
-    fill_value(&mut reader, schema, MAX_DEPTH, MAX_LEVELS)
+    fill_value(&mut reader, schema, MAX_DEPTH)
 }
 
 // The same of an object and bytes that aren't UTF-8.
@@ -149,8 +145,8 @@ fn fill_broken(
     let mut reader = Reader::at(alloc, text, place, false);
     reader.skip_space();
     let start = reader.place();
-    let spelled = spelled_value(&schema, alloc)?;
-    fill_value(&mut reader, spelled, MAX_DEPTH, MAX_LEVELS)?;
+    let spelled = copy(&schema, false, alloc)?;
+    fill_value(&mut reader, spelled, MAX_DEPTH)?;
     let end = reader.place();
     match simdutf8::compat::from_utf8(&text[..end]) {
         // The value is no deeper than it is long.
@@ -158,7 +154,6 @@ fn fill_broken(
             &mut Reader::at(alloc, &text[start..end], 0, true),
             schema,
             end,
-            MAX_LEVELS,
         ),
         Err(error) => {
             let place = error.valid_up_to();

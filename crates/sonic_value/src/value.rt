@@ -1,6 +1,8 @@
 // Plain values.
 ghost use Rattle.std.specs.Prelude.{◌≡◌};
 
+// Values that are taken apart.
+mod apart;
 // Copies.
 mod copy;
 // Equality.
@@ -13,16 +15,14 @@ mod lend;
 mod look_up;
 // The text.
 mod show;
-// Copies whose strings are spelled out.
-mod spell;
 
+pub(crate) use copy::copy;
 pub(crate) use lend::{Holds, lend_item};
-pub(crate) use spell::spelled_value;
 
 /// A JSON value that is read whole.
 ///
-/// Members keep their order and their repeats, and numbers their text.
-#[derive(Drop)]
+/// Members keep their order and their repeats, and numbers their text. A pattern looks at a value and
+/// moves nothing out of it: `as_array_mut` and `as_object_mut` lend what is taken out.
 pub enum Value {
     Null,
     Bool(bool),
@@ -30,6 +30,18 @@ pub enum Value {
     String(String),
     Array(Vec<Value>),
     Object(Vec<(String, Value)>),
+}
+
+// A loop that takes no memory, so that no value is too deep for it.
+impl Drop for Value {
+    fn drop(mut self) {
+        'values: loop {
+            match self.shrunk() {
+                Some(rest) => self = rest,
+                None => return,
+            }
+        }
+    }
 }
 
 /// `null`.

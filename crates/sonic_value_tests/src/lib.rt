@@ -2,6 +2,9 @@
 //! is ample.
 #![tactic(auto)]
 
+// Values deeper than any stack.
+#[cfg(test)]
+mod deep;
 // What indexes lead to.
 #[cfg(test)]
 mod look_ups;

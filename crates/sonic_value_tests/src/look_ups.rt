@@ -129,7 +129,7 @@ fn changes_what_a_path_leads_to(rt: HostRuntime) -> Result<(), Fail> {
         Some(whole) => *whole = Value::Bool(true),
         None => panic!(rt; "it is there"),
     }
-    assert!(rt; matches!(value, Value::Bool(true)));
+    assert!(rt; matches!(&value, Value::Bool(true)));
     Ok(())
 }
 
@@ -274,7 +274,7 @@ fn refuses_other_kinds(rt: HostRuntime) -> Result<(), Fail> {
         Ok(_) => panic!(rt; "it is no object"),
         Err(error) => same(&rt, error.code(), ErrorCode::UnexpectedVisitType),
     }
-    assert!(rt; matches!(value, Value::Bool(true)));
+    assert!(rt; matches!(&value, Value::Bool(true)));
     match 0usize.index_or_insert(alloc, &mut Value::Null) {
         Ok(_) => panic!(rt; "null has no elements"),
         Err(error) => same(&rt, error.code(), ErrorCode::UnexpectedVisitType),

@@ -63,7 +63,7 @@ fn reads_scalars(rt: HostRuntime) -> Result<(), Fail> {
 #[test]
 fn reads_containers(rt: HostRuntime) -> Result<(), Fail> {
     let alloc = rt.alloc();
-    match read(&rt, alloc, "{\"a\":1,\"\\u0061\" : 2 , \"\":[ ]}") {
+    match &read(&rt, alloc, "{\"a\":1,\"\\u0061\" : 2 , \"\":[ ]}") {
         Value::Object(members) => {
             assert_eq!(rt; members.len(), 3);
             for (i, (key, value)) in members.iter().enumerate() {
@@ -71,9 +71,9 @@ fn reads_containers(rt: HostRuntime) -> Result<(), Fail> {
                 same(&rt, first_text(value), ["1", "2", "["][i]);
             }
         }
-        other => panic!(rt; "{} is no object", first_text(&other)),
+        other => panic!(rt; "{} is no object", first_text(other)),
     }
-    match read(&rt, alloc, " [ [1, 2] ,{ }, \"x\",[ ] ] ") {
+    match &read(&rt, alloc, " [ [1, 2] ,{ }, \"x\",[ ] ] ") {
         Value::Array(elements) => {
             assert_eq!(rt; elements.len(), 4);
             for (i, element) in elements.iter().enumerate() {
@@ -87,7 +87,7 @@ fn reads_containers(rt: HostRuntime) -> Result<(), Fail> {
                 other => panic!(rt; "{} is no array", first_text(other)),
             }
         }
-        other => panic!(rt; "{} is no array", first_text(&other)),
+        other => panic!(rt; "{} is no array", first_text(other)),
     }
     Ok(())
 }

@@ -349,57 +349,6 @@ fn counts_depth_in_bytes_that_are_broken(rt: HostRuntime) -> Result<(), Fail> {
     Ok(())
 }
 
-// Appends a member whose value is an object in so many others, each a member of the one around it.
-fn push_member(text: &mut String, levels: usize) -> Result<(), Fail> {
-    text.push_str("\"\":")?;
-    for _ in 0..levels {
-        text.push_str("{\"\":")?;
-    }
-    text.push_str("{}")?;
-    for _ in 0..levels {
-        text.push('}')?;
-    }
-    Ok(())
-}
-
-// An object of members with one key, so many levels deep.
-fn deeper_and_deeper(alloc: Global, others: &[usize], last: usize) -> Result<String, Fail> {
-    let mut text = String::new(alloc);
-    text.push('{')?;
-    for levels in others {
-        push_member(&mut text, *levels)?;
-        text.push(',')?;
-    }
-    push_member(&mut text, last)?;
-    text.push('}')?;
-    Ok(text)
-}
-
-// Members that deepen a schema to so many levels, one that fills it last, and how long the text is
-// then, if it is filled.
-fn last_levels() -> [(&'static [usize], usize, Option<usize>); 3] {
-    [
-        (&[254, 508, 762, 1016, 1022], 1276, Some(6_387)),
-        // 1024 levels are filled at most.
-        (&[254, 508, 762, 1016, 1023], 1277, Some(6_392)),
-        (&[254, 508, 762, 1016, 1024], 1278, None),
-    ]
-}
-
-#[test]
-fn fills_as_deep_as_a_stack_surely_has_room(rt: HostRuntime) -> Result<(), Fail> {
-    let alloc = rt.alloc();
-    for (others, last, wanted) in last_levels() {
-        let json = deeper_and_deeper(alloc, others, last)?;
-        let made = get_by_schema(alloc, &json[..], read(&rt, alloc, "{\"\":1}"));
-        match (made, wanted) {
-            (Ok(made), Some(length)) => same(&rt, made.to_string(alloc)?.len(), length),
-            (made, _) => check_error(&rt, made, (ErrorCode::NoMemory, 0)),
-        }
-    }
-    Ok(())
-}
-
 #[test]
 fn goes_on_after_the_value(rt: HostRuntime) -> Result<(), Fail> {
     let alloc = rt.alloc();

@@ -1,12 +1,11 @@
 -- What a walk through a text has written of its entries.
-use Rattle.std.specs.Prelude.{◌≡◌, ◌⊎◌, ℕ, ◌+◌, ◌<◌, ◌≤◌, List, Option, Some, length, slice_get}
+use Rattle.std.specs.Prelude.{◌≡◌, ◌⊎◌, ℕ, ◌+◌, ◌<◌, ◌≤◌, List, Some, length, slice_get}
 use Rattle.sonic_text.specs.declared.kind.Kind.{Kind}
 use Rattle.sonic_text.specs.declared.kind.Kind.TheVariants.{Array, Object}
-use Rattle.sonic_text.specs.declared.string.StringEnd.{StringEnd}
 use Rattle.sonic_text.specs.Places.{after_space}
 use Rattle.sonic_text.specs.Strings.{strict}
 use Rattle.sonic_text.specs.Values.{IsValue, ItemsFit}
-use Rattle.sonic_parser.specs.Descents.{Descending, IsAtValue, IsAtItem, IsAtEnd, IsHeadPassed}
+use Rattle.sonic_parser.specs.Descents.{Descending, IsAtValue, IsAtItem, IsAtEnd}
 use Rattle.sonic_parser.specs.OpenContainers.{IsTop}
 use Rattle.sonic_find.specs.Documents.{IsAlone}
 use Rattle.sonic_index.specs.declared.build.Item.{Item}
@@ -112,9 +111,3 @@ pub record AreWritten (walk : Descending) (cells : List Cell) : Type 0 where
 abbrev pub label_at : Kind → ℕ → ℕ → ℕ
 label_at Array count place = count
 label_at Object count place = place
-
--- what comes before the item's value was passed
-pub record IsHeadOf (item : Item) (before now : Descending) (value : Item) : Type 0 where
-  pub key : Option StringEnd
-  pub passed : IsHeadPassed item.kind before now key
-  pub is : value ≡ record item { label = label_at item.kind item.label before.place }

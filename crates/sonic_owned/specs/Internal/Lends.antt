@@ -9,7 +9,7 @@ use Rattle.sonic_lazy.specs.Scalars.{container}
 use Rattle.sonic_owned.specs.Forms.{Form, level, Members, scalar_of_form}
 use Rattle.sonic_owned.specs.Leading.{item_in}
 use Rattle.sonic_owned.specs.Opened.{IsOpened, IsClosedOf}
-use Rattle.sonic_owned.specs.Puts.{put_in, IsPartOf}
+use Rattle.sonic_owned.specs.Puts.{put_in, IsPartOf, IsPut}
 use Rattle.sonic_owned.specs.Reached.{IsOpenedOn, LeadsNowhere}
 use Rattle.sonic_owned.specs.Views.{form}
 use Rattle.sonic_owned.specs.declared.value.OwnedLazyValue.{OwnedLazyValue}
@@ -100,3 +100,10 @@ IsLevelFound kind f items (Ok l) = IsOpened f (level kind (items l.now))
 IsLevelFound kind f items (Err Nowhere) = ¬ (scalar_of_form f ≡ container kind)
 IsLevelFound kind f items (Err NoMemory) = IsClosedOf kind f
 IsLevelFound kind f items (Err TooDeep) = ⊥
+
+-- h is f but for the part to which the path leads, of which this was left
+pub record IsPartChanged (path : Path) (f h : Form) (Left : OwnedLazyValue → OwnedLazyValue → Type 0) : Type 0 where
+  pub part : OwnedLazyValue
+  pub left : OwnedLazyValue
+  pub change : Left part left
+  pub put : IsPut path f (form part) (form left) h

@@ -55,6 +55,11 @@ abbrev pub item_left : Unwritten → Option (Bor OwnedLazyValue) → List ℕ
 item_left u None = []
 item_left u (Some v) = text (form v.now) ++ left_text u
 
+-- and after the items before a level
+abbrev pub level_left : Unwritten → Option Unwritten → List ℕ
+level_left u None = []
+level_left u (Some inner) = left_text inner ++ left_text u
+
 -- g is f after writing all before the rest
 pub record IsWrittenUpTo {W : Type 0} (took : W → List ℕ → W → Type 0) (f : Formatter W) (all rest : List ℕ) (g : Formatter W) : Type 0 where
   pub done : List ℕ

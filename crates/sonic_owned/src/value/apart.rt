@@ -1,15 +1,57 @@
 // Values that are taken apart.
 ghost use Rattle.std.specs.Prelude.{◌≡◌, ◌<◌, ◌+◌, IfSome, MatchOption};
-ghost use Rattle.sonic_owned.specs.Internal.Bulks.{bulk, node_form};
+ghost use Rattle.sonic_owned.specs.Forms.{named, unnamed};
+ghost use Rattle.sonic_owned.specs.Internal.Bulks.{bulk, members_bulk, node_form};
+ghost use Rattle.sonic_owned.specs.Internal.Levels.{elements_of, members_of};
 
-use super::{LazyArray, LazyObject, Node};
+use super::{LazyArray, LazyObject, Node, OwnedLazyValue};
+use crate::made::MadeText;
 use std::mem;
 
 impl Node {
-    // What is left of a value without one that is a scalar or has no items, and `None` where that was
-    // all.
-    pub(super) fn shrunk(self) -> Option<Self>
-        ensures { IfSome result (λ rest. bulk (node_form rest) < bulk (node_form self)) }
+    // What is left of an array with these elements without its last ones, up to one that is a level, or
+    // without some of that. `None` where nothing is left.
+    pub(super) fn array_shrunk(mut elements: Vec<OwnedLazyValue>) -> Option<Self>
+        ensures { IfSome result (λ rest.
+            bulk (node_form rest) < 3 + members_bulk (unnamed (elements_of elements.items))) }
+    {
+        'elements: while let Some(last) = elements.pop() {
+            let Some(level) = last.node.level() else {
+                continue;
+            };
+            if elements.is_empty() {
+                elements.destroy_empty();
+                return Some(level);
+            }
+            return Some(Node::Array(LazyArray { elements }).below(level));
+        }
+        elements.destroy_empty();
+        None
+    }
+
+    // The same of an object with these members.
+    pub(super) fn object_shrunk(mut members: Vec<(MadeText, OwnedLazyValue)>) -> Option<Self>
+        ensures { IfSome result (λ rest.
+            bulk (node_form rest) < 3 + members_bulk (named (members_of members.items))) }
+    {
+        'members: while let Some((_, last)) = members.pop() {
+            let Some(level) = last.node.level() else {
+                continue;
+            };
+            if members.is_empty() {
+                members.destroy_empty();
+                return Some(level);
+            }
+            return Some(Node::Object(LazyObject { members }).below(level));
+        }
+        members.destroy_empty();
+        None
+    }
+
+    // A level as it is. A scalar is dropped.
+    #[inline(always)]
+    fn level(self) -> Option<Self>
+        ensures { IfSome result (λ level. level ≡ self) }
     {
         match self {
             Node::Null => None,
@@ -17,32 +59,8 @@ impl Node {
             Node::Integer(_) => None,
             Node::Text(_) => None,
             Node::Raw(_) => None,
-            Node::Array(LazyArray { elements }) if elements.is_empty() => {
-                elements.destroy_empty();
-                None
-            }
-            Node::Array(LazyArray { mut elements }) if elements.len() == 1 => {
-                let last = elements.remove(0);
-                elements.destroy_empty();
-                Some(last.node)
-            }
-            Node::Array(LazyArray { mut elements }) => {
-                let last = elements.remove(elements.len() - 1);
-                Some(Node::Array(LazyArray { elements }).below(last.node))
-            }
-            Node::Object(LazyObject { members }) if members.is_empty() => {
-                members.destroy_empty();
-                None
-            }
-            Node::Object(LazyObject { mut members }) if members.len() == 1 => {
-                let (_, last) = members.remove(0);
-                members.destroy_empty();
-                Some(last.node)
-            }
-            Node::Object(LazyObject { mut members }) => {
-                let (_, last) = members.remove(members.len() - 1);
-                Some(Node::Object(LazyObject { members }).below(last.node))
-            }
+            Node::Array(level) => Some(Node::Array(level)),
+            Node::Object(level) => Some(Node::Object(level)),
         }
     }
 

@@ -1,5 +1,5 @@
 // Copies of values.
-ghost use Rattle.std.specs.Prelude.{◌≡◌, ◌+◌, ◌<◌, option_map, Some, None, IfOk, IfErr, IfSome};
+ghost use Rattle.std.specs.Prelude.{◌≡◌, ◌+◌, ◌<◌, option_map, Some, None, IfOk, IfErr, IfSome, OnOk};
 ghost use Rattle.sonic_error.specs.Errors.{IsPlainError};
 ghost use Rattle.sonic_owned.specs.Forms.{raw, text};
 ghost use Rattle.sonic_owned.specs.Internal.Bulks.{bulk};
@@ -10,6 +10,7 @@ ghost use Rattle.sonic_owned.specs.Views.{form};
 use super::{LazyArray, LazyObject, Node, OwnedLazyValue};
 use crate::integer::Integer;
 use crate::made::MadeText;
+use crate::raw::RawValue;
 use crate::view::OwnedView;
 use sonic_error::{Error, ErrorCode, Result};
 use sonic_input::JsonSlice;
@@ -25,9 +26,24 @@ impl OwnedLazyValue {
         ensures ok { IfOk result (λ made. form made ≡ form self.now) }
         ensures err { IfErr result (λ error. IsPlainError error ErrorCode.NoMemory) }
     {
-        match copy(self, alloc) {
-            Ok(made) => Ok(made),
-            Err(_) => Err(Error::plain(ErrorCode::NoMemory)),
+        let mut level = match begin(self, alloc)? {
+            Copying::Whole(made) => return Ok(made),
+            begun => begun,
+        };
+        // The levels that are open wait here, so that none is too deep.
+        let mut opened = Vec::new(alloc);
+        'levels: loop {
+            if let Some(inner) = level.next(alloc)? {
+                opened.push(level).or(Err(AllocError))?;
+                level = inner;
+                continue;
+            }
+            let made = level.close();
+            let Some(outer) = opened.pop() else {
+                return Ok(made);
+            };
+            level = outer;
+            level.put(made, alloc)?;
         }
     }
 }
@@ -66,37 +82,22 @@ enum Copying<'a> {
     Object(&'a [(MadeText, OwnedLazyValue)], Vec<(MadeText, OwnedLazyValue)>),
 }
 
-// A copy of a value. The levels that are open wait in a vector, so that none is too deep.
-fn copy(value: &OwnedLazyValue, alloc: Global) -> std::result::Result<OwnedLazyValue, AllocError>
-    ensures { IfOk result (λ made. form made ≡ form value.now) }
-{
-    let mut opened = Vec::new(alloc);
-    let mut level = begin(value, alloc)?;
-    'items: loop {
-        if let Some(item) = level.next() {
-            opened.push(level)?;
-            level = begin(item, alloc)?;
-            continue;
-        }
-        let made = level.close();
-        let Some(outer) = opened.pop() else {
-            return Ok(made);
-        };
-        level = outer.put(made, alloc)?;
-    }
-}
-
 // Begins a copy: of a scalar it is whole.
-fn begin(value: &OwnedLazyValue, alloc: Global) -> std::result::Result<Copying<'_>, AllocError>
+#[inline(always)]
+fn begin(value: &OwnedLazyValue, alloc: Global) -> Result<Copying<'_>>
     ensures same { IfOk result (λ begun. copied_form begun ≡ form value.now) }
     ensures less { IfOk result (λ begun. copying_bulk begun < bulk (form value.now)) }
+    ensures err { IfErr result (λ error. IsPlainError error ErrorCode.NoMemory) }
 {
     let node = match &value.node {
         Node::Null => Node::Null,
         Node::Bool(truth) => Node::Bool(*truth),
         Node::Integer(integer) => Node::Integer(Integer { kept: integer.kept }),
         Node::Text(text) => Node::Text(text.clone(alloc)?),
-        Node::Raw(raw) => Node::Raw(raw.clone(alloc)?),
+        Node::Raw(raw) => Node::Raw(RawValue {
+            text: raw.text.clone(alloc)?,
+            has_escaped: raw.has_escaped,
+        }),
         Node::Array(level) => {
             let made = Vec::with_capacity(alloc, level.elements.len())?;
             return Ok(Copying::Array(&level.elements, made));
@@ -110,8 +111,25 @@ fn begin(value: &OwnedLazyValue, alloc: Global) -> std::result::Result<Copying<'
 }
 
 impl<'a> Copying<'a> {
+    // Copies the items that are left up to the first that is a level, and begins a copy of that.
+    fn next(&mut self, alloc: Global) -> Result<Option<Copying<'a>>>
+        ensures same { OnOk result (copied_form self.new ≡ copied_form self.old) }
+        ensures next { IfOk result (λ begun. option_map copied_form begun ≡ next_form self.new) }
+        ensures less { IfOk result (λ begun. IfSome begun (λ inner.
+            copying_bulk inner + waiting_bulk self.new < copying_bulk self.old)) }
+        ensures err { IfErr result (λ error. IsPlainError error ErrorCode.NoMemory) }
+    {
+        'items: while let Some(item) = self.first() {
+            match begin(item, alloc)? {
+                Copying::Whole(made) => self.put(made, alloc)?,
+                inner => return Ok(Some(inner)),
+            }
+        }
+        Ok(None)
+    }
+
     // The first item that is left.
-    fn next(&self) -> Option<&'a OwnedLazyValue>
+    fn first(&self) -> Option<&'a OwnedLazyValue>
         ensures next { option_map (λ item. form item.now) result ≡ next_form self.now }
         ensures less { IfSome result (λ item.
             copying_bulk self.now ≡ waiting_bulk self.now + bulk (form item.now)) }
@@ -126,26 +144,24 @@ impl<'a> Copying<'a> {
         }
     }
 
-    // With a copy of that item.
-    fn put(
-        self,
-        item: OwnedLazyValue,
-        alloc: Global,
-    ) -> std::result::Result<Copying<'a>, AllocError>
-        ensures { IfOk result (λ next. next_form self.entry ≡ Some (form item)
-            → HasCopied self.entry (form item) next) }
+    // Puts a copy of that item to the others.
+    #[inline(always)]
+    fn put(&mut self, item: OwnedLazyValue, alloc: Global) -> std::result::Result<(), AllocError>
+        requires { next_form self.old ≡ Some (form item) }
+        ensures { OnOk result (HasCopied self.old (form item) self.new) }
     {
         match self {
-            Copying::Array([_, rest @ ..], mut made) => {
+            Copying::Whole(_) => (),
+            Copying::Array(elements, made) => {
                 made.push(item)?;
-                Ok(Copying::Array(rest, made))
+                *elements = &elements[1..];
             }
-            Copying::Object([(key, _), rest @ ..], mut made) => {
-                made.push((key.clone(alloc)?, item))?;
-                Ok(Copying::Object(rest, made))
+            Copying::Object(members, made) => {
+                made.push((members[0].0.clone(alloc)?, item))?;
+                *members = &members[1..];
             }
-            full => Ok(full),
         }
+        Ok(())
     }
 
     // The copy, where no item is left.

@@ -156,7 +156,7 @@ fn lend_opened<'a, A: Opens>(
 
 // A path of which some last nodes are still to be followed.
 #[derive(Clone, Copy)]
-struct Way<'s, 'p> {
+pub(super) struct Way<'s, 'p> {
     alloc: Global,
     nodes: &'s [PointerNode<'p>],
 }
@@ -189,7 +189,8 @@ fn lend_next<'a, 's, 'p, A: Opens>(
     lend_opened(value, way.alloc, way.nodes[i])
 }
 
-// The same of a value.
+// The same of a value. It isn't inlined, so that a step along a path takes little of the stack.
+#[inline(never)]
 fn item_next<'a, 's, 'p>(
     value: &'a mut OwnedLazyValue,
     way: &Way<'s, 'p>,
@@ -211,7 +212,7 @@ fn item_next<'a, 's, 'p>(
 }
 
 // A value whose parts are lent along a path.
-trait Walks {
+pub(super) trait Walks {
     // The form of the value.
     ghost seen: { Self → Form };
 
@@ -252,7 +253,7 @@ impl Walks for OwnedLazyValue {
 }
 
 // The part to which a path leads.
-fn lend_part<'a, A: Walks>(
+pub(super) fn lend_part<'a, A: Walks>(
     value: &'a mut A,
     alloc: Global,
     path: &[PointerNode<'_>],

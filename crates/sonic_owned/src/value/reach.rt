@@ -2,12 +2,13 @@
 ghost use Rattle.std.specs.Prelude.{◌≡◌, ◌<◌, ◌≤◌, IsErr, IfOk, IfErr, IfSome, OnErr, None, length};
 ghost use Rattle.std.specs.Fn.{FnOnceReturnsAtMut};
 ghost use Rattle.sonic_error.specs.Errors.{IsPlainError};
+ghost use Rattle.sonic_owned.specs.Internal.Lends.{IsPartChanged};
 ghost use Rattle.sonic_owned.specs.Reached.{IsChangedAt, IsKeptAlong, IsOpenedOn, IsUnreached, LeadsNowhere};
 ghost use Rattle.sonic_owned.specs.Views.{form};
 ghost use Rattle.sonic_pointer.specs.Nodes.{path_of};
 
 use super::OwnedLazyValue;
-use super::lend::Opens;
+use super::lend::{Stop, Walks, lend_part};
 use sonic_error::{Error, ErrorCode, Result};
 use sonic_pointer::{MAX_NODES, PointerNode};
 use std::alloc::Global;
@@ -50,56 +51,35 @@ impl OwnedLazyValue {
         if path.len() > MAX_NODES {
             return Err(Error::plain(ErrorCode::RecursionLimitExceeded));
         }
-        self.reach(alloc, path, f)
+        reach(self, alloc, path, f)
     }
+}
 
-    // The same for a path of any length.
-    fn reach<R, F: FnOnce(&mut OwnedLazyValue) -> R + Drop>(
-        &mut self,
-        alloc: Global,
-        path: &[PointerNode<'_>],
-        f: F,
-    ) -> Result<Option<R>>
-        requires { F.IsAlwaysCallable f }
-        ensures some { IfOk result (λ found. IfSome found (λ given.
-            IsChangedAt (path_of path.now) self.old self.new
-            (λ part left. FnOnceReturnsAtMut F.FnOnce f part given left))) }
-        ensures none { IfOk result (λ found. found ≡ None → LeadsNowhere (path_of path.now) (form self.old)) }
-        ensures same { IfOk result (λ found. found ≡ None
-            → IsKeptAlong (path_of path.now) (form self.old) (form self.new)) }
-        ensures err { IfErr result (λ error. IsPlainError error ErrorCode.NoMemory) }
-        ensures kept { OnErr result (IsKeptAlong (path_of path.now) (form self.old) (form self.new)) }
-        ensures memory { OnErr result (IsOpenedOn (path_of path.now) (form self.old)) }
-    {
-        let [node, rest @ ..] = path else {
-            return Ok(Some(f(self)));
-        };
-        if !self.is_for(*node) {
-            return Ok(None);
-        }
-        self.load(alloc)?;
-        if let PointerNode::Index(i) = *node {
-            let Some(array) = self.array_level() else {
-                return Ok(None);
-            };
-            let Some(element) = array.at_mut(i) else {
-                return Ok(None);
-            };
-            return element.reach(alloc, rest, f);
-        }
-        let PointerNode::Key(key) = *node else {
-            // A node is an index or a key.
-            unreachable!();
-        };
-        let Some(object) = self.object_level() else {
-            return Ok(None);
-        };
-        let Some(i) = object.first_of_key(key) else {
-            return Ok(None);
-        };
-        let Some(value) = object.at_mut(i) else {
-            return Ok(None);
-        };
-        value.reach(alloc, rest, f)
+// The same, for a value that is known by its form alone.
+fn reach<A: Walks, R, F: FnOnce(&mut OwnedLazyValue) -> R + Drop>(
+    value: &mut A,
+    alloc: Global,
+    path: &[PointerNode<'_>],
+    f: F,
+) -> Result<Option<R>>
+    requires callable { F.IsAlwaysCallable f }
+    requires short { length path.now ≤ 255 }
+    ensures some { IfOk result (λ found. IfSome found (λ given.
+        IsPartChanged (path_of path.now) (A.Walks.seen value.old) (A.Walks.seen value.new)
+        (λ part left. FnOnceReturnsAtMut F.FnOnce f part given left))) }
+    ensures none { IfOk result (λ found. found ≡ None
+        → LeadsNowhere (path_of path.now) (A.Walks.seen value.old)) }
+    ensures same { IfOk result (λ found. found ≡ None
+        → IsKeptAlong (path_of path.now) (A.Walks.seen value.old) (A.Walks.seen value.new)) }
+    ensures err { IfErr result (λ error. IsPlainError error ErrorCode.NoMemory) }
+    ensures kept { OnErr result (IsKeptAlong (path_of path.now)
+        (A.Walks.seen value.old) (A.Walks.seen value.new)) }
+    ensures memory { OnErr result (IsOpenedOn (path_of path.now) (A.Walks.seen value.old)) }
+{
+    match lend_part(value, alloc, path) {
+        Ok(part) => Ok(Some(f(part))),
+        Err(Stop::Nowhere) => Ok(None),
+        Err(Stop::NoMemory) => Err(Error::plain(ErrorCode::NoMemory)),
+        Err(Stop::TooDeep) => unreachable!(),
     }
 }

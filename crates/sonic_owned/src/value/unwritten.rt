@@ -1,8 +1,8 @@
 // Text that is written piece by piece.
-ghost use Rattle.std.specs.Prelude.{◌≡◌, ◌<◌, ◌+◌, ◌++◌, Some, IfOk, IfSome};
+ghost use Rattle.std.specs.Prelude.{◌≡◌, ◌≤◌, ◌+◌, IfOk, IfSome};
 ghost use Rattle.std.specs.Fmt.{WritesOnOk};
 ghost use Rattle.sonic_owned.specs.Forms.{text};
-ghost use Rattle.sonic_owned.specs.Internal.Unwritten.{all_bulk, all_left, item_left, items_left, left_text, opened_text, text_left, WritesUpTo};
+ghost use Rattle.sonic_owned.specs.Internal.Unwritten.{item_left, items_left, left_text, level_left, text_left, WritesUpTo};
 ghost use Rattle.sonic_owned.specs.Internal.Bulks.{members_bulk, bulk};
 ghost use Rattle.sonic_owned.specs.Views.{form};
 
@@ -22,9 +22,31 @@ pub(super) enum Unwritten<'a> {
 }
 
 impl<'a> Unwritten<'a> {
-    // Writes all that stands before the value of the next item, and gives that value. After the last
+    // Writes the items that are left up to the first that is a level, and begins that. After the last
     // item it is the closing bracket.
-    pub(super) fn next<W: Write>(
+    fn next_level<W: Write>(
+        &mut self,
+        f: &mut fmt::Formatter<W>,
+    ) -> Result<Option<Unwritten<'a>>, fmt::Error>
+        ensures text { WritesUpTo W.Write.write_str_gives f.old (left_text self.old)
+            (level_left self.new) result f.new }
+        ensures less { IfOk result (λ found. IfSome found (λ inner.
+            3 + members_bulk (items_left inner) + members_bulk (items_left self.new)
+            ≤ members_bulk (items_left self.old))) }
+    {
+        'items: while let Some(item) = self.next(f)? {
+            if let Some(inner) = begin(item, f)? {
+                return Ok(Some(inner));
+            }
+        }
+        Ok(None)
+    }
+
+    // Writes all that stands before the value of the next item, and gives that value. After the last
+    // item it is the closing bracket. The first element has an arm of its own, since to write a comma or
+    // nothing takes as long as a short number.
+    #[inline(always)]
+    fn next<W: Write>(
         &mut self,
         f: &mut fmt::Formatter<W>,
     ) -> Result<Option<&'a OwnedLazyValue>, fmt::Error>
@@ -35,8 +57,12 @@ impl<'a> Unwritten<'a> {
             ≡ members_bulk (items_left self.old))) }
     {
         match self {
-            Unwritten::Elements([element, rest @ ..], more, alloc) => {
-                f.write_str(if *more { "," } else { "" })?;
+            Unwritten::Elements([element, rest @ ..], false, alloc) => {
+                *self = Unwritten::Elements(rest, true, *alloc);
+                Ok(Some(element))
+            }
+            Unwritten::Elements([element, rest @ ..], true, alloc) => {
+                f.write_str(",")?;
                 *self = Unwritten::Elements(rest, true, *alloc);
                 Ok(Some(element))
             }
@@ -60,6 +86,7 @@ impl<'a> Unwritten<'a> {
 }
 
 // Begins the text of a value: of a level it is the opening bracket, and else all.
+#[inline(always)]
 pub(super) fn begin<'a, W: Write>(
     value: &'a OwnedLazyValue,
     f: &mut fmt::Formatter<W>,
@@ -100,33 +127,15 @@ pub(super) fn show_left<W: Write>(left: Unwritten<'_>, f: &mut fmt::Formatter<W>
     };
     let mut opened = Vec::new(alloc);
     let mut level = Some(left);
-    'items: while let Some(left) = level {
-        level = write_item(left, &mut opened, f)?;
+    'levels: while let Some(mut left) = level {
+        let Some(inner) = left.next_level(f)? else {
+            level = opened.pop();
+            continue;
+        };
+        let Ok(()) = opened.push(left) else {
+            return Err(fmt::Error);
+        };
+        level = Some(inner);
     }
     Ok(())
-}
-
-// Writes up to the value of the next item, begins that, and gives the level that is then in hand.
-// `None` where all is written. The levels around the one in hand wait in a vector.
-fn write_item<'a, W: Write>(
-    mut left: Unwritten<'a>,
-    opened: &mut Vec<Unwritten<'a>>,
-    f: &mut fmt::Formatter<W>,
-) -> Result<Option<Unwritten<'a>>, fmt::Error>
-    ensures text { WritesUpTo W.Write.write_str_gives f.old
-        (left_text left.entry ++ opened_text opened.old.items)
-        (λ next. all_left next opened.new.items) result f.new }
-    ensures less { IfOk result (λ next. all_bulk next opened.new.items
-        < all_bulk (Some left.entry) opened.old.items) }
-{
-    let Some(item) = left.next(f)? else {
-        return Ok(opened.pop());
-    };
-    let Some(inner) = begin(item, f)? else {
-        return Ok(Some(left));
-    };
-    match opened.push(left) {
-        Ok(()) => Ok(Some(inner)),
-        Err(_) => Err(fmt::Error),
-    }
 }

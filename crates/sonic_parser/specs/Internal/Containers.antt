@@ -5,14 +5,9 @@ use Rattle.sonic_text.specs.Places.{byte, after_space}
 use Rattle.sonic_text.specs.Values.{closing}
 use Rattle.sonic_parser.specs.declared.container.Next.{Next}
 use Rattle.sonic_parser.specs.declared.container.Next.TheVariants.{Item, End}
-use Rattle.sonic_parser.specs.Containers.{IsEnd, IsSeparated}
+use Rattle.sonic_parser.specs.Containers.{IsEnd}
 
 -- after the bracket at i the first item is expected, or the closing bracket comes
 abbrev pub IsAfterBracket : List ℕ → Kind → ℕ → Next → Type 0
 IsAfterBracket t kind i (Item h) = (i < h) × (h ≤ length t) × (h ≡ after_space t (i + 1)) × (byte t h ≢ closing kind)
 IsAfterBracket t kind i (End j) = (i < j) × (j ≤ length t) × IsEnd t kind (i + 1) j
-
--- after the item whose value ends at e the next one is expected, or the closing bracket comes
-abbrev pub IsAfterValue : List ℕ → Kind → ℕ → Next → Type 0
-IsAfterValue t kind e (Item h) = (e < h) × (h ≤ length t) × IsSeparated t e h
-IsAfterValue t kind e (End j) = (e < j) × (j ≤ length t) × IsEnd t kind e j

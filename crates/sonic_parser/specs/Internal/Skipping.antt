@@ -1,10 +1,10 @@
 -- What the loop knows that goes through a value from left to right: invariants, on which no public clause rests.
-use Rattle.std.specs.Prelude.{◌≡◌, ◌↔◌, ℕ, ◌<◌, ◌≤◌, Bool, List, Option, length}
+use Rattle.std.specs.Prelude.{◌≡◌, ◌↔◌, ℕ, ◌<◌, ◌≤◌, Bool, List, length}
 use Rattle.sonic_text.specs.declared.kind.Kind.{Kind}
 use Rattle.sonic_text.specs.declared.kind.Kind.TheVariants.{Object}
 use Rattle.sonic_text.specs.declared.stop.Stop.{Stop}
 use Rattle.sonic_text.specs.Strings.{IsEscapedString}
-use Rattle.sonic_text.specs.Values.{closing, ItemHead, IsValue, ItemsFit}
+use Rattle.sonic_text.specs.Values.{closing, IsValue, ItemsFit}
 use Rattle.sonic_text.specs.Faults.{IsKeyFault, NothingFits}
 use Rattle.sonic_parser.specs.declared.begin.Begun.{Begun}
 use Rattle.sonic_parser.specs.declared.begin.Begun.TheVariants.{Complete, Inside}
@@ -14,6 +14,7 @@ use Rattle.sonic_parser.specs.declared.quick.Ahead.TheVariants.{Value, Inside as
 use Rattle.sonic_parser.specs.declared.skip.Reached.{Reached}
 use Rattle.sonic_parser.specs.declared.skip.Reached.TheVariants.{Expected, Ended, Closed}
 use Rattle.sonic_parser.specs.declared.status.ParseStatus.TheVariants.{HasEscaped}
+use Rattle.sonic_parser.specs.Parts.{IsValueEnd}
 use Rattle.sonic_parser.specs.OpenContainers.{IsItemExpected, IsItemEnded, IsTop}
 
 -- the value at i was read, and this is its end and its status
@@ -27,13 +28,6 @@ pub record IsComplete (m : Bool) (t : List ℕ) (i : ℕ) (x : Skipped) : Type 0
 abbrev pub IsBegun : Bool → List ℕ → ℕ → Begun → Type 0
 IsBegun m t i (Complete x) = IsComplete m t i x
 IsBegun m t i (Inside kind h) = (i < h) × (h ≤ length t) × ItemsFit m t kind i 0 h
-
--- of the item of this kind that is expected at h the value is expected at v
-pub record IsItem (m : Bool) (t : List ℕ) (kind : Kind) (h v : ℕ) : Type 0 where
-  pub later : h ≤ v
-  pub within : v ≤ length t
-  pub label : Option (List ℕ)
-  pub head : ItemHead m t kind h v label
 
 -- or it isn't there, for this reason
 abbrev pub IsItemFault : Bool → List ℕ → Kind → ℕ → Stop → Type 0
@@ -57,10 +51,6 @@ abbrev pub place_of : Reached → ℕ
 place_of (Expected h) = h
 place_of (Ended e) = e
 place_of (Closed j) = j
-
--- the value at i ends at e
-abbrev pub IsValueEnd : Bool → List ℕ → ℕ → ℕ → Type 0
-IsValueEnd m t i e = (i < e) × (e ≤ length t) × IsValue m t i e
 
 -- what is at the place i of a value: a value, or a container whose first item is expected, or nothing is known
 abbrev pub IsAhead : Bool → List ℕ → ℕ → Ahead → Type 0

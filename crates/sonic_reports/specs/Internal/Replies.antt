@@ -1,5 +1,6 @@
 -- The bytes of a report that is ready to be written, and of its parts.
 use Rattle.std.specs.Prelude.{◌≡◌, ℕ, List, ◌++◌, codes, Result, Ok, Err}
+use Rattle.std.specs.Borrow.{Bor}
 use Rattle.std.specs.Fmt.{decimal}
 use Rattle.std.specs.Cow.{cow_str_bytes}
 use Rattle.std.specs.List.{flat_map}
@@ -13,7 +14,7 @@ use Rattle.sonic_error.specs.Errors.{error_code, error_line, error_column, error
 use Rattle.sonic_lazy.specs.declared.lazyvalue.LazyValue.{LazyValue}
 use Rattle.sonic_lazy.specs.LazyValues.{raw_bytes}
 use Rattle.sonic_reports.specs.declared.reply.Lines.{Lines}
-use Rattle.sonic_reports.specs.declared.reply.Lines.TheVariants.{Values, Members, Entries, Made}
+use Rattle.sonic_reports.specs.declared.reply.Lines.TheVariants.{Values, Texts, Members, Entries, Made}
 use Rattle.sonic_reports.specs.declared.reply.Reply.{Reply}
 use Rattle.sonic_reports.specs.declared.status.Status.TheVariants.{Done, DocumentError, BadLines}
 use Rattle.sonic_reports.specs.Commands.Entries.{lines_from}
@@ -25,13 +26,18 @@ abbrev pub line_of_value : Option LazyValue → List ℕ
 line_of_value None = codes "-\n"
 line_of_value (Some value) = line_of_text (raw_bytes value)
 
--- the line of a member
-abbrev pub line_of_member : {Z : Type 0} → CowStr Z × LazyValue → List ℕ
-line_of_member member = counted (cow_str_bytes member.0) ++ codes " " ++ line_of_text (raw_bytes member.1)
+-- the line of a text
+abbrev pub line_of_shown : Bor (List ℕ) → List ℕ
+line_of_shown text = line_of_text text.now
+
+-- the line of a member, of which these are the key and the text of the value
+abbrev pub line_of_member : {Z : Type 0} → CowStr Z × Bor (List ℕ) → List ℕ
+line_of_member member = counted (cow_str_bytes member.0) ++ codes " " ++ line_of_shown member.1
 
 -- the bytes of lines
 abbrev pub text_of_lines : Lines → List ℕ
 text_of_lines (Values values) = flat_map line_of_value values.items
+text_of_lines (Texts texts) = flat_map line_of_shown texts.items
 text_of_lines (Members members) = flat_map line_of_member members.items
 text_of_lines (Entries index) = lines_from index.text 0 index.entries
 text_of_lines (Made bytes) = bytes.items

@@ -1,5 +1,6 @@
 //! What the command `list` writes of an input: the items of the container that it is.
 ghost use Rattle.std.specs.Prelude.{◌≡◌, IfOk};
+ghost use Rattle.sonic_lazy.specs.LazyValues.{raw_bytes};
 ghost use Rattle.sonic_text.specs.declared.kind.Kind.{Kind};
 ghost use Rattle.sonic_reports.specs.Commands.Items.{IsListReport, listed_kind};
 ghost use Rattle.sonic_reports.specs.Internal.Listed.{IsListed};
@@ -9,7 +10,7 @@ use crate::error_line::error_line;
 use crate::reply::{Lines, Reply};
 use crate::status::Status;
 use sonic_error::Error;
-use sonic_lazy::{to_array_iter, to_object_iter};
+use sonic_lazy::{LazyValue, to_array_iter, to_object_iter};
 use sonic_text::{Kind, byte_at, skip_space};
 use std::alloc::{AllocError, Global};
 use std::borrow::CowStr;
@@ -71,11 +72,11 @@ fn elements<'i>(alloc: Global, input: &'i [u8]) -> Result<Listed<'i>, AllocError
     let mut elements = to_array_iter(alloc, input);
     'elements: while let Some(element) = elements.next() {
         match element {
-            Ok(value) => listed.push(Some(value))?,
-            Err(error) => return Ok(Listed::new(Lines::Values(listed), Some(error))),
+            Ok(value) => listed.push(borrowed_text(&value))?,
+            Err(error) => return Ok(Listed::new(Lines::Texts(listed), Some(error))),
         }
     }
-    Ok(Listed::new(Lines::Values(listed), None))
+    Ok(Listed::new(Lines::Texts(listed), None))
 }
 
 // The members of an object.
@@ -86,9 +87,19 @@ fn members<'i>(alloc: Global, input: &'i [u8]) -> Result<Listed<'i>, AllocError>
     let mut members = to_object_iter(alloc, input);
     'members: while let Some(member) = members.next() {
         match member {
-            Ok(member) => listed.push(member)?,
+            Ok((key, value)) => listed.push((key, borrowed_text(&value)))?,
             Err(error) => return Ok(Listed::new(Lines::Members(listed), Some(error))),
         }
     }
     Ok(Listed::new(Lines::Members(listed), None))
+}
+
+// The text of a value, as long as the input lives: a third of what the value takes.
+fn borrowed_text<'i>(value: &LazyValue<'i>) -> &'i str
+    ensures { result.now ≡ raw_bytes value.now }
+{
+    match value.as_raw_cow() {
+        CowStr::Borrowed(text) => text,
+        CowStr::Owned(_) => unreachable!(),
+    }
 }

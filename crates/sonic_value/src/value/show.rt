@@ -1,9 +1,14 @@
 // The text of a value, written piece by piece.
-ghost use Rattle.std.specs.Prelude.{◌≡◌, ◌++◌, ◌∷◌, [], map, string_bytes, IfOk, IfErr};
+//
+// One loop goes from container to container, and those around the one in hand wait in a vector.
+ghost use Rattle.std.specs.Prelude.{◌≡◌, ◌<◌, ◌*◌, string_bytes, IfOk, IfErr};
 ghost use Rattle.std.specs.Fmt.{WritesOnOk};
 ghost use Rattle.sonic_error.specs.Errors.{IsPlainError};
-ghost use Rattle.sonic_value.specs.CompactTexts.{compact, items_text};
-ghost use Rattle.sonic_value.specs.Views.{tree, key_and_tree, elements_of, members_of};
+ghost use Rattle.sonic_owned.specs.Internal.Unwritten.{WritesUpTo};
+ghost use Rattle.sonic_value.specs.CompactTexts.{compact};
+ghost use Rattle.sonic_value.specs.Internal.OpenTexts.{array_size, array_text, begun_size, begun_text, next_size, next_text, object_size, object_text, shown_size, shown_text};
+ghost use Rattle.sonic_value.specs.Internal.ValueCounts.{value_count};
+ghost use Rattle.sonic_value.specs.Views.{tree};
 
 use super::Value;
 use sonic_error::{Error, ErrorCode, Result};
@@ -15,7 +20,8 @@ use std::fmt::Write;
 impl Value {
     /// The text of the value, without white space.
     ///
-    /// The only error is `ErrorCode::NoMemory`. Of an array of `1` and `"a"` it is `[1,"a"]`.
+    /// A value may be as deep as memory lasts, as no level needs stack. The only error is
+    /// `ErrorCode::NoMemory`. Of an array of `1` and `"a"` it is `[1,"a"]`.
     pub fn to_string(&self, alloc: Global) -> Result<String>
         ensures ok { IfOk result (λ made. string_bytes made ≡ compact (tree self.now)) }
         ensures err { IfErr result (λ error. IsPlainError error ErrorCode.NoMemory) }
@@ -27,6 +33,11 @@ impl Value {
     }
 }
 
+/// The text of the value, as [`Value::to_string`] writes it.
+///
+/// A value may be as deep as memory lasts, as no level needs stack. The memory comes from where the
+/// value's own came, and only a container inside another one needs some: where it runs out it is an error
+/// of the formatter.
 impl fmt::Display for Value {
     ghost use Rattle.std.specs.Prelude.{Some};
     ghost use Rattle.sonic_value.specs.CompactTexts.{compact};
@@ -39,7 +50,7 @@ impl fmt::Display for Value {
     }
 }
 
-/// The text of the value.
+/// The text of the value, as `Display` writes it.
 impl fmt::Debug for Value {
     ghost use Rattle.std.specs.Prelude.{Some};
     ghost use Rattle.sonic_value.specs.CompactTexts.{compact};
@@ -52,50 +63,130 @@ impl fmt::Debug for Value {
     }
 }
 
-// Writes the text of a value. It descends as deep as the value's containers nest.
-#[cycle(show)]
+// A container whose opening bracket is written: its items, and how many of them are begun.
+#[derive(Clone, Copy)]
+enum Showing<'a> {
+    Array(&'a Vec<Value>, usize),
+    Object(&'a Vec<(String, Value)>, usize),
+}
+
+// Writes the text of a value. The containers around the one in hand wait in a vector.
 fn show<W: Write>(value: &Value, f: &mut fmt::Formatter<W>) -> fmt::Result
     ensures { WritesOnOk W.Write.write_str_gives f.old result (compact (tree value.now)) f.new }
 {
+    let mut next = begin(value, f)?;
+    let alloc = match next {
+        Some(Showing::Array(elements, _)) => *elements.allocator(),
+        Some(Showing::Object(members, _)) => *members.allocator(),
+        None => return Ok(()),
+    };
+    let mut opened = Vec::new(alloc);
+    'levels: while let Some(level) = next {
+        let Some((inner, outer)) = level.next(f)? else {
+            next = opened.pop();
+            continue;
+        };
+        match opened.push(outer) {
+            Ok(()) => next = Some(inner),
+            Err(_) => return Err(fmt::Error),
+        }
+    }
+    Ok(())
+}
+
+// Begins the text of a value: of a container it is the opening bracket, and else all.
+fn begin<'a, W: Write>(
+    value: &'a Value,
+    f: &mut fmt::Formatter<W>,
+) -> std::result::Result<Option<Showing<'a>>, fmt::Error>
+    ensures text { WritesUpTo W.Write.write_str_gives f.old (compact (tree value.now)) begun_text
+        result f.new }
+    ensures less { IfOk result (λ begun. begun_size begun < 2 * value_count (tree value.now)) }
+{
     match value {
-        Value::Null => f.write_str("null"),
-        Value::Bool(true) => f.write_str("true"),
-        Value::Bool(false) => f.write_str("false"),
-        Value::Number(number) => f.write_str(number.as_str()),
-        Value::String(text) => write_quoted(text.as_str(), f),
-        Value::Array(elements) => show_elements(elements, f),
-        Value::Object(members) => show_members(members, f),
+        Value::Null => f.write_str("null")?,
+        Value::Bool(true) => f.write_str("true")?,
+        Value::Bool(false) => f.write_str("false")?,
+        Value::Number(number) => f.write_str(number.as_str())?,
+        Value::String(text) => write_quoted(text.as_str(), f)?,
+        Value::Array(elements) => {
+            f.write_str("[")?;
+            return Ok(Some(Showing::Array(elements, 0)));
+        }
+        Value::Object(members) => {
+            f.write_str("{")?;
+            return Ok(Some(Showing::Object(members, 0)));
+        }
+    }
+    Ok(None)
+}
+
+impl<'a> Showing<'a> {
+    // Writes the items up to the first that is a container, begins that, and gives it and what is left
+    // of this one. `None` where the closing bracket is written.
+    fn next<W: Write>(
+        self,
+        f: &mut fmt::Formatter<W>,
+    ) -> std::result::Result<Option<(Showing<'a>, Showing<'a>)>, fmt::Error>
+        ensures text { WritesUpTo W.Write.write_str_gives f.old (shown_text self.entry) next_text
+            result f.new }
+        ensures less { IfOk result (λ found. next_size found < shown_size self.entry) }
+    {
+        match self {
+            Showing::Array(elements, begun) => show_elements(elements, begun, f),
+            Showing::Object(members, begun) => show_members(members, begun, f),
+        }
     }
 }
 
-#[cycle(show)]
-fn show_elements<W: Write>(elements: &[Value], f: &mut fmt::Formatter<W>) -> fmt::Result
-    ensures { WritesOnOk W.Write.write_str_gives f.old result
-        (91 ∷ items_text [] (elements_of (map tree elements.now)) ++ 93 ∷ []) f.new }
+// The same of an array.
+fn show_elements<'a, W: Write>(
+    elements: &'a Vec<Value>,
+    begun: usize,
+    f: &mut fmt::Formatter<W>,
+) -> std::result::Result<Option<(Showing<'a>, Showing<'a>)>, fmt::Error>
+    ensures text { WritesUpTo W.Write.write_str_gives f.old (array_text elements.now.items begun)
+        next_text result f.new }
+    ensures less { IfOk result (λ found. next_size found < array_size elements.now.items begun) }
 {
-    f.write_str("[")?;
-    let mut before = "";
-    for element in elements {
-        f.write_str(before)?;
-        show(element, f)?;
-        before = ",";
+    let mut position = begun;
+    'elements: while position < elements.len() {
+        if position > 0 {
+            f.write_str(",")?;
+        }
+        let element = &elements[position];
+        position += 1;
+        if let Some(inner) = begin(element, f)? {
+            return Ok(Some((inner, Showing::Array(elements, position))));
+        }
     }
-    f.write_str("]")
+    f.write_str("]")?;
+    Ok(None)
 }
 
-#[cycle(show)]
-fn show_members<W: Write>(members: &[(String, Value)], f: &mut fmt::Formatter<W>) -> fmt::Result
-    ensures { WritesOnOk W.Write.write_str_gives f.old result
-        (123 ∷ items_text [] (members_of (map key_and_tree members.now)) ++ 125 ∷ []) f.new }
+// And of an object.
+fn show_members<'a, W: Write>(
+    members: &'a Vec<(String, Value)>,
+    begun: usize,
+    f: &mut fmt::Formatter<W>,
+) -> std::result::Result<Option<(Showing<'a>, Showing<'a>)>, fmt::Error>
+    ensures text { WritesUpTo W.Write.write_str_gives f.old (object_text members.now.items begun)
+        next_text result f.new }
+    ensures less { IfOk result (λ found. next_size found < object_size members.now.items begun) }
 {
-    f.write_str("{")?;
-    let mut before = "";
-    for (key, value) in members {
-        f.write_str(before)?;
+    let mut position = begun;
+    'members: while position < members.len() {
+        if position > 0 {
+            f.write_str(",")?;
+        }
+        let (key, value) = &members[position];
+        position += 1;
         write_quoted(key.as_str(), f)?;
         f.write_str(":")?;
-        show(value, f)?;
-        before = ",";
+        if let Some(inner) = begin(value, f)? {
+            return Ok(Some((inner, Showing::Object(members, position))));
+        }
     }
-    f.write_str("}")
+    f.write_str("}")?;
+    Ok(None)
 }

@@ -1,23 +1,24 @@
-use Rattle.std.proofs.Common.{◌≡◌, length, arith, refl, ap, ◌∙◌}
+use Rattle.std.proofs.Common.{[]}
 use Rattle.sonic_text.specs.declared.kind.Kind.TheVariants.{Array}
-use Rattle.sonic_index.specs.Internal.Walks.{ExpectsItem}
-use Rattle.sonic_index.proofs.StateLemmas.{at_root, at_value, moved_on, place_moved}
+use Rattle.sonic_parser.specs.declared.parts.ValueAt.TheVariants.{Ends}
+use Rattle.sonic_index.specs.declared.build.At.{At}
+use Rattle.sonic_index.specs.Internal.Places.{ExpectsValueAt, IsValueWritten}
+use Rattle.sonic_index.proofs.PlaceLemmas.{root_alone, root_expected}
 use Rattle.sonic_index.proofs.build.entries.Goals as goal
 
-pub values-init : goal.values-init
-values-init c = record { expects = rw (c.room-cells.ensures, c.first-item.ensures) (at_root Array c.requires.lossy c.requires.place c.requires.opened); moved = refl }
+pub value-requires-clause-expected : goal.value-requires-clause-expected
+value-requires-clause-expected c = ([], rw (c.requires.empty, c.first-item.ensures, c.requires.place) (root_expected Array (rw c.requires.place at c.requires.inside)))
 
-pub values-smaller : goal.values-smaller
-values-smaller c =
-    let value = c.in_ok-next.ensures in
-    let text : c.head.new.walk.text ≡ c.values.walk.text = ap (λ w. w.text) c.in_ok-item-in-Some.ensures.cursor ∙ ap (λ w. w.text) value.cursor in
-    omega (arith, ap length text, value.inside, value.later, c.in_ok-item-in-Some.ensures.later)
+pub returns-in-Ends-clause-ok : goal.returns-in-Ends-clause-ok
+returns-in-Ends-clause-ok c =
+    let at : At = record { item = c.first-item.result; place = c.args.start } in
+    let root : ExpectsValueAt c.args.text.now c.args.written.now.cells.items [] at = rw (c.requires.empty, c.first-item.ensures, c.requires.place) (root_expected Array (rw c.requires.place at c.requires.inside)) in
+    let w : IsValueWritten c.args.text.now c.args.written.now.cells.items c.value.new.cells.items at (Ends c.in-Ends.end) = rw c.in-Ends.is at c.in_ok-end.ensures.ok in
+    root_alone (record { item = c.first-item.result; place = c.in-Ends.end }) (w.1 [] root)
 
-pub values-preserved : goal.values-preserved
-values-preserved c =
-    let head = c.in_ok-item-in-Some.ensures in
-    let start = c.args.walk.now in
-    let moved = moved_on start c.values.walk c.value.new.walk c.values.invariant.moved c.in_ok-next.ensures.cursor in
-    let further = moved_on start c.value.new.walk c.head.new.walk moved (place_moved c.value.new.walk c.head.new.walk head.cursor) in
-    let next : ExpectsItem c.value.new.walk c.value.new.cells.items c.in-Some.next = rw c.in-Some.is at c.in_ok-next.ensures.item in
-    record { expects = at_value next head.cursor head.ok; moved = further }
+pub returns-in-Ends-clause-inside : goal.returns-in-Ends-clause-inside
+returns-in-Ends-clause-inside c =
+    let at : At = record { item = c.first-item.result; place = c.args.start } in
+    let root : ExpectsValueAt c.args.text.now c.args.written.now.cells.items [] at = rw (c.requires.empty, c.first-item.ensures, c.requires.place) (root_expected Array (rw c.requires.place at c.requires.inside)) in
+    let w : IsValueWritten c.args.text.now c.args.written.now.cells.items c.value.new.cells.items at (Ends c.in-Ends.end) = rw c.in-Ends.is at c.in_ok-end.ensures.ok in
+    (w.1 [] root).within

@@ -1,44 +1,51 @@
-use Rattle.std.proofs.Common.{◌<◌, length, get_or, true, false, arith, ap}
+use Rattle.std.proofs.Common.{arith}
+use Rattle.std.proofs.lemmas.List.{length-set}
 use Rattle.std.proofs.lemmas.Result.{err_from_is_err_and}
-use Rattle.std.proofs.lemmas.Option.{slice_get-get_or}
-use Rattle.sonic_parser.specs.Descents.{IsNextOrClosed}
-use Rattle.sonic_parser.proofs.DescentLemmas.{fails_as}
-use Rattle.sonic_index.specs.declared.cell.Cell.{Cell}
-use Rattle.sonic_index.proofs.StateLemmas.{container_ended, goes_on, item_next, moved_on, root_passed}
+use Rattle.sonic_parser.specs.declared.container.Next.TheVariants.{Item, End}
+use Rattle.sonic_parser.specs.Parts.{IsAfterValue}
+use Rattle.sonic_index.proofs.PlaceLemmas.{container_left, item_follows, next_fault, outer_opens, root_left}
 use Rattle.sonic_index.proofs.build.leave.Goals as goal
 
-pub returns-in_err-next-clause-err : goal.returns-in_err-next-clause-err
-returns-in_err-next-clause-err c =
+pub returns-in_err-place-clause-err : goal.returns-in_err-place-clause-err
+returns-in_err-place-clause-err c =
     let p = err_from_is_err_and c.from_residual.result c.from_residual.ensures.1 in
-    let walk = c.containers.walk in
-    let s = c.containers.invariant.ends in
-    let some : 0 < length walk.opened = omega (arith, c.containers-test.true, c.depth.ensures) in
-    let fault = (fails_as _ walk c.in_err-next.field-0.0).next c.containers.item.kind some (s.top some) s.at c.in_err-next.ensures.err in
-    rw (p.1, p.2) (rw (s.lossy, ap (λ w. w.text) c.containers.invariant.moved) at fault)
+    let i = c.containers.invariant.ends in
+    rw (p.1, p.2) (next_fault c.containers.at c.in_err-place.field-0.0 i.2 i.1 c.in_err-place.ensures.err)
 
-pub returns-then-branch-clause-item : goal.returns-then-branch-clause-item
-returns-then-branch-clause-item c =
-    let walk = c.containers.walk in
-    let some : 0 < length walk.opened = omega (arith, c.containers-test.true, c.depth.ensures) in
-    let step : IsNextOrClosed c.containers.item.kind walk c.next.new.self true = rw c.if-branch.true at c.in_ok-next.ensures.ok in
-    item_next c.containers.invariant.ends some c.in_ok-next.ensures.cursor step
+pub returns-in-Item-clause-ok : goal.returns-in-Item-clause-ok
+returns-in-Item-clause-ok c =
+    let i = c.containers.invariant.ends in
+    let a : IsAfterValue c.args.text.now c.containers.at.item.kind c.containers.at.place (Item c.in-Item.place) = rw c.in-Item.is at c.in_ok-place.ensures.ok in
+    rw c.next_at.ensures (omega (arith, a.0, c.containers.invariant.later), (i.0, item_follows c.containers.at i.2 i.1 a))
+
+pub returns-then-at-eq0-clause-ok : goal.returns-then-at-eq0-clause-ok
+returns-then-at-eq0-clause-ok c =
+    let i = c.containers.invariant.ends in
+    let e = c.end-cell.ensures.cell in
+    let a : IsAfterValue c.args.text.now c.containers.at.item.kind c.containers.at.place (End c.in-End.end) = rw c.in-End.is at c.in_ok-place.ensures.ok in
+    (a.1, rw (c.end-cell.ensures.cells, e.2) (root_left c.containers.at e.0 i.2 i.1 a e.1 c.if-at-eq0.true))
+
+pub item_of-requires-clause-parent : goal.item_of-requires-clause-parent
+item_of-requires-clause-parent c =
+    let i = c.containers.invariant.ends in
+    let e = c.end-cell.ensures.cell in
+    let o = outer_opens c.containers.at e.0 c.in-End.end i.2 i.1 e.1 c.if-at-eq0.false in
+    rw (c.deref.ensures.value, c.end-cell.ensures.cells, e.2) (omega (arith, o.0, i.2.ended.parent, length-set c.containers.written.cells.items c.containers.at.item.parent (record e.0 { end = c.in-End.end })))
+
+pub item_of-requires-clause-opens : goal.item_of-requires-clause-opens
+item_of-requires-clause-opens c =
+    let i = c.containers.invariant.ends in
+    let e = c.end-cell.ensures.cell in
+    rw (c.deref.ensures.value, c.end-cell.ensures.cells, e.2) (outer_opens c.containers.at e.0 c.in-End.end i.2 i.1 e.1 c.if-at-eq0.false).1
 
 pub containers-preserved : goal.containers-preserved
 containers-preserved c =
-    let walk = c.containers.walk in
-    let i = c.containers.invariant in
-    let item = c.containers.item in
-    let some : 0 < length walk.opened = omega (arith, c.containers-test.true, c.depth.ensures) in
-    let step : IsNextOrClosed item.kind walk c.next.new.self false = rw c.if-branch.false at c.in_ok-next.ensures.ok in
-    let none : Cell = record { start = 0; end = 0; parent = 0; label = 0 } in
-    let read = slice_get-get_or c.containers.cells item.parent none i.ends.parent in
-    let ended = container_ended c.top.result (get_or c.containers.cells item.parent none) i.ends some c.in_ok-next.ensures.cursor step read c.top.ensures in
-    let later = goes_on walk c.next.new.self item.kind false step in
+    let i = c.containers.invariant.ends in
+    let e = c.end-cell.ensures.cell in
+    let a : IsAfterValue c.args.text.now c.containers.at.item.kind c.containers.at.place (End c.in-End.end) = rw c.in-End.is at c.in_ok-place.ensures.ok in
+    let opens = rw (c.deref.ensures.value, c.end-cell.ensures.cells, e.2) at c.item_of.ensures.kind in
+    let left = container_left c.containers.at c.item_of.result.kind e.0 i.2 i.1 a e.1 c.if-at-eq0.false opens in
     record {
-      ends = rw (c.ended-cell.ensures, c.offset.ensures.place) ended;
-      moved = moved_on c.args.walk.now walk c.next.new.self i.moved c.in_ok-next.ensures.cursor;
-      later = omega (arith, i.later);
+      ends = rw (c.item_of.ensures.is, c.end-cell.ensures.cells, e.2) left;
+      later = omega (arith, a.0, c.containers.invariant.later);
     }
-
-pub returns-clause-root : goal.returns-clause-root
-returns-clause-root c = root_passed c.containers.invariant.ends (omega (arith, c.containers-test.false, c.depth.ensures))

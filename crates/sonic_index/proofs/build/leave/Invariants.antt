@@ -1,14 +1,12 @@
-use Rattle.std.proofs.Common.{◌≤◌, length}
-use Rattle.sonic_parser.specs.Descents.{IsMoved}
-use Rattle.sonic_index.specs.Internal.Walks.{EndsValue}
+use Rattle.std.proofs.Common.{◌+◌, ◌-◌, ◌≤◌, length}
+use Rattle.sonic_index.specs.Internal.Places.{HasEndAt}
 use Rattle.sonic_index.proofs.build.leave.Given as goal
 
 abbrev pub invariant-containers : goal.invariant-containers
 invariant-containers l = record {
-  ends : EndsValue l.walk l.cells l.item;
-  moved : IsMoved l.fn.walk l.walk;
-  later : l.fn.walk.place ≤ l.walk.place;
+  ends : HasEndAt l.text l.written.cells.items l.at;
+  later : l.fn.at.place ≤ l.at.place;
 }
 
 abbrev pub decreases-containers : goal.decreases-containers
-decreases-containers l = length l.walk.opened
+decreases-containers l = length l.text + 1 - l.at.place

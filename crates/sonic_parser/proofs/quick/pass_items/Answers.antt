@@ -21,17 +21,17 @@ pub items-preserved-in-Some-after_comma : goal.items-preserved-in-Some-after_com
 items-preserved-in-Some-after_comma c =
     let i = c.items.invariant in
     record {
-      within = (c.in-Some-after_comma.ensures c.items.kind).1;
+      within = (c.in-Some-after_comma.ensures.next c.items.kind).1;
       some = i.some;
       long = i.long;
       room = i.room;
       top = i.top;
-      reached = λ root before. next_expected c.items.kind (item_ended (i.reached root before).1 i.top c.in-Some.ensures c.in-Value.ensures) (c.in-Some-after_comma.ensures c.items.kind);
+      reached = λ root before. next_expected c.items.kind (item_ended (i.reached root before).1 i.top c.in-Some.ensures c.in-Value.ensures) (c.in-Some-after_comma.ensures.next c.items.kind);
     }
 
 pub items-smaller-in-Some-after_comma : goal.items-smaller-in-Some-after_comma
 items-smaller-in-Some-after_comma c =
-    let next = c.in-Some-after_comma.ensures c.items.kind in
+    let next = c.in-Some-after_comma.ensures.next c.items.kind in
     omega (arith, next.0, next.1, c.in-Value.ensures, c.in-Some.ensures.later)
 
 pub items-preserved : goal.items-preserved

@@ -4,5 +4,5 @@ use Rattle.sonic_reports.proofs.entry_line.line.Goals as goal
 
 pub returns-clause-text : goal.returns-clause-text
 returns-clause-text c =
-    let over : drop 192 c.args.room.now ≡ [] = drop_of_length-le c.args.room.now {i = 192} (omega arith) in
-    rw (c.put_words.ensures.text, c.put-at-2.ensures.text, c.put-at.ensures.text, over) refl
+    let over : drop 192 c.args.room.now.line ≡ [] = drop_of_length-le c.args.room.now.line {i = 192} (omega arith) in
+    rw (c.put_words.ensures.text, c.put_key-at.ensures.text, c.put-at.ensures.text, over) refl

@@ -1,5 +1,4 @@
-use Rattle.std.proofs.Common.{◌≡◌, ◌∙◌, sym, ℕ, ◌+◌, List, ◌++◌, Some, take, drop, arith}
-use Rattle.std.specs.Prelude.{slice_get}
+use Rattle.std.proofs.Common.{◌≡◌, ◌∙◌, sym, ◌+◌, ◌++◌, take, arith}
 use Rattle.sonic_io.specs.Buffers.{held}
 use Rattle.sonic_io.proofs.OutsideLemmas.{on_err}
 use Rattle.sonic_io.proofs.BufferLemmas.{but_more, but_prefix, prefix_more}

@@ -5,17 +5,17 @@ use Rattle.sonic_index.proofs.KeptLemmas.{document_kept}
 use Rattle.sonic_index.proofs.MemberPathLemmas.{cells_few, cells_linked}
 use Rattle.sonic_index.proofs.index.JsonIndex.build.Goals as goal
 
-pub order-requires-clause-short : goal.order-requires-clause-short
-order-requires-clause-short g c =
+pub order_wide-requires-clause-short : goal.order_wide-requires-clause-short
+order_wide-requires-clause-short g c =
     let same = c.unscanned-read.ensures.text ∙ c.to_json_slice.ensures.bytes in
-    let entries = document_kept _ c.in-Ok.cells.items (rw same at c.in-Ok.ensures.valid) (rw same at c.in-Ok.ensures.kept) in
-    rw c.as_slice.ensures.value (omega (arith, cells_few _ c.in-Ok.cells.items entries, rw same at c.in-Ok.ensures.short))
+    let entries = document_kept _ c.in-Ok.written.cells.items (rw same at c.in-Ok.ensures.valid) (rw same at c.in-Ok.ensures.kept) in
+    rw c.as_slice.ensures.value (omega (arith, cells_few _ c.in-Ok.written.cells.items entries, rw same at c.in-Ok.ensures.short))
 
-pub order-requires-clause-linked : goal.order-requires-clause-linked
-order-requires-clause-linked g c =
+pub order_wide-requires-clause-linked : goal.order_wide-requires-clause-linked
+order_wide-requires-clause-linked g c =
     let same = c.unscanned-read.ensures.text ∙ c.to_json_slice.ensures.bytes in
-    let entries = document_kept _ c.in-Ok.cells.items (rw same at c.in-Ok.ensures.valid) (rw same at c.in-Ok.ensures.kept) in
-    rw (c.to_u8_slice-text.ensures.bytes, c.as_slice.ensures.value) (cells_linked _ c.in-Ok.cells.items entries)
+    let entries = document_kept _ c.in-Ok.written.cells.items (rw same at c.in-Ok.ensures.valid) (rw same at c.in-Ok.ensures.kept) in
+    rw (c.to_u8_slice-text.ensures.bytes, c.as_slice.ensures.value) (cells_linked _ c.in-Ok.written.cells.items entries)
 
 pub returns-in-Err-clause-err : goal.returns-in-Err-clause-err
 returns-in-Err-clause-err g c =
@@ -34,20 +34,20 @@ returns-in-Err-clause-honest g c =
 
 pub invariant_of-result : goal.invariant_of-result
 invariant_of-result g c =
-    let bytes = sym c.to_json_slice-in-Ok-order.ensures.bytes in
+    let bytes = sym c.to_json_slice-in-Ok-order_wide.ensures.bytes in
     let same = c.unscanned-read.ensures.text ∙ c.to_json_slice.ensures.bytes ∙ bytes in
     let valid = rw same at c.in-Ok.ensures.valid in
     let kept = rw same at c.in-Ok.ensures.kept in
     record {
       valid = valid;
       short = rw same at c.in-Ok.ensures.short;
-      entries = document_kept _ c.in-Ok.cells.items valid kept;
-      members = rw (c.to_u8_slice-text.ensures.bytes ∙ bytes, c.as_slice.ensures.value) at c.in-Ok-order.ensures;
+      entries = document_kept _ c.in-Ok.written.cells.items valid kept;
+      members = rw (c.to_u8_slice-text.ensures.bytes ∙ bytes, c.as_slice.ensures.value) at c.in-Ok-order_wide.ensures;
     }
 
-pub returns-in-Ok-order-clause-ok : goal.returns-in-Ok-order-clause-ok
-returns-in-Ok-order-clause-ok g c =
+pub returns-in-Ok-order_wide-clause-ok : goal.returns-in-Ok-order_wide-clause-ok
+returns-in-Ok-order_wide-clause-ok g c =
     let same = c.unscanned-read.ensures.text ∙ c.to_json_slice.ensures.bytes in
-    let bytes = c.to_json_slice-in-Ok-order.ensures.bytes in
-    let entries = document_kept _ c.in-Ok.cells.items (rw same at c.in-Ok.ensures.valid) (rw same at c.in-Ok.ensures.kept) in
+    let bytes = c.to_json_slice-in-Ok-order_wide.ensures.bytes in
+    let entries = document_kept _ c.in-Ok.written.cells.items (rw same at c.in-Ok.ensures.valid) (rw same at c.in-Ok.ensures.kept) in
     (bytes, rw bytes entries)

@@ -20,7 +20,7 @@ elements-preserved c =
     let shown = rw c.elements.invariant.going at given.shown in
     record {
       going = rw (given.moved, c.elements.invariant.going) refl;
-      lines = rw (given.moved, c.in_ok-push-in-Ok.ensures.items) (element_more c.elements.listed.items c.elements.invariant.lines shown);
+      lines = rw (given.moved, c.in_ok-push-in-Ok.ensures.items) (element_more c.elements.listed.items _ c.elements.invariant.lines shown c.borrowed_text.ensures);
     }
 
 pub returns-in-Err : goal.returns-in-Err

@@ -20,7 +20,7 @@ members-preserved c =
     let shown = rw c.members.invariant.going at given.shown in
     record {
       going = rw (given.moved, c.members.invariant.going) refl;
-      lines = rw (given.moved, c.in_ok-push-in-Ok.ensures.items) (member_more c.members.listed.items c.members.invariant.lines shown);
+      lines = rw (given.moved, c.in_ok-push-in-Ok.ensures.items) (member_more c.members.listed.items _ c.members.invariant.lines shown c.borrowed_text.ensures);
     }
 
 pub returns-in-Err : goal.returns-in-Err

@@ -28,13 +28,13 @@ returns-in-102 c =
     let first = rw (c.byte_at.ensures.value, text) at c.in-102.is in
     record { meant = truth false; means = false_means x.begins x.value first; is = tree_bool false }
 
-pub string-requires-in-34 : goal.string-requires-in-34
-string-requires-in-34 c =
+pub string-requires : goal.string-requires
+string-requires c =
     let text : c.text-text.result.now ≡ c.args.self.now.source.text = c.text-text.ensures ∙ source_text c.self.view_is in
-    rw c.string.ensures (string_token c.requires (rw (c.byte_at.ensures.value, text) at c.in-34.is))
+    string_token c.requires (rw (c.byte_at.ensures.value, text) at c.in-34.is)
 
 pub returns-in_ok-string-in-34 : goal.returns-in_ok-string-in-34
-returns-in_ok-string-in-34 c = rw (tree_string _) (string_kept (rw c.string.ensures at c.in_ok-string-in-34.ensures))
+returns-in_ok-string-in-34 c = rw (tree_string _) (string_kept c.in_ok-string-in-34.ensures)
 
 pub number_text-requires : goal.number_text-requires
 number_text-requires c =
