@@ -1,29 +1,29 @@
 /* Look-ups in a JSON text (RFC 8259) that is in memory: where paths of keys and indexes lead, and what
-   the values are that are found, without building the document; and texts that are made of one: without
-   white space or over lines, with edits or with a patch (RFC 6902), and of a schema that is filled from
-   it. The calls are proved to tell what the standards say; crates/sonic_c of the repository has their
-   contracts, and sonic(3) an example.
+   the values are that are found, without building the document; where all of its values are; texts that are
+   made of one: without white space or over lines, with edits or with a patch (RFC 6902), and of a schema that
+   is filled from it; and rows of the lines of a stream. The calls are proved to tell what the standards say;
+   crates/sonic_c of the repository has their contracts, and sonic(3) an example.
 
    What C has to uphold, as no call can check it:
    - A pointer is null only where its length is 0, which is taken as "": that is tested, as what is
      proved speaks of memory that is there. A pointer that has no length with it is never null.
    - A length is that of memory that is there, and is below 2^63.
-   - What is written to, as *span, spans, *error and room, is initialised, and overlaps nothing else that
-     is given.
-   - Nobody writes to the text, or to the paths, the edits, the patch or the schema, while a call runs.
+   - What is written to, as *span, spans, entries, *error and room, is initialised, and overlaps nothing else
+     that is given.
+   - Nobody writes to the text, the lines, the paths, the edits, the patch or the schema while a call runs.
    - sonic_get_unchecked and sonic_get_many_unchecked are called only for a text that sonic_validate
      took, or of which it is known otherwise that it begins with a value in UTF-8.
    - No call is made from a signal handler.
 
    Ownership: all memory that is given stays the caller's. No call keeps a pointer, and nothing that a
    call gives is to be freed: spans are places in the caller's text, a cursor is the caller's, and so is the
-   room for a text.
+   room for a text or for entries.
    Memory: where a call takes any, it does so by malloc, and gives it back before it returns; which take
    none is said with them.
    Threads: nothing is kept between calls, so any number of threads may call at once, also for one text,
    a cursor or a room for each.
-   Stack: 128 KiB, which is what musl gives a thread, were measured to be enough for each call, with paths of 255
-   nodes and pointers of 255 tokens; how deep the text is plays no part in it.
+   Stack: 128 KiB, which is what musl gives a thread, were measured to be enough for each call, with paths of
+   255 nodes and pointers of 255 tokens; how deep the text is plays no part in it.
    Limits: a path has at most 255 nodes, a pointer 255 tokens, and an index is below 2^64. How long or deep a
    text is, and how many paths, edits or operations there are, memory alone limits, but for the depth of what
    sonic_fill reads. */
@@ -60,8 +60,8 @@ typedef struct sonic_error {
   size_t offset;
 } sonic_error;
 
-/* What a call comes to. What isn't told is left as it was: *span, spans, room and *wanted are written where
-   it is SONIC_OK alone, and *error only where the status says so here. */
+/* What a call comes to. What isn't told is left as it was: *span, spans, entries, room and *wanted are
+   written where it is SONIC_OK alone, and *error only where the status says so here. */
 enum {
   /* What was asked for is there, and is told. */
   SONIC_OK = 0,
@@ -101,7 +101,9 @@ enum {
   SONIC_EDIT_REFUSED = 17,
   /* The schema isn't read as JSON, and *error says why, and where in the schema; or it is no object, and all
      in *error is 0. */
-  SONIC_BAD_SCHEMA = 18
+  SONIC_BAD_SCHEMA = 18,
+  /* Too many lines are said to come before. */
+  SONIC_BAD_NUMBER = 19
 };
 
 /* The types of values. */
@@ -219,6 +221,33 @@ uint32_t sonic_items_begin(const uint8_t *json, size_t json_length, sonic_items 
 uint32_t sonic_items_next(const uint8_t *json, size_t json_length, sonic_items *items, sonic_item *item,
                           sonic_error *error);
 
+/* A value of a document, as sonic_index tells it. */
+typedef struct sonic_entry {
+  /* Where it is. */
+  sonic_span value;
+  /* The key of a member, the quotes with it, and twice 0 of an element and of the root. */
+  sonic_span key;
+  /* The number of the value whose part it is, and 0 for the root. */
+  size_t parent;
+  /* How many elements come before an element in its array, and 0 of a member and of the root. */
+  size_t position;
+  /* SONIC_NULL .. SONIC_ARRAY. */
+  uint32_t type;
+} sonic_entry;
+
+/* All values of a document, numbered from 0 in the order of the places where they begin, so that a container
+   comes before its items; keys are none. As many entries as there is room for are written to the start of
+   entries, and its rest is left as it was. *wanted is how many values there are, at most (json_length + 1) / 2;
+   room for none asks for the number alone. The document is read as a whole, once, however much the room takes:
+   it takes 16 bytes of memory for each value, and while the members of large objects are put in order 28 more
+   for each of those, and a copy of each of their keys that has an escape.
+
+   SONIC_OK: the entries and *wanted are told.
+   SONIC_DOCUMENT_ERROR: the text is no document, with the error that sonic_validate tells of it.
+   SONIC_NO_MEMORY: also of a text of 4 GiB and more. */
+uint32_t sonic_index(const uint8_t *json, size_t json_length, sonic_entry *entries, size_t entry_count,
+                     size_t *wanted, sonic_error *error);
+
 /* What text is made of a document: each call from here to sonic_fill makes a text, and writes as much of it as
    the room takes to the room's start, maybe a part of a character last, with no NUL after it; the room's rest
    is left as it was. *wanted is the length of all of the text, in bytes, so it was cut if that is above
@@ -282,6 +311,27 @@ uint32_t sonic_edit(const uint8_t *json, size_t json_length, const uint8_t *edit
    once in a value that takes the place of another. */
 uint32_t sonic_fill(const uint8_t *json, size_t json_length, const uint8_t *schema, size_t schema_length,
                     uint8_t *room, size_t room_length, size_t *wanted, sonic_error *error);
+
+/* The rows of lines, each of which is read by itself, as a log has a JSON text in each: what paths lead to in
+   it. A line ends with a line feed, and the last one also with the text, so that a stream may come in pieces
+   which end with a line feed each: lines_before lines come before the first of a piece. The paths are as for
+   sonic_get_many. As many bytes of the rows as the room takes are written to its start, as of the texts above;
+   *wanted is how many there are.
+
+   A line of white space alone counts, and has no row. Else it has one, which ends with a line feed: for each
+   path the length of the value's text in bytes, a blank and that text, or - where an object lacks the path's
+   key, with a tab between two of them; the text of an array or an object may have tabs in it too, so its length
+   says where it ends. Or, of a line that is broken or in which a path leads nowhere, ! NUMBER WORD CODE OFFSET:
+   the number of the line, from 1, the words of the error's family and of its code, and its offset in the line,
+   from 0. So with the path ["id"] the lines {"id":7} and { have the rows "1 7" and
+   "! 2 eof EofWhileParsing 0". No error of a line is a status.
+
+   SONIC_BAD_LINES: a line says no path, as for sonic_get_many.
+   SONIC_BAD_NUMBER: lines_before and lines_length together are 2^64 - 1 or more, whatever else is given;
+   *error is left as it was. */
+uint32_t sonic_rows(const uint8_t *lines, size_t lines_length, const uint8_t *paths, size_t paths_length,
+                    uint64_t lines_before, uint8_t *room, size_t room_length, size_t *wanted,
+                    sonic_error *error);
 
 /* The words of a code, as "Invalid number" of SONIC_CODE_INVALID_NUMBER, in UTF-8 and with no NUL after
    them. As much of them as the room takes is written to its start, and its rest is left as it was; 128

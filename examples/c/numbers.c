@@ -227,6 +227,33 @@ static void check_made(void) {
   check(sonic_fill(bytes("{\"a\":5}"), 7, bytes("{}"), 2, room, 4, &wanted, &error) == SONIC_OK && wanted == 7, "OK", "sonic_fill");
 }
 
+/* Each field of an entry, and the status of a number that is too high. */
+static void check_lists(void) {
+  static const char json[] = "{\"k\":[null,7]}";
+  size_t wanted = 91;
+  uint8_t room[6] = {'.', '.', '.', '.', '.', '.'};
+  sonic_entry entries[5];
+  memset(entries, 0xA5, sizeof entries);
+  sonic_error error = {93, 94, 95, 96};
+  check(sonic_index(bytes(json), strlen(json), entries, 5, &wanted, &error) == SONIC_OK && wanted == 4, "OK", "sonic_index");
+  const sonic_entry *member = &entries[1], *element = &entries[3];
+  check(member->value.start == 5 && member->value.end == 13 && member->key.start == 1 && member->key.end == 4 && member->parent == 0
+            && member->position == 0 && member->type == SONIC_ARRAY,
+        "a member", "sonic_index");
+  check(element->value.start == 11 && element->value.end == 12 && element->key.start == 0 && element->key.end == 0
+            && element->parent == 1 && element->position == 1 && element->type == SONIC_NUMBER,
+        "an element", "sonic_index");
+  check(entries[4].type == 0xA5A5A5A5 && is_error(&error, 93, 94, 95, 96), "the rest", "sonic_index");
+  check(sonic_rows(bytes("\n[7]"), 4, bytes("[0]"), 3, 8, room, 6, &wanted, &error) == SONIC_OK && wanted == 4
+            && memcmp(room, "1 7\n..", 6) == 0,
+        "OK", "sonic_rows");
+  check(sonic_rows(bytes("[7]"), 3, bytes("[0"), 2, 8, room, 6, &wanted, &error) == SONIC_BAD_LINES && is_error(&error, 0, 1, 0, 0),
+        "BAD_LINES", "sonic_rows");
+  uint32_t status = sonic_rows(bytes("[7]"), 3, bytes("[0"), 2, UINT64_MAX - 3, room, 6, &wanted, &error);
+  check(status == SONIC_BAD_NUMBER && wanted == 4 && is_error(&error, 0, 1, 0, 0), "BAD_NUMBER", "sonic_rows");
+  printf("status %u: 2^64 - 4 lines before\n", status);
+}
+
 /* Where a length is 0, null is as good as "". */
 static void check_null(void) {
   sonic_span span = {91, 92};
@@ -247,6 +274,8 @@ static void check_null(void) {
   check(sonic_edit(bytes("1"), 1, NULL, 0, NULL, 0, &wanted, &error) == SONIC_OK && wanted == 1, "null", "sonic_edit");
   check(sonic_patch(bytes("1"), 1, NULL, 0, NULL, 0, &wanted, &error) == SONIC_BAD_PATCH, "null", "sonic_patch");
   check(sonic_fill(NULL, 0, bytes("{}"), 2, NULL, 0, &wanted, &error) == SONIC_DOCUMENT_ERROR, "null", "sonic_fill");
+  check(sonic_index(bytes("1"), 1, NULL, 0, &wanted, &error) == SONIC_OK && wanted == 1, "null", "sonic_index");
+  check(sonic_rows(NULL, 0, NULL, 0, 0, NULL, 0, &wanted, &error) == SONIC_OK && wanted == 0, "null", "sonic_rows");
   check(sonic_code_text(SONIC_CODE_INVALID_NUMBER, NULL, 0) == strlen("Invalid number"), "null", "sonic_code_text");
   printf("null with length 0 is taken as \"\"\n");
 }
@@ -263,6 +292,7 @@ int main(void) {
   check_statuses();
   check_values();
   check_made();
+  check_lists();
   for (size_t i = 0; i < sizeof rows / sizeof *rows; i++) check_row(&rows[i]);
   check_texts();
   check_null();

@@ -50,6 +50,7 @@ typedef struct cells {
   size_t wanted;
   sonic_items items;
   sonic_item item;
+  sonic_entry entries[4];
 } cells;
 
 static int same(const cells *a, const cells *b) {
@@ -57,7 +58,7 @@ static int same(const cells *a, const cells *b) {
          a->error.line == b->error.line && a->error.column == b->error.column &&
          a->error.offset == b->error.offset && memcmp(a->room, b->room, sizeof a->room) == 0 && a->wanted == b->wanted &&
          a->items.place == b->items.place && a->items.state == b->items.state &&
-         memcmp(&a->item, &b->item, sizeof a->item) == 0;
+         memcmp(&a->item, &b->item, sizeof a->item) == 0 && memcmp(a->entries, b->entries, sizeof a->entries) == 0;
 }
 
 /* Keys with escapes, brackets in brackets, and the same cut short. */
@@ -174,6 +175,30 @@ static size_t fill_from_cut(cells *told) {
                     &told->error);
 }
 
+static size_t index_of(cells *told, const char *text, size_t length) {
+  return sonic_index(bytes(text), length, told->entries, 4, &told->wanted, &told->error);
+}
+
+static size_t index_all(cells *told) { return index_of(told, json, strlen(json)); }
+
+static size_t index_cut(cells *told) { return index_of(told, json, strlen(json) - 1); }
+
+/* An object so wide that its members are put in order, each with an escape in its key. */
+static size_t index_wide(cells *told) {
+  static char wide[2048];
+  size_t length = 0;
+  for (int i = 0; i < 70; i++) length += (size_t)sprintf(wide + length, "%c\"\\u0061%d\":%d", i == 0 ? '{' : ',', i, i);
+  length += (size_t)sprintf(wide + length, "}");
+  return index_of(told, wide, length);
+}
+
+static size_t rows(cells *told) {
+  static const char lines[] = "{\"a\":[1,{\"b\":2}]}\n[\n\n{\"b\":3}";
+  static const char two[] = "[\"a\",1,\"b\"]\n[\"b\"]\n";
+  return sonic_rows(bytes(lines), strlen(lines), bytes(two), strlen(two), 7, told->room, sizeof told->room, &told->wanted,
+                    &told->error);
+}
+
 /* What a call is to answer and to leave, unrefused and refused. */
 typedef struct answers {
   size_t plain, refused;
@@ -242,5 +267,9 @@ int main(void) {
   wrong |= refuse_each("edit, that fails", edit_that_fails, SONIC_NO_MEMORY);
   wrong |= refuse_each("fill", fill, SONIC_NO_MEMORY);
   wrong |= refuse_each("fill, from a cut text", fill_from_cut, SONIC_NO_MEMORY);
+  wrong |= refuse_each("index", index_all, SONIC_NO_MEMORY);
+  wrong |= refuse_each("index, cut", index_cut, SONIC_NO_MEMORY);
+  wrong |= refuse_each("index, wide", index_wide, SONIC_NO_MEMORY);
+  wrong |= refuse_each("rows", rows, SONIC_NO_MEMORY);
   return wrong;
 }

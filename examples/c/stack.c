@@ -106,6 +106,11 @@ static uint32_t fill(void) {
   return sonic_fill(bytes(data), strlen(data), bytes(schema), strlen(schema), room, sizeof room, &wanted, &error);
 }
 
+static uint32_t all_values(void) { return sonic_index(bytes(arrays), strlen(arrays), NULL, 0, &wanted, &error); }
+static uint32_t rows(void) {
+  return sonic_rows(bytes(arrays), strlen(arrays), bytes(paths), strlen(paths), 0, room, sizeof room, &wanted, &error);
+}
+
 typedef struct {
   const char *name;
   uint32_t (*make)(void);
@@ -132,6 +137,8 @@ int main(void) {
       {"edit", make_edit, 99},
       {"patch", make_patch, 99},
       {"fill", fill, 99},
+      {"index", all_values, 99},
+      {"rows", rows, 99},
   };
   prepare();
   pthread_attr_t small;

@@ -30,6 +30,7 @@ STRUCTS = {
     "sonic_error": _native.Fault,
     "sonic_items": _native.Items,
     "sonic_item": _native.Item,
+    "sonic_entry": _native.Cell,
 }
 TYPES = {
     **PLAIN_TYPES,
@@ -80,7 +81,7 @@ class Page(unittest.TestCase):
         self.assertEqual("".join(told), "")
 
     def test_examples_of_calls(self):
-        for call in (sonic.minify, sonic.indent, sonic.patch, sonic.edit, sonic.fill):
+        for call in (sonic.index, sonic.minify, sonic.indent, sonic.patch, sonic.edit, sonic.fill, sonic.rows, sonic.Rows):
             test = doctest.DocTestParser().get_doctest(call.__doc__, {call.__name__: call}, call.__name__, None, 0)
             self.assertGreater(len(test.examples), 0)
             told = []

@@ -33,6 +33,8 @@ pub enum Error {
     EditRefused(usize),
     /// The schema isn't read, as the fault says; or it is no object.
     BadSchema(Option<Fault>),
+    /// Too many lines are said to come before: with the bytes of the lines they are 2<sup>64</sup> - 1 or more.
+    BadNumber,
     /// Memory ran out.
     NoMemory,
 }
@@ -180,6 +182,7 @@ impl fmt::Display for Error {
             }
             Error::BadSchema(Some(fault)) => write!(f, "the schema isn't read: {fault}"),
             Error::BadSchema(None) => f.write_str("the schema is no object"),
+            Error::BadNumber => f.write_str("too many lines are said to come before"),
             Error::NoMemory => f.write_str("out of memory"),
         }
     }
@@ -241,6 +244,7 @@ pub(crate) fn judge(status: u32, fault: raw::Fault) -> Result<(), Error> {
         raw::OK => Ok(()),
         raw::DOCUMENT_ERROR => Err(Error::Document(fault.into())),
         raw::BAD_LINES => Err(Error::BadPath(fault.line.saturating_sub(1))),
+        raw::BAD_NUMBER => Err(Error::BadNumber),
         raw::NO_MEMORY => Err(Error::NoMemory),
         other => unreachable!("status {other}"),
     }

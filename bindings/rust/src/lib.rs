@@ -2,18 +2,22 @@
 #![warn(missing_docs)]
 
 mod error;
+mod index;
 mod items;
 mod made;
 mod path;
 mod raw;
+mod rows;
 mod text;
 mod value;
 
 pub use error::{Category, Code, Error, Fault};
+pub use index::{index, Entry, Label};
 pub use items::{elements, members, Elements, Members};
 pub use made::{edit, fill, indent, minify, patch};
 pub use path::{Node, Path, Paths};
-pub use text::Text;
+pub use rows::{rows, Rows};
+pub use text::{Span, Text};
 pub use value::{as_i64, as_str, as_u64, count, type_of, Type};
 
 use error::judge;

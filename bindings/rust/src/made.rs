@@ -2,25 +2,35 @@
 use crate::error::{judge_text, Error};
 use crate::{raw, Text};
 
-/// The text that a call makes in a room of as many bytes as are guessed, or in another where it is longer. The
-/// call writes to the room, to the length that it wants and to the fault, and gives a status.
-fn made(
+/// The bytes that a call makes in a room of as many as are guessed, or in another where they are more. The call
+/// writes to the room, to the length that it wants and to the fault, and gives a status, which is judged.
+pub(crate) fn filled(
     guess: usize,
+    judge: impl Fn(u32, raw::Fault) -> Result<(), Error>,
     call: impl Fn(&mut [u8], &mut usize, &mut raw::Fault) -> u32,
-) -> Result<String, Error> {
+) -> Result<Vec<u8>, Error> {
     let (mut room, mut wanted) = (vec![0; guess], 0);
     loop {
         let mut fault = raw::Fault::default();
         let status = call(&mut room, &mut wanted, &mut fault);
-        judge_text(status, fault)?;
+        judge(status, fault)?;
         if wanted <= room.len() {
             break;
         }
         room = vec![0; wanted];
     }
     room.truncate(wanted);
+    Ok(room)
+}
+
+/// The text that a call makes so.
+fn made(
+    guess: usize,
+    call: impl Fn(&mut [u8], &mut usize, &mut raw::Fault) -> u32,
+) -> Result<String, Error> {
+    let text = filled(guess, judge_text, call)?;
     // SAFETY: what the call makes is UTF-8, and all of it found room.
-    Ok(unsafe { String::from_utf8_unchecked(room) })
+    Ok(unsafe { String::from_utf8_unchecked(text) })
 }
 
 /// The text that a call makes of a document and another text, for which there is mostly room in the length of

@@ -1,11 +1,5 @@
 // The calls of libsonic.a, as sonic.h has them.
-
-#[repr(C)]
-#[derive(Clone, Copy, Default)]
-pub(crate) struct Span {
-    pub start: usize,
-    pub end: usize,
-}
+pub(crate) use crate::text::Span;
 
 #[repr(C)]
 #[derive(Default)]
@@ -30,6 +24,15 @@ pub(crate) struct Item {
     pub value: Span,
 }
 
+#[repr(C)]
+pub(crate) struct Entry {
+    pub value: Span,
+    pub key: Span,
+    pub parent: usize,
+    pub position: usize,
+    pub kind: u32,
+}
+
 pub(crate) const OK: u32 = 0;
 pub(crate) const DOCUMENT_ERROR: u32 = 1;
 pub(crate) const BAD_LINES: u32 = 3;
@@ -45,6 +48,7 @@ pub(crate) const TEST_FAILED: u32 = 15;
 pub(crate) const INTO_CHILD: u32 = 16;
 pub(crate) const EDIT_REFUSED: u32 = 17;
 pub(crate) const BAD_SCHEMA: u32 = 18;
+pub(crate) const BAD_NUMBER: u32 = 19;
 
 /// Two calls that take the same, after a name for the type of both.
 macro_rules! pairs {
@@ -105,7 +109,7 @@ tells! {
     sonic_items_begin(items: Items);
 }
 
-/// Calls that write a text to a room, with what they take between the document and the room.
+/// Calls that write a text to a room, with what they take between the document, or the lines, and the room.
 macro_rules! makes {
     ($($name:ident($($given:ident: $kind:ty),*);)*) => {
         extern "C" {
@@ -129,6 +133,7 @@ makes! {
     sonic_patch(patch: *const u8, patch_length: usize);
     sonic_edit(edits: *const u8, edits_length: usize);
     sonic_fill(schema: *const u8, schema_length: usize);
+    sonic_rows(paths: *const u8, paths_length: usize, lines_before: u64);
 }
 
 /// What a call takes that makes a text of a document and another text.
@@ -150,6 +155,14 @@ extern "C" {
         json_length: usize,
         items: *mut Items,
         item: *mut Item,
+        error: *mut Fault,
+    ) -> u32;
+    pub(crate) fn sonic_index(
+        json: *const u8,
+        json_length: usize,
+        entries: *mut Entry,
+        entry_count: usize,
+        wanted: *mut usize,
         error: *mut Fault,
     ) -> u32;
     pub(crate) fn sonic_code_text(code: u32, room: *mut u8, room_length: usize) -> usize;

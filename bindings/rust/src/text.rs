@@ -1,4 +1,4 @@
-//! What a text may be.
+//! What a text may be, and what its parts are.
 use std::ops::Range;
 
 mod sealed {
@@ -19,6 +19,44 @@ pub trait Text: sealed::Sealed {
     fn bytes(&self) -> &[u8];
     /// The part of it between two of its places, which are no places inside a char.
     fn part(&self, at: Range<usize>) -> &Self::Part;
+}
+
+/// A part of a text, from the place `start` to before the place `end`, in bytes from 0.
+///
+/// ```
+/// use sonic::Span;
+/// let user = Span { start: 9, end: 14 };
+/// assert_eq!(&r#"{"user": "ada"}"#[user.range()], r#""ada""#);
+/// ```
+#[repr(C)]
+#[derive(Clone, Copy, Debug, Default, PartialEq, Eq, Hash)]
+pub struct Span {
+    /// Where it begins.
+    pub start: usize,
+    /// Where it has ended.
+    pub end: usize,
+}
+
+impl Span {
+    /// The same as a range, by which a text is sliced.
+    pub fn range(self) -> Range<usize> {
+        self.start..self.end
+    }
+}
+
+impl From<Span> for Range<usize> {
+    fn from(span: Span) -> Self {
+        span.range()
+    }
+}
+
+/// How many bytes of a text are such ones. Each block of it is so short that a byte takes its count, as sums of
+/// bytes are fast.
+pub(crate) fn count_bytes(text: &[u8], is_one: impl Fn(u8) -> bool) -> usize {
+    let in_block = |block: &[u8]| block.iter().map(|&byte| u8::from(is_one(byte))).sum::<u8>();
+    text.chunks(u8::MAX.into())
+        .map(|block| usize::from(in_block(block)))
+        .sum()
 }
 
 macro_rules! text {

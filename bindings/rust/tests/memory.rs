@@ -1,6 +1,8 @@
 //! That memory may run out in the library, and which calls take none.
-use sonic::{as_i64, as_str, as_u64, count, edit, elements, fill, get, indent, members, minify};
-use sonic::{patch, path, type_of, validate, Error};
+use sonic::{
+    as_i64, as_str, as_u64, count, edit, elements, fill, get, indent, index, members, minify,
+};
+use sonic::{patch, path, rows, type_of, validate, Error, Paths, Rows};
 use std::cell::Cell;
 use std::ffi::c_void;
 
@@ -38,11 +40,15 @@ fn runs_out() {
     assert_eq!(refused(|| validate(DEEP).map(|_| ())), Err(none));
     assert_eq!(refused(|| count(DEEP)), Err(none));
     assert_eq!(refused(|| as_str(r#""a\n""#)), Err(none));
+    assert_eq!(refused(|| index(DEEP)), Err(none));
+    assert_eq!(refused(|| index("7")), Err(none));
     assert_eq!(refused(|| minify(DEEP)), Err(none));
     assert_eq!(refused(|| indent(DEEP, 2)), Err(none));
     assert_eq!(refused(|| patch(DEEP, "[]")), Err(none));
     assert_eq!(refused(|| edit(DEEP, r#"["take",[]]"#)), Err(none));
     assert_eq!(refused(|| fill("{}", DEEP)), Err(none));
+    let paths = Paths::new([key]).unwrap();
+    assert_eq!(refused(|| rows(DEEP, &paths, 0)), Err(none));
 }
 
 #[test]
@@ -56,6 +62,17 @@ fn goes_on_where_it_was() {
     let mut found = refused(|| members(r#"{"a": [[2]]}"#)).unwrap();
     assert_eq!(refused(|| found.next()), Some(Err(Error::NoMemory)));
     assert_eq!(found.next(), Some(Ok((r#""a""#, "[[2]]"))));
+    let mut stream = Rows::new(Paths::new([path!["id"]]).unwrap());
+    let (start, end) = ("{\"id\"", ":7}\n{}");
+    assert_eq!(refused(|| stream.feed(start)), Err(Error::NoMemory));
+    assert_eq!(stream.feed(start).unwrap(), b"");
+    assert_eq!(refused(|| stream.feed(end)), Err(Error::NoMemory));
+    assert_eq!(stream.lines(), 0);
+    assert_eq!(stream.feed(end).unwrap(), b"1 7\n");
+    assert_eq!(refused(|| stream.finish()), Err(Error::NoMemory));
+    assert_eq!(stream.lines(), 1);
+    let last = "! 2 not-found GetInEmptyObject 1\n";
+    assert_eq!(stream.finish().unwrap(), last.as_bytes());
 }
 
 #[test]

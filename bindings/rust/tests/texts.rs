@@ -208,7 +208,7 @@ fn the_header_says_the_same() {
         })
         .map(|(name, number)| (name, number.parse().unwrap()))
         .collect();
-    assert_eq!(statuses.len(), 15);
+    assert_eq!(statuses.len(), 16);
     assert!(statuses.iter().all(|&(name, number)| has(name, number)));
     let version = format!("#define SONIC_VERSION \"{}\"", env!("CARGO_PKG_VERSION"));
     assert!(header.lines().any(|line| line == version));

@@ -1,6 +1,7 @@
 mod BegunLemmas
 mod CodeLemmas
 mod ContainerLemmas
+mod EntryLemmas
 mod FillLemmas
 mod ManyLemmas
 mod PatchLemmas

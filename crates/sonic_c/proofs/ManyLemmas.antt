@@ -15,6 +15,8 @@ use Rattle.sonic_paths.specs.declared.lines.Head.TheVariants.{Paths, Bad}
 use Rattle.sonic_paths.proofs.LineOutcomes.{head_one_thing}
 use Rattle.sonic_c.specs.Told.{ManyCells, IsManyCall, Say, SayBad, bad_path, blank_line, TellAllRefused}
 use Rattle.sonic_c.specs.Internal.Told.{RefusesLines, no_room, bad_lines, wrong_count, TellsAll, TellsError, no_memory, told}
+use Rattle.sonic_c.specs.Internal.Texts.{OrOutOfMemory, refuses, ran_out}
+use Rattle.sonic_c.specs.Rows.{AreNoPaths}
 use Rattle.sonic_c.specs.declared.fault.Fault.{Fault}
 use Rattle.sonic_c.specs.Statuses.{status_ok, status_document_error, status_wrong_count, status_bad_lines}
 use Rattle.sonic_c.proofs.ToldLemmas.{numbers_at}
@@ -68,6 +70,12 @@ refused_told (wrong_count {paths} is says other line) kept = record {
   error_kept = λ e. elim e [ inl x ↦ absurd cc | inr x ↦ absurd cc ];
   complete = λ p own long can. absurd (other (rw (say_one says own) long));
 }
+
+-- lines that say no paths are refused
+pub no_paths_refused : {lines : List ℕ} {count : ℕ} {before after : Fault} {status : ℕ} → OrOutOfMemory (AreNoPaths lines) before after status
+    → RefusesLines lines count before after status
+no_paths_refused (refuses x) = bad_lines x.says x.bad x.told
+no_paths_refused (ran_out is same) = no_room is same
 
 -- what is told of an error with which the paths are refused
 refusal_told : {t : List ℕ} {paths : List Path} {e : Error} {before after : Fault} {status : ℕ} → IsRefusal t true paths e → TellsError e before after status

@@ -50,8 +50,8 @@ code_number SerExpectKeyIsStrOrNum = 30
 code_number NoMemory = 31
 code_number DuplicateKey = 32
 
--- the room with as much of the text as it takes at its start, and what it had after that
-abbrev pub placed : List ℕ → List ℕ → List ℕ
+-- the room with as much of the text, or as many of the entries, as it takes at its start, and what it had after that
+abbrev pub placed : {A : Type 0} → List A → List A → List A
 placed text room = take (length room) text ++ drop (length text) room
 
 -- a call tells nothing

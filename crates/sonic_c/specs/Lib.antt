@@ -3,8 +3,10 @@ pub mod Changes
 pub mod Codes
 pub mod Containers
 pub mod Fills
+pub mod Indexes
 pub mod Internal
 pub mod Patches
+pub mod Rows
 pub mod Statuses
 pub mod Texts
 pub mod Told

@@ -64,3 +64,7 @@ status_edit_refused = 17
 -- the schema is none
 abbrev pub status_bad_schema : ℕ
 status_bad_schema = 18
+
+-- too many lines are said to come before
+abbrev pub status_bad_number : ℕ
+status_bad_number = 19

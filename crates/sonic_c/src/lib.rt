@@ -19,6 +19,8 @@ mod fault;
 mod fill;
 // One path.
 mod get;
+// All values of a document.
+mod index;
 // A way through the items of a container.
 mod items;
 // The type of a value.
@@ -33,6 +35,8 @@ mod owned;
 mod patch;
 // The caller's room for a text.
 mod room;
+// The rows of lines.
+mod rows;
 // The spans that a caller is told.
 mod span;
 // What a call comes to.
@@ -49,6 +53,7 @@ mod validate;
 mod walk;
 
 pub use fault::Fault;
+pub use index::Entry;
 pub use items::Items;
 pub use span::Span;
 pub use walk::Item;

@@ -1,7 +1,9 @@
 // What many paths find.
 ghost use Rattle.std.specs.Prelude.{◌≡◌, ℕ, List, length, IfOk, IfErr, OnOk};
 ghost use Rattle.sonic_text.specs.Documents.{StartsWithUtf8Value};
+ghost use Rattle.sonic_c.specs.Rows.{AreNoPaths};
 ghost use Rattle.sonic_c.specs.Told.{IsManyCall, Say};
+ghost use Rattle.sonic_c.specs.Internal.Texts.{OrOutOfMemory};
 ghost use Rattle.sonic_c.specs.Internal.Told.{RefusesLines, TellsAll};
 
 use crate::fault::{Fault, tell};
@@ -107,6 +109,24 @@ fn tree_of(alloc: Global, lines: &[u8], count: usize, error: &mut Fault) -> Resu
     ensures kept { OnOk result (error.new ≡ error.old) }
     ensures refused { IfErr result (RefusesLines lines.now count error.old error.new) }
 {
+    let tree = match paths_of(alloc, lines, error) {
+        Ok(tree) => tree,
+        Err(status) => return Err(status),
+    };
+    let size = tree.size();
+    if size != count {
+        *error = Fault::at_line(size);
+        return Err(WRONG_COUNT);
+    }
+    Ok(tree)
+}
+
+// The tree of the paths that the lines say.
+pub(crate) fn paths_of(alloc: Global, lines: &[u8], error: &mut Fault) -> Result<PointerTree, u32>
+    ensures says { IfOk result (λ tree. Say lines.now tree) }
+    ensures kept { OnOk result (error.new ≡ error.old) }
+    ensures refused { IfErr result (OrOutOfMemory (AreNoPaths lines.now) error.old error.new) }
+{
     let Ok(head) = read_paths(alloc, lines) else {
         return Err(NO_MEMORY);
     };
@@ -117,14 +137,9 @@ fn tree_of(alloc: Global, lines: &[u8], count: usize, error: &mut Fault) -> Resu
             return Err(BAD_LINES);
         }
     };
-    let size = tree.size();
     if end < lines.len() {
-        *error = Fault::at_line(size + 1);
+        *error = Fault::at_line(tree.size() + 1);
         return Err(BAD_LINES);
-    }
-    if size != count {
-        *error = Fault::at_line(size);
-        return Err(WRONG_COUNT);
     }
     Ok(tree)
 }

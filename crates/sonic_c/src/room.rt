@@ -19,7 +19,16 @@ pub(crate) fn write_text(text: &str, room: &mut [u8], wanted: &mut usize) -> u32
     ensures wanted { wanted.new ≡ length text.now }
     ensures status { result ≡ status_ok }
 {
-    place(room, text.as_bytes());
-    *wanted = text.len();
+    write_bytes(text.as_bytes(), room, wanted)
+}
+
+// The same of bytes.
+pub(crate) fn write_bytes(bytes: &[u8], room: &mut [u8], wanted: &mut usize) -> u32
+    ensures room { room.new ≡ placed bytes.now room.old }
+    ensures wanted { wanted.new ≡ length bytes.now }
+    ensures status { result ≡ status_ok }
+{
+    place(room, bytes);
+    *wanted = bytes.len();
     OK
 }

@@ -32,3 +32,5 @@ pub(crate) const INTO_CHILD: u32 = 16;
 pub(crate) const EDIT_REFUSED: u32 = 17;
 // The schema is none.
 pub(crate) const BAD_SCHEMA: u32 = 18;
+// Too many lines are said to come before.
+pub(crate) const BAD_NUMBER: u32 = 19;

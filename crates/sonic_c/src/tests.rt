@@ -9,6 +9,8 @@ use crate::validate::sonic_validate;
 use std::alloc::Global;
 use std::process::Abort;
 
+// The call that tells all values.
+mod entries;
 // The calls that make a text.
 mod texts;
 // The calls that read one value.

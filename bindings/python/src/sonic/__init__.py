@@ -1,5 +1,6 @@
 """Look-ups in a JSON text that is in memory, by a proved library: where paths of keys and indexes lead,
-without building the document; and texts that are made of one, small, over lines, or changed.
+without building the document, also in each line of a log; where all its values are; and texts that are
+made of one, small, over lines, or changed.
 
 A text is a str, bytes, or whatever has a buffer, as a bytearray, a memoryview or an mmap. A value is the
 exact JSON text of it, and of the text's kind: of a str a str, of bytes bytes, and of any other a memoryview
@@ -7,16 +8,21 @@ of the same memory. A path is a list or tuple of keys and indexes, as ["tags", 1
 value. json.loads makes an object of a value."""
 from __future__ import annotations
 
-import json
-from ctypes import Array, byref
-from typing import TYPE_CHECKING, Any, Generic, Iterable, Iterator, List, Optional, Sequence, TypeVar, Union, overload
+from ctypes import byref
+from typing import TYPE_CHECKING, Any, Generic, Iterable, List, Optional, TypeVar, Union, overload
 
 from . import _native
-from ._errors import BrokenText, Cause, Code, DocumentError, EditError, Mismatch, NotFound, NotInteger, PatchError, PathError
-from ._errors import SchemaError, SonicError, Type, WidthError, WrongType
+from ._errors import BrokenText, Cause, Code, DocumentError, EditError, Mismatch, NotFound, NotInteger, NumberError, PatchError
+from ._errors import PathError, SchemaError, SonicError, Type, WidthError, WrongType
 from ._errors import judge as _judge
+from ._index import Entry, Index, index
 from ._made import edit, fill, indent, minify, patch
 from ._native import Fault, Span, code_text
+from ._paths import Path as Path
+from ._paths import Paths
+from ._paths import line_of as _line
+from ._paths import ready as _ready
+from ._rows import Rows, rows
 from ._values import as_int, as_str, count, elements, members, type_of
 
 if TYPE_CHECKING:
@@ -24,63 +30,19 @@ if TYPE_CHECKING:
 
 __version__ = "0.1.0"
 __all__ = [
-    "BrokenText", "Cause", "Code", "Document", "DocumentError", "EditError", "Mismatch", "NotFound", "NotInteger",
-    "PatchError", "PathError", "Paths", "SchemaError", "SonicError", "Type", "WidthError", "WrongType", "as_int", "as_str",
-    "code_text", "count", "edit", "elements", "fill", "get", "get_many", "indent", "members", "minify", "patch", "type_of",
-    "validate",
+    "BrokenText", "Cause", "Code", "Document", "DocumentError", "EditError", "Entry", "Index", "Mismatch", "NotFound",
+    "NotInteger", "NumberError", "PatchError", "PathError", "Paths", "Rows", "SchemaError", "SonicError", "Type", "WidthError",
+    "WrongType", "as_int", "as_str", "code_text", "count", "edit", "elements", "fill", "get", "get_many", "indent", "index",
+    "members", "minify", "patch", "rows", "type_of", "validate",
 ]  # fmt: skip
 
 for _kind in (
-    BrokenText, Cause, Code, DocumentError, EditError, Mismatch, NotFound, NotInteger, PatchError, PathError, SchemaError,
-    SonicError, Type, WidthError, WrongType,
+    BrokenText, Cause, Code, DocumentError, EditError, Index, Mismatch, NotFound, NotInteger, NumberError, PatchError,
+    PathError, Paths, Rows, SchemaError, SonicError, Type, WidthError, WrongType,
 ):  # fmt: skip
     _kind.__module__ = __name__  # where they are called for, as a traceback tells
 
-Path = Sequence[Union[str, int]]
 T = TypeVar("T", str, bytes, memoryview)
-
-
-def _line(path: Path) -> bytes:
-    if isinstance(path, (str, bytes, bytearray, memoryview)) or not isinstance(path, Sequence):
-        raise TypeError(f"a path is a list or tuple of keys and indexes, and no {type(path).__name__}")
-    return json.dumps(list(path)).encode()
-
-
-class Paths:
-    """Paths that are looked up again and again, made ready and judged once. Any number of threads may use
-    them at once."""
-
-    __slots__ = ("_paths", "_lines", "_room")
-
-    def __init__(self, paths: Iterable[Path]) -> None:
-        self._fill(paths)
-        self._spans("sonic_get_many", b"0", is_judged=False)
-
-    def _fill(self, paths: Iterable[Path]) -> Paths:
-        self._paths = list(paths)
-        self._lines = b"".join(_line(path) + b"\n" for path in self._paths)
-        self._room = Span * len(self._paths)
-        return self
-
-    def __len__(self) -> int:
-        return len(self._paths)
-
-    def __iter__(self) -> Iterator[Path]:
-        return iter(self._paths)
-
-    def __repr__(self) -> str:
-        return f"Paths({self._paths!r})"
-
-    def _spans(self, name: str, source: _native.Source, is_judged: bool = True) -> Array[Span]:
-        spans, fault = self._room(), Fault()
-        status = _native.call(name, source, self._lines, len(self._lines), spans, len(spans), byref(fault))
-        if is_judged or status != _native.DOCUMENT_ERROR:
-            _judge(status, fault, self._paths, fault.line - 1)
-        return spans
-
-
-def _ready(paths: Union[Paths, Iterable[Path]]) -> Paths:
-    return paths if isinstance(paths, Paths) else Paths.__new__(Paths)._fill(paths)
 
 
 def _get(name: str, text: Any, source: _native.Source, path: Path) -> Any:

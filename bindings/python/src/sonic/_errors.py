@@ -175,6 +175,17 @@ class WidthError(ValueError):
         return f"the width is {self.width}, and isn't from 0 to 8"
 
 
+class NumberError(ValueError):
+    """So many lines can't come before others: `before` is below 0, or with the bytes of those above 2**64 - 2."""
+
+    def __init__(self, before: int) -> None:
+        super().__init__(before)
+        self.before = before
+
+    def __str__(self) -> str:
+        return f"the number of lines before is {self.before}, and isn't from 0 to 2**64 - 2 less the bytes of the lines"
+
+
 class PathError(ValueError):
     """A path is none, or doesn't go with those before it: the path, and its index among those given."""
 

@@ -63,15 +63,13 @@ def indent(document: Union[str, Buffer], width: int) -> bytes:
     }
     """
     source, width = _native.source_of(document), operator.index(width)
-    # The library refuses what is above 8, and ctypes cuts an int to 64 bits.
-    given = width if 0 <= width < 1 << 64 else (1 << 64) - 1
 
     def judge_width(status: int, fault: Fault) -> None:
         if status == _native.BAD_WIDTH:
             raise WidthError(width)
         _judge(status, fault)
 
-    return bytes(_native.text_of("sonic_indent", source, (given,), 2 * len(source), judge_width))
+    return bytes(_native.text_of("sonic_indent", source, (_native.unsigned(width),), 2 * len(source), judge_width))
 
 
 def patch(document: Union[str, Buffer], patch: Union[str, Buffer]) -> bytes:

@@ -10,7 +10,7 @@ from typing import Any, Callable, Dict, Tuple, Union
 OK, DOCUMENT_ERROR, WRONG_COUNT, BAD_LINES, NO_MEMORY = 0, 1, 2, 3, 7
 WRONG_TYPE, NO_INTEGER, END = 8, 9, 10
 BAD_WIDTH, BAD_PATCH, BAD_OPERATION, MISSING, TEST_FAILED, INTO_CHILD = 11, 12, 13, 14, 15, 16
-EDIT_REFUSED, BAD_SCHEMA = 17, 18
+EDIT_REFUSED, BAD_SCHEMA, BAD_NUMBER = 17, 18, 19
 
 
 class Span(ctypes.Structure):
@@ -37,6 +37,12 @@ class Item(ctypes.Structure):
     _fields_ = [("key", Span), ("value", Span)]
 
 
+class Cell(ctypes.Structure):
+    """sonic_entry."""
+
+    _fields_ = [("value", Span), ("key", Span), ("parent", c_size_t), ("position", c_size_t), ("type", c_uint32)]
+
+
 _TEXT = (c_void_p, c_size_t)
 _ROOM = (c_void_p, c_size_t, POINTER(c_size_t), POINTER(Fault))
 
@@ -54,11 +60,13 @@ CALLS: Dict[str, Any] = {
     "sonic_count": (c_uint32, [*_TEXT, POINTER(c_size_t), POINTER(Fault)]),
     "sonic_items_begin": (c_uint32, [*_TEXT, POINTER(Items), POINTER(Fault)]),
     "sonic_items_next": (c_uint32, [*_TEXT, POINTER(Items), POINTER(Item), POINTER(Fault)]),
+    "sonic_index": (c_uint32, [*_TEXT, POINTER(Cell), c_size_t, POINTER(c_size_t), POINTER(Fault)]),
     "sonic_minify": (c_uint32, [*_TEXT, *_ROOM]),
     "sonic_indent": (c_uint32, [*_TEXT, c_size_t, *_ROOM]),
     "sonic_patch": (c_uint32, [*_TEXT, *_TEXT, *_ROOM]),
     "sonic_edit": (c_uint32, [*_TEXT, *_TEXT, *_ROOM]),
     "sonic_fill": (c_uint32, [*_TEXT, *_TEXT, *_ROOM]),
+    "sonic_rows": (c_uint32, [*_TEXT, *_TEXT, c_uint64, *_ROOM]),
     "sonic_code_text": (c_size_t, [c_uint32, c_void_p, c_size_t]),
 }
 
@@ -152,16 +160,28 @@ def call(name: str, source: Source, *arguments: Any) -> int:
         _release_buffer(held)
 
 
+def unsigned(number: int) -> int:
+    """The number; or, where it isn't of 64 bits, the largest that is, which the calls refuse: ctypes cuts an int to them."""
+    return number if 0 <= number < 1 << 64 else (1 << 64) - 1
+
+
+def cells_of(name: str, source: Source, arguments: Tuple[Any, ...], kind: Any, guess: int, judge: Judge) -> memoryview:
+    """The bytes of the cells that a call writes to a room: one for as many as are guessed, and another where there are
+    more."""
+    size, wanted, fault = ctypes.sizeof(kind), ctypes.c_size_t(), Fault()
+    room = bytearray(size * (guess or 1))
+    while True:
+        start = ctypes.byref(kind.from_buffer(room))
+        cells = start, len(room) // size, ctypes.byref(wanted), ctypes.byref(fault)
+        judge(call(name, source, *arguments, *cells), fault)
+        if size * wanted.value <= len(room):
+            return memoryview(room)[: size * wanted.value]
+        room = bytearray(size * wanted.value)
+
+
 def text_of(name: str, source: Source, arguments: Tuple[Any, ...], guess: int, judge: Judge) -> memoryview:
     """The text that a call writes to a room: one of as many bytes as are guessed, and another where it is longer."""
-    wanted, fault, room = ctypes.c_size_t(), Fault(), bytearray(guess or 1)
-    while True:
-        start = ctypes.byref(ctypes.c_char.from_buffer(room))
-        cells = start, len(room), ctypes.byref(wanted), ctypes.byref(fault)
-        judge(call(name, source, *arguments, *cells), fault)
-        if wanted.value <= len(room):
-            return memoryview(room)[: wanted.value]
-        room = bytearray(wanted.value)
+    return cells_of(name, source, arguments, ctypes.c_char, guess, judge)
 
 
 def code_text(code: int) -> str:

@@ -5,9 +5,10 @@ use crate::edit::sonic_edit;
 use crate::fault::Fault;
 use crate::fill::sonic_fill;
 use crate::patch::sonic_patch;
+use crate::rows::sonic_rows;
 use crate::status::{
-    BAD_LINES, BAD_OPERATION, BAD_PATCH, BAD_SCHEMA, BAD_WIDTH, DOCUMENT_ERROR, EDIT_REFUSED,
-    INTO_CHILD, MISSING, OK, TEST_FAILED,
+    BAD_LINES, BAD_NUMBER, BAD_OPERATION, BAD_PATCH, BAD_SCHEMA, BAD_WIDTH, DOCUMENT_ERROR,
+    EDIT_REFUSED, INTO_CHILD, MISSING, OK, TEST_FAILED,
 };
 use std::alloc::Global;
 use std::process::Abort;
@@ -78,6 +79,15 @@ impl Cells {
             error,
         } = self;
         sonic_fill(alloc, text, schema, room, wanted, error)
+    }
+
+    fn rows(&mut self, alloc: Global, lines: &[u8], paths: &[u8], before: u64) -> u32 {
+        let Cells {
+            room,
+            wanted,
+            error,
+        } = self;
+        sonic_rows(alloc, lines, paths, before, room, wanted, error)
     }
 
     // The call came to this status, and left the cells so.
@@ -298,6 +308,60 @@ fn fills(rt: HostRuntime) {
     for &(text, schema, made) in &FILLED {
         let mut cells = Cells::new();
         let status = cells.fill(rt.alloc(), text, schema);
+        cells.check(&rt, status, made);
+    }
+}
+
+// Lines, paths, how many lines come before, and what a call for the rows comes to.
+type Lined = (&'static [u8], &'static [u8], u64, Made);
+
+const LINED: [Lined; 13] = [
+    (
+        b"{\"id\":7}\n",
+        b"[\"id\"]",
+        0,
+        (OK, 4, b"1 7\n............", NONE),
+    ),
+    // The last line ends with the stream, and a blank one has no row.
+    (
+        b"\n7\n \r\n[ ]",
+        b"[]",
+        2,
+        (OK, 10, b"1 7\n3 [ ]\n......", NONE),
+    ),
+    (b"", b"[]", 0, (OK, 0, EMPTY, NONE)),
+    // Two paths, of which one lacks its key.
+    (
+        b"{\"b\":\"x\"}",
+        b"[\"a\"]\n[\"b\"]\n",
+        0,
+        (OK, 8, b"-\t3 \"x\"\n........", NONE),
+    ),
+    // No path, and no line of white space alone.
+    (b"1\n[", b"", 0, (OK, 2, b"\n\n..............", NONE)),
+    // Lines that have no answer, with their numbers.
+    (b"1\n[", b"[]", 0, (OK, 30, b"1 1\n! 2 eof EofW", NONE)),
+    (b"[", b"[]", 8, (OK, 26, b"! 9 eof EofWhile", NONE)),
+    (b"1", b"[0]", 98, (OK, 20, b"! 99 type Messag", NONE)),
+    // No paths.
+    (b"1", b"[", 0, (BAD_LINES, 9, EMPTY, FIRST)),
+    (
+        b"1",
+        b"[0]\n[\"a\"]",
+        0,
+        (BAD_LINES, 9, EMPTY, (0, 2, 0, 0)),
+    ),
+    (b"1", b"[0]\n\n[1]", 0, (BAD_LINES, 9, EMPTY, (0, 2, 0, 0))),
+    // The most lines that may come before, and one more.
+    (b" ", b"[]", u64::MAX - 2, (OK, 0, EMPTY, NONE)),
+    (b" ", b"[", u64::MAX - 1, (BAD_NUMBER, 9, EMPTY, NONE)),
+];
+
+#[test]
+fn makes_rows(rt: HostRuntime) {
+    for &(lines, paths, before, made) in &LINED {
+        let mut cells = Cells::new();
+        let status = cells.rows(rt.alloc(), lines, paths, before);
         cells.check(&rt, status, made);
     }
 }
