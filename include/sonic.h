@@ -1,8 +1,9 @@
 /* Look-ups in a JSON text (RFC 8259) that is in memory: where paths of keys and indexes lead, and what
    the values are that are found, without building the document; where all of its values are; texts that are
    made of one: without white space or over lines, with edits or with a patch (RFC 6902), and of a schema that
-   is filled from it; and rows of the lines of a stream. The calls are proved to tell what the standards say;
-   crates/sonic_c of the repository has their contracts, and sonic(3) an example.
+   is filled from it; and rows of the lines of a stream. The calls are proved to tell what the standards say, and
+   where one goes another way, it is said with it; crates/sonic_c of the repository has their contracts, and
+   sonic(3) an example.
 
    What C has to uphold, as no call can check it:
    - A pointer is null only where its length is 0, which is taken as "": that is tested, as what is
@@ -116,7 +117,8 @@ enum {
   SONIC_ARRAY = 5
 };
 
-/* Whether the text is one value in UTF-8 with nothing but white space round it.
+/* Whether the text is one value in UTF-8 with nothing but white space round it. A string in which an escape is
+   half of a surrogate pair alone is refused, as it denotes no text (RFC 7493, section 2.1).
 
    SONIC_OK: it is, and begins as the calls without a second look ask for.
    SONIC_DOCUMENT_ERROR: it isn't, and *error says why, and where.
@@ -275,8 +277,9 @@ uint32_t sonic_indent(const uint8_t *json, size_t json_length, size_t width, uin
 
 /* The document with a patch (RFC 6902): the operations are made in order, all of them or none. What no
    operation changes keeps its text; the arrays and objects on the way to a change are written without white
-   space. Of equal keys the first counts. A pointer has at most 255 tokens. A test compares members in any
-   order, and numbers by their digits, so that 1 and 1.0 differ. To remove the whole document leaves null. It
+   space, and their keys with as few escapes as may be. Of equal keys the first counts. A pointer has at most 255
+   tokens. A test compares all members, repeated ones too, in any order, and numbers by their digits, so that 1
+   and 1.0 differ, which are equal to the standard. To remove the whole document leaves null. It
    is no longer than the document, the patch and the values that are copied together.
 
    SONIC_BAD_PATCH, SONIC_BAD_OPERATION: the patch is none, whatever the document is.
@@ -287,14 +290,16 @@ uint32_t sonic_patch(const uint8_t *json, size_t json_length, const uint8_t *pat
 
 /* The document with edits, all of them or none. There is an edit on each line, and no blank line among them:
    ["set",PATH,VALUE] puts a value where a path leads, ["push",PATH,VALUE] after the last element of the array
-   there, ["pair",PATH,KEY,VALUE] after the last member of the object there, and ["take",PATH] puts null. A
-   path is as for sonic_get. What no edit changes keeps its text; the arrays and objects on the way to a
-   change, and one to which is added, are written without white space. It is no longer than the document and
+   there, ["pair",PATH,KEY,VALUE] after the last member of the object there, also where it has the key already,
+   of which the first counts then, and ["take",PATH] puts null. A path is as for sonic_get. What no edit changes
+   keeps its text; the arrays and objects on the way to a change, and one to which is added, are written without
+   white space, and their keys with as few escapes as may be. It is no longer than the document and
    the edits together.
 
    SONIC_BAD_LINES: a line says no edit, or is blank with more after it, whatever the document is.
    SONIC_DOCUMENT_ERROR: each line says one, and the document is none.
-   SONIC_EDIT_REFUSED: the first edit that isn't made. */
+   SONIC_EDIT_REFUSED: the first edit that isn't made. Which value its path comes to, sonic_get tells in the text
+   that the edits before it make. */
 uint32_t sonic_edit(const uint8_t *json, size_t json_length, const uint8_t *edits, size_t edits_length,
                     uint8_t *room, size_t room_length, size_t *wanted, sonic_error *error);
 
@@ -318,13 +323,16 @@ uint32_t sonic_fill(const uint8_t *json, size_t json_length, const uint8_t *sche
    sonic_get_many. As many bytes of the rows as the room takes are written to its start, as of the texts above;
    *wanted is how many there are.
 
-   A line of white space alone counts, and has no row. Else it has one, which ends with a line feed: for each
-   path the length of the value's text in bytes, a blank and that text, or - where an object lacks the path's
-   key, with a tab between two of them; the text of an array or an object may have tabs in it too, so its length
-   says where it ends. Or, of a line that is broken or in which a path leads nowhere, ! NUMBER WORD CODE OFFSET:
-   the number of the line, from 1, the words of the error's family and of its code, and its offset in the line,
-   from 0. So with the path ["id"] the lines {"id":7} and { have the rows "1 7" and
-   "! 2 eof EofWhileParsing 0". No error of a line is a status.
+   A line is read as by sonic_get_many, no further than its paths need, so that what is broken behind that isn't
+   seen; where each line is to be whole, sonic_validate tells it. A line of white space alone counts, and has no
+   row. Else it has one, which ends with a line feed: for each path the length of the value's text in bytes, a
+   blank and that text, or - where an object with members lacks the path's key, with a tab between two of them;
+   the text of an array or an object may have tabs in it too, so its length says where it ends. Or, of a line
+   that is broken or in which a path leads nowhere otherwise, ! NUMBER WORD CODE OFFSET: the number of the line,
+   from 1; the family of the error, which is syntax, eof, not-found, or type where a value isn't the object or
+   the array that a path asks for; the name of its code; and its offset in the line, from 0. So with the path
+   ["id"] the lines {"id":7} and { have the rows "1 7" and "! 2 eof EofWhileParsing 0". No error of a line is a
+   status.
 
    SONIC_BAD_LINES: a line says no path, as for sonic_get_many.
    SONIC_BAD_NUMBER: lines_before and lines_length together are 2^64 - 1 or more, whatever else is given;
@@ -341,7 +349,9 @@ uint32_t sonic_rows(const uint8_t *lines, size_t lines_length, const uint8_t *pa
 size_t sonic_code_text(uint32_t code, uint8_t *room, size_t room_length);
 
 /* The codes of errors. One of the text is at the first byte that doesn't fit, or at the last byte where
-   the text ends before it; one of a path at the last byte of the value where it leads no further. */
+   the text ends before it; of a text that is wrong in both ways, what the grammar refuses is told before bytes
+   that aren't UTF-8, but by sonic_items_begin. One of a path is at the last byte of the value where it leads no
+   further. A line ends with a line feed alone, and columns count bytes. */
 enum {
   /* The text ends inside a value, or before one that is expected. */
   SONIC_CODE_EOF_WHILE_PARSING = 3,

@@ -52,11 +52,25 @@ pub struct Fault {
     pub offset: usize,
 }
 
-/// The number of what is wrong; `Display` has its words.
+/// The number of what is wrong; `Display` has its words, and `Debug` its name where it has one.
 ///
 /// A value of another type than the path asks for is `MISMATCH + 10 * found + wanted`, as `sonic.h` says.
-#[derive(Clone, Copy, Debug, PartialEq, Eq, PartialOrd, Ord, Hash)]
+///
+/// ```
+/// use sonic::Code;
+/// assert_eq!(format!("{:?} {:?}", Code::INVALID_UTF8, Code(131)), "INVALID_UTF8 Code(131)");
+/// ```
+#[derive(Clone, Copy, PartialEq, Eq, PartialOrd, Ord, Hash)]
 pub struct Code(pub u32);
+
+impl fmt::Debug for Code {
+    fn fmt(&self, to: &mut fmt::Formatter<'_>) -> fmt::Result {
+        match Code::NAMED.iter().find(|(_, code)| code == self) {
+            Some((name, _)) => to.write_str(name),
+            None => to.debug_tuple("Code").field(&self.0).finish(),
+        }
+    }
+}
 
 /// What kind of error a code is.
 #[derive(Clone, Copy, Debug, PartialEq, Eq, Hash)]

@@ -121,7 +121,8 @@ pub fn indent<T: Text + ?Sized>(json: &T, width: usize) -> Result<String, Error>
 }
 
 /// The document with a JSON Patch (RFC 6902), of which all operations are made or none. What no operation
-/// changes keeps its text.
+/// changes keeps its text; the arrays and objects on the way to a change are written without white space, and
+/// their keys with as few escapes as may be.
 ///
 /// A test compares numbers by their digits, so that `1` and `1.0` differ; to remove the whole document leaves
 /// `null`; a pointer has at most 255 tokens.
@@ -141,11 +142,12 @@ pub fn patch<T: Text + ?Sized, P: Text + ?Sized>(json: &T, patch: &P) -> Result<
     changed(raw::sonic_patch, json, patch)
 }
 
-/// The document with edits, all of them or none, one on each line. What no edit changes keeps its text.
+/// The document with edits, all of them or none, one on each line. What no edit changes keeps its text; the arrays
+/// and objects on the way to a change are written without white space, and their keys with as few escapes as may be.
 ///
 /// `["set",PATH,VALUE]` puts a value where a [path](crate::Path) leads, `["push",PATH,VALUE]` after the last
-/// element of the array there, `["pair",PATH,KEY,VALUE]` after the last member of the object there, and
-/// `["take",PATH]` puts `null`.
+/// element of the array there, `["pair",PATH,KEY,VALUE]` after the last member of the object there, also where it
+/// has the key already, of which the first counts then, and `["take",PATH]` puts `null`.
 ///
 /// It is an [`Error::BadEdit`] where a line says no edit, an [`Error::EditRefused`] where an edit isn't made, and
 /// an [`Error::Document`] as of [`minify`].

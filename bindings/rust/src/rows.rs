@@ -7,13 +7,17 @@ use crate::{raw, Paths, Text};
 /// The rows of lines, each of which is read by itself, as a log has a JSON text in each: what the paths lead to
 /// in it. So many lines come `before` the first.
 ///
+/// Each is read no further than its paths need: what is broken behind that isn't seen, so
+/// [`validate`](crate::validate) each line that is to be whole.
+///
 /// A line ends with a line feed, and the last one also with the text. One of white space alone counts, and has no
 /// row. Each other has one, which ends with a line feed:
 ///
-/// - for each path the length of the value's text in bytes, a blank and that text, or `-` where an object lacks
-///   the path's key, with a tab between two of them;
-/// - or, of a line that is broken or in which a path leads nowhere, `! NUMBER WORD CODE OFFSET`: the number of
-///   the line from 1, the word of the error's family, the name of its code, and its offset in the line from 0.
+/// - for each path the length of the value's text in bytes, a blank and that text, or `-` where an object with
+///   members lacks the path's key, with a tab between two of them;
+/// - or, of a line that is broken or in which a path leads nowhere otherwise, `! NUMBER WORD CODE OFFSET`: the
+///   number of the line from 1; the error's family, which is `syntax`, `eof`, `not-found` or `type`; the name of
+///   its code; and its offset in the line from 0.
 ///
 /// So no error of a line is one of the call, which is an [`Error::BadNumber`] where too many lines come before.
 ///

@@ -74,7 +74,8 @@ def indent(document: Union[str, Buffer], width: int) -> bytes:
 
 def patch(document: Union[str, Buffer], patch: Union[str, Buffer]) -> bytes:
     """The document with a JSON Patch (RFC 6902), of which all operations are made or none. What no operation changes
-    keeps its text. A test compares numbers by their digits, so that 1 and 1.0 differ; to remove the whole document
+    keeps its text; the arrays and objects on the way to a change are written without white space, and their keys with
+    as few escapes as may be. A test compares numbers by their digits, so that 1 and 1.0 differ; to remove the whole document
     leaves null; a pointer has at most 255 tokens.
 
     Raises PatchError where the patch is none, or an operation isn't made, and BrokenText as `minify` does.
@@ -91,7 +92,9 @@ def patch(document: Union[str, Buffer], patch: Union[str, Buffer]) -> bytes:
 def edit(document: Union[str, Buffer], edits: Union[str, Buffer]) -> bytes:
     r"""The document with edits, all of them or none. There is one on each line, as JSON: ["set", PATH, VALUE] puts a
     value where a path leads, ["push", PATH, VALUE] after the last element of the array there, ["pair", PATH, KEY, VALUE]
-    after the last member of the object there, and ["take", PATH] puts null. What no edit changes keeps its text.
+    after the last member of the object there, also where it has the key already, and ["take", PATH] puts null. What no
+    edit changes keeps its text; the arrays and objects on the way to a change are written without white space, and
+    their keys with as few escapes as may be.
 
     Raises EditError where a line says no edit, or an edit isn't made, and BrokenText as `minify` does.
 

@@ -15,7 +15,8 @@ if TYPE_CHECKING:
 
 def rows(lines: Union[str, Buffer], paths: Union[Paths, Iterable[Path]], before: int = 0) -> bytes:
     r"""The rows of lines, each of which is read by itself, as a log has a JSON text in each: what the paths lead to in it.
-    A line ends with a line feed, and the last one also with the text. So many lines come `before` the first.
+    A line ends with a line feed, and the last one also with the text. So many lines come `before` the first. Each is read
+    no further than its paths need: what is broken behind that isn't seen, so `validate` each line that is to be whole.
 
     A line of white space alone has no row. Else it has one, which ends with a line feed: for each path the length of the
     value's text in bytes, a blank and that text, or - where an object with members lacks the path's key, with a tab between
