@@ -724,9 +724,18 @@ fn check_rules(
     Ok(())
 }
 
+// Each test goes over half of the lists, so that a slow machine ends it in its time.
 #[test]
 fn answers_all_texts_of_few_tokens_under_each_rule(rt: HostRuntime) -> Result<(), Fail> {
-    for &paths in &RULED {
+    for &paths in &RULED[..2] {
+        check_rules(&rt, rt.alloc(), &TOKENS, paths)?;
+    }
+    Ok(())
+}
+
+#[test]
+fn answers_all_texts_of_few_tokens_with_indexes(rt: HostRuntime) -> Result<(), Fail> {
+    for &paths in &RULED[2..] {
         check_rules(&rt, rt.alloc(), &TOKENS, paths)?;
     }
     Ok(())
@@ -734,7 +743,15 @@ fn answers_all_texts_of_few_tokens_under_each_rule(rt: HostRuntime) -> Result<()
 
 #[test]
 fn answers_all_texts_of_few_members_under_each_rule(rt: HostRuntime) -> Result<(), Fail> {
-    for &paths in &RULED {
+    for &paths in &RULED[..2] {
+        check_rules(&rt, rt.alloc(), &MEMBERS, paths)?;
+    }
+    Ok(())
+}
+
+#[test]
+fn answers_all_texts_of_few_members_with_indexes(rt: HostRuntime) -> Result<(), Fail> {
+    for &paths in &RULED[2..] {
         check_rules(&rt, rt.alloc(), &MEMBERS, paths)?;
     }
     Ok(())
@@ -742,7 +759,15 @@ fn answers_all_texts_of_few_members_under_each_rule(rt: HostRuntime) -> Result<(
 
 #[test]
 fn answers_all_texts_of_few_values_under_each_rule(rt: HostRuntime) -> Result<(), Fail> {
-    for &paths in &BELOW {
+    for &paths in &BELOW[..2] {
+        check_rules(&rt, rt.alloc(), &VALUES, paths)?;
+    }
+    Ok(())
+}
+
+#[test]
+fn answers_all_texts_of_few_values_with_indexes(rt: HostRuntime) -> Result<(), Fail> {
+    for &paths in &BELOW[2..] {
         check_rules(&rt, rt.alloc(), &VALUES, paths)?;
     }
     Ok(())
