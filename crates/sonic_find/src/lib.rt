@@ -45,6 +45,6 @@ pub use law::{
 pub use located::Located;
 pub use many_unchecked::{find_many_unchecked, with_status};
 pub use path::{locate, locate_from};
-pub use room::{Room, fill_room, find_many_in};
+pub use room::{Room, fill_room, find_many_by, find_many_in};
 pub use span::Span;
 pub use steps::Steps;

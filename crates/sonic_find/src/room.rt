@@ -4,8 +4,8 @@ ghost use Rattle.sonic_error.specs.Errors.{IsPlainError};
 ghost use Rattle.sonic_text.specs.Strings.{strict};
 ghost use Rattle.sonic_parser.specs.Faults.{IsErrorOf, IsStopFor};
 ghost use Rattle.sonic_parser.specs.Honest.{IsHonest};
-ghost use Rattle.sonic_find.specs.Answers.{IsAnswer, Answer};
-ghost use Rattle.sonic_find.specs.Causes.{IsAnswerable, IsRefusal};
+ghost use Rattle.sonic_find.specs.Answers.{IsAnswer, IsAnswerBy, Answer};
+ghost use Rattle.sonic_find.specs.Causes.{IsAnswerable, IsAnswerableBy, IsRefusal, IsRefusalBy};
 ghost use Rattle.sonic_find.specs.Internal.Located.{slot_at};
 ghost use Rattle.sonic_find.specs.Parts.{AreSpans};
 ghost use Rattle.sonic_find.specs.Spans.{pairs_of};
@@ -83,7 +83,6 @@ impl Room {
 ///
 /// With the paths `["a", 1]` and `["z"]` over `{"a":[1,2]}` the room holds the span from 8 to 9 and
 /// `None`.
-#[inline(always)]
 pub fn find_many_in<'de, I: JsonInput<'de>>(
     alloc: Global,
     room: &mut Room,
@@ -99,15 +98,38 @@ pub fn find_many_in<'de, I: JsonInput<'de>>(
         → IfErr result (λ error. IsPlainError error ErrorCode.NoMemory) }
     ensures honest { IfErr result (IsHonest strict (I.JsonInput.content json) 0) }
 {
+    find_many_by(alloc, room, json, tree, KeyRule::First)
+}
+
+/// The same under a rule for equal keys.
+///
+/// With the path `["a"]` over `{"a":1,"a":2}` the room holds the span from 5 to 6 by `First`, and that
+/// from 11 to 12 by `Last`.
+pub fn find_many_by<'de, I: JsonInput<'de>>(
+    alloc: Global,
+    room: &mut Room,
+    json: I,
+    tree: &PointerTree,
+    rule: KeyRule,
+) -> Result<(), Error>
+    ensures ok { OnOk result (IsAnswerBy rule (I.JsonInput.content json) I.JsonInput.is_bytes tree.now
+        (Answer.spans (pairs_of room.new))) }
+    ensures parts { OnOk result (AreSpans (I.JsonInput.content json) room.new) }
+    ensures err { IfErr result (IsRefusalBy rule (I.JsonInput.content json) I.JsonInput.is_bytes tree.now) }
+    ensures cleared { OnErr result (room.new ≡ []) }
+    ensures complete { IsAnswerableBy rule (I.JsonInput.content json) I.JsonInput.is_bytes tree.now
+        → IfErr result (λ error. IsPlainError error ErrorCode.NoMemory) }
+    ensures honest { IfErr result (IsHonest strict (I.JsonInput.content json) 0) }
+{
     let text = json.to_u8_slice();
-    match fill_room(alloc, room, json, tree) {
+    match fill_by(alloc, room, json, tree, rule) {
         Ok(()) => Ok(()),
         Err(fault) => Err(fault.error(text)),
     }
 }
 
-/// The same with the fault that the error would report, for whom its place and code suffice: neither
-/// line nor column is counted.
+/// What [`find_many_in`] finds, or the fault that its error would report, for whom its place and code
+/// suffice: neither line nor column is counted.
 ///
 /// With the path `["a"]` over `{"a":tru}` it is `Fault::At` 8, with `ErrorCode::InvalidLiteral`.
 #[inline(always)]
@@ -127,5 +149,27 @@ pub fn fill_room<'de, I: JsonInput<'de>>(
     ensures complete { IsAnswerable (I.JsonInput.content json) I.JsonInput.is_bytes tree.now
         → IfErr result (λ fault. fault ≡ Fault.OutOfMemory) }
 {
-    locate_in(alloc, &mut room.memory, json, tree, KeyRule::First)
+    fill_by(alloc, room, json, tree, KeyRule::First)
+}
+
+// The same under a rule for equal keys.
+#[inline(always)]
+fn fill_by<'de, I: JsonInput<'de>>(
+    alloc: Global,
+    room: &mut Room,
+    json: I,
+    tree: &PointerTree,
+    rule: KeyRule,
+) -> Result<(), Fault>
+    ensures ok { OnOk result (IsAnswerBy rule (I.JsonInput.content json) I.JsonInput.is_bytes tree.now
+        (Answer.spans (pairs_of room.new))) }
+    ensures parts { OnOk result (AreSpans (I.JsonInput.content json) room.new) }
+    ensures err { IfErr result (λ fault. (error : Error) → IsErrorOf (I.JsonInput.content json) fault error
+        → IsRefusalBy rule (I.JsonInput.content json) I.JsonInput.is_bytes tree.now error) }
+    ensures within { IfErr result (IsStopFor (λ s. s.place ≤ length (I.JsonInput.content json))) }
+    ensures cleared { OnErr result (room.new ≡ []) }
+    ensures complete { IsAnswerableBy rule (I.JsonInput.content json) I.JsonInput.is_bytes tree.now
+        → IfErr result (λ fault. fault ≡ Fault.OutOfMemory) }
+{
+    locate_in(alloc, &mut room.memory, json, tree, rule)
 }

@@ -1,7 +1,7 @@
 // A path more in a tree: all memory is taken before anything changes.
-ghost use Rattle.std.specs.Prelude.{◌≡◌, ◌+◌, ◌-◌, ◌^◌, ◌<◌, ◌≤◌, ◌∷◌, ◌++◌, [], IfOk, OnOk, OnErr, length, set, vec_len, vec_capacity};
+ghost use Rattle.std.specs.Prelude.{◌≡◌, ◌+◌, ◌-◌, ◌<◌, ◌≤◌, ◌∷◌, ◌++◌, [], OnOk, OnErr, length, set, vec_len, vec_capacity};
 ghost use Rattle.sonic_pointer.specs.Paths.{IsShort};
-ghost use Rattle.sonic_pointer.specs.Internal.Tries.{entry_at, with_order, with_child, IsChain, IsTree};
+ghost use Rattle.sonic_pointer.specs.Internal.Tries.{entry_at, with_order, with_child, HasChain, IsTree};
 ghost use Rattle.sonic_pointer.specs.Internal.TrieFields.{kept_entries, entries_of, IsInsertionPoint, Branches};
 
 use crate::owned::OwnedPath;
@@ -31,24 +31,17 @@ impl Parts {
     }
 }
 
-// The new vertices of a path with this length, below the depth where it leaves the tree.
-fn chain(
-    alloc: Global,
-    number: usize,
-    first: usize,
-    depth: usize,
-    len: usize,
-) -> Result<Vec<Vertex>, AllocError>
+// Appends the new vertices of a path with this length, below the depth where it leaves the tree.
+fn push_chain(alloc: Global, vertices: &mut Vec<Vertex>, number: usize, depth: usize, len: usize)
     requires short { depth < len }
-    requires fits { first + (len - depth) < 2 ^ 64 }
-    ensures { IfOk result (λ made. IsChain number first depth (len - depth) made.items) }
+    requires room { vec_len vertices.old + (len - depth) ≤ vec_capacity vertices.old }
+    ensures { HasChain number depth (len - depth) vertices.old.items vertices.new.items }
 {
-    let mut made = Vec::new(alloc);
-    for j in 1..len - depth {
-        made.push(Vertex::with_child(alloc, number, depth + j, first + j)?)?;
+    for above in depth + 1..len {
+        let child = vertices.len() + 2;
+        vertices.push_reserved(Vertex::with_child(alloc, number, above, child));
     }
-    made.push(Vertex::with_order(alloc, number, len)?)?;
-    Ok(made)
+    vertices.push_reserved(Vertex::with_order(alloc, number, len));
 }
 
 // One more path ends at the vertex with this number.
@@ -136,10 +129,10 @@ fn branch_path(
         position,
     } = point;
     parts.vertices.reserve(len - depth)?;
-    let mut added = chain(alloc, number, first, depth, len)?;
     add_child(&mut parts.root, &mut parts.vertices, at, position, first)?;
+    push_chain(alloc, &mut parts.vertices, number, depth, len);
     parts.paths.push_reserved(path);
-    parts.vertices.append(&mut added)
+    Ok(())
 }
 
 // Appends the path, which leaves the tree here; out of memory, nothing changes.

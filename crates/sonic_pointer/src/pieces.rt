@@ -1,10 +1,14 @@
 // Lists of numbers that grow at any position.
-ghost use Rattle.std.specs.Prelude.{◌≡◌, ◌+◌, ◌^◌, ◌<◌, ◌≤◌, [], ◌++◌, IfSome, OnOk, OnErr, length, map, take, drop, slice_get};
+ghost use Rattle.std.specs.Prelude.{◌≡◌, ◌+◌, ◌^◌, ◌<◌, ◌≤◌, ◌∷◌, [], ◌++◌, IfSome, OnOk, OnErr, length, map, take, drop, slice_get};
 ghost use Rattle.std.specs.List.{All, insert};
 ghost use Rattle.sonic_pointer.specs.Internal.Pieces.{numbers_of, raised, AreStarts, IsHolder};
 
+use smallvec::SmallVec;
 use std::alloc::{AllocError, Global};
 use std::marker::Model;
+
+// So many numbers stand in the list itself, and take no memory of their own.
+pub(crate) const INLINE: usize = 2;
 
 // A piece with so many numbers is split in halves before it grows.
 pub(crate) const FULL: usize = 4096;
@@ -20,7 +24,7 @@ struct Piece {
 // position moves few others: a first piece, which is all of a short list, and those after it.
 #[derive(Debug, Drop)]
 pub(crate) struct Pieces {
-    first: Vec<usize>,
+    first: SmallVec<usize, INLINE>,
     more: Vec<Piece>,
 }
 
@@ -42,7 +46,19 @@ impl Pieces {
         ensures { result ≡ [] }
     {
         Pieces {
-            first: Vec::new(alloc),
+            first: SmallVec::new(alloc),
+            more: Vec::new(alloc),
+        }
+    }
+
+    // The list of this number. It takes no memory.
+    pub(crate) fn of_one(alloc: Global, number: usize) -> Pieces
+        ensures { result ≡ number ∷ [] }
+    {
+        let mut first = SmallVec::new(alloc);
+        first.push_reserved(number);
+        Pieces {
+            first,
             more: Vec::new(alloc),
         }
     }
@@ -60,10 +76,11 @@ impl Pieces {
         requires { i < length self.now }
         ensures { slice_get self.now i ≡ Some result }
     {
-        if i < self.first.len() {
-            return self.first[i];
+        let first = self.first.as_slice();
+        if i < first.len() {
+            return first[i];
         }
-        let after = i - self.first.len();
+        let after = i - first.len();
         let piece = &self.more[holder(&self.more, after)];
         piece.numbers[after - piece.start]
     }
@@ -138,7 +155,7 @@ fn raise(pieces: &mut Vec<Piece>, from: usize, by: usize)
 }
 
 // The first piece, if it is full, leaves its second half to a new one.
-fn halve_first(first: &mut Vec<usize>, more: &mut Vec<Piece>) -> Result<(), AllocError>
+fn halve_first(first: &mut SmallVec<usize, INLINE>, more: &mut Vec<Piece>) -> Result<(), AllocError>
     requires starts { AreStarts 0 more.old.items }
     requires fits { length first.old.items + length (numbers_of more.old.items) < 2 ^ 64 }
     ensures starts { AreStarts 0 more.new.items }
@@ -149,7 +166,8 @@ fn halve_first(first: &mut Vec<usize>, more: &mut Vec<Piece>) -> Result<(), Allo
         return Ok(());
     }
     more.reserve(1)?;
-    let numbers = first.split_off(FULL / 2)?;
+    let numbers = Vec::from_slice(*first.allocator(), &first[FULL / 2..])?;
+    first.truncate(FULL / 2);
     let len = numbers.len();
     more.insert(0, Piece { start: 0, numbers })?;
     raise(more, 1, len);

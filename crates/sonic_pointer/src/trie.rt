@@ -60,6 +60,16 @@ impl<'t> Trie<'t> {
         if at == 0 {
             return self.root;
         }
+        self.vertex_below(at)
+    }
+
+    // The same where it isn't the root's.
+    #[inline(always)]
+    fn vertex_below(&self, at: usize) -> &'t Vertex
+        requires below { 0 < at }
+        requires inside { at < length (entries_of self.now) }
+        ensures { result.now ≡ entry_at (entries_of self.now) at }
+    {
         let vertices: &'t [Vertex] = self.vertices;
         &vertices[at - 1]
     }
@@ -71,7 +81,7 @@ impl<'t> Trie<'t> {
         requires step { (prefix : Path) × IsChildVertex (trie_spots self.now) prefix at }
         ensures { node_of result ≡ label_at (trie_spots self.now) at }
     {
-        let vertex = self.vertex(at);
+        let vertex = self.vertex_below(at);
         let paths: &'t [OwnedPath] = self.paths;
         paths[vertex.path()].node(vertex.depth() - 1)
     }
@@ -194,8 +204,10 @@ impl<'t> Trie<'t> {
         let mut at = 0;
         for depth in 0..path.len() {
             let node = path.node(depth);
-            match self.search(at, &Target::Node(node), usize::MAX) {
-                Ok(i) => at = self.children(at).get(i),
+            let children = self.children(at);
+            // The last one is looked at first, as paths often come in rising order.
+            match self.search(at, &Target::Node(node), children.len()) {
+                Ok(i) => at = children.get(i),
                 Err(position) => return self.point_at(at, depth, position, node),
             }
         }

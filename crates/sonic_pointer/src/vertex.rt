@@ -1,8 +1,9 @@
 // The vertices of a tree.
-ghost use Rattle.std.specs.Prelude.{◌≡◌, ◌+◌, ◌≤◌, ◌∷◌, ◌++◌, [], IfOk, OnOk, OnErr, length};
+ghost use Rattle.std.specs.Prelude.{◌≡◌, ◌+◌, ◌≤◌, ◌∷◌, ◌++◌, [], OnOk, OnErr, length};
 ghost use Rattle.sonic_pointer.specs.Internal.Tries.{with_order, with_child};
 
-use crate::pieces::Pieces;
+use crate::pieces::{INLINE, Pieces};
+use smallvec::SmallVec;
 use std::alloc::{AllocError, Global};
 use std::marker::Model;
 
@@ -11,7 +12,7 @@ use std::marker::Model;
 pub(crate) struct Vertex {
     path: usize,
     depth: usize,
-    orders: Vec<usize>,
+    orders: SmallVec<usize, INLINE>,
     children: Pieces,
 }
 
@@ -26,41 +27,42 @@ impl Model for Vertex {
 }
 
 impl Vertex {
-    // A vertex without orders or children.
+    // A vertex without orders or children. It takes no memory.
     pub(crate) fn new(alloc: Global, path: usize, depth: usize) -> Vertex
         ensures { result ≡ record { path = path; depth = depth; orders = []; children = [] } }
     {
         Vertex {
             path,
             depth,
-            orders: Vec::new(alloc),
+            orders: SmallVec::new(alloc),
             children: Pieces::new(alloc),
         }
     }
 
-    // A vertex with one child.
-    pub(crate) fn with_child(
-        alloc: Global,
-        path: usize,
-        depth: usize,
-        child: usize,
-    ) -> Result<Vertex, AllocError>
-        ensures { IfOk result (λ made.
-            made ≡ record { path = path; depth = depth; orders = []; children = child ∷ [] }) }
+    // A vertex with one child. It takes no memory.
+    pub(crate) fn with_child(alloc: Global, path: usize, depth: usize, child: usize) -> Vertex
+        ensures { result ≡ record { path = path; depth = depth; orders = []; children = child ∷ [] } }
     {
-        let mut vertex = Vertex::new(alloc, path, depth);
-        vertex.add_child(0, child)?;
-        Ok(vertex)
+        Vertex {
+            path,
+            depth,
+            orders: SmallVec::new(alloc),
+            children: Pieces::of_one(alloc, child),
+        }
     }
 
-    // The vertex where the path ends.
-    pub(crate) fn with_order(alloc: Global, path: usize, depth: usize) -> Result<Vertex, AllocError>
-        ensures { IfOk result (λ made.
-            made ≡ record { path = path; depth = depth; orders = path ∷ []; children = [] }) }
+    // The vertex where the path ends. It takes no memory.
+    pub(crate) fn with_order(alloc: Global, path: usize, depth: usize) -> Vertex
+        ensures { result ≡ record { path = path; depth = depth; orders = path ∷ []; children = [] } }
     {
-        let mut vertex = Vertex::new(alloc, path, depth);
-        vertex.add_order(path)?;
-        Ok(vertex)
+        let mut orders = SmallVec::new(alloc);
+        orders.push_reserved(path);
+        Vertex {
+            path,
+            depth,
+            orders,
+            children: Pieces::new(alloc),
+        }
     }
 
     pub(crate) fn path(&self) -> usize

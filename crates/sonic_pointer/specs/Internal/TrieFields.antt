@@ -1,5 +1,5 @@
 -- A kept tree as its calls read it.
-use Rattle.std.specs.Prelude.{◌≡◌, ◌≢◌, ℕ, ◌-◌, ◌<◌, ◌≤◌, List, ◌∷◌, ◌++◌, length, set, take, slice_index_or}
+use Rattle.std.specs.Prelude.{◌≡◌, ◌≢◌, ℕ, ◌-◌, ◌<◌, ◌≤◌, List, ◌∷◌, length, set, take, drop, slice_index_or}
 use Rattle.sonic_text.specs.Paths.{Node, index, Path}
 use Rattle.sonic_pointer.specs.Nodes.{is_key}
 use Rattle.sonic_pointer.specs.Paths.{HasNextNode, IsMixed}
@@ -52,6 +52,5 @@ pub record IsInsertionPoint (paths : List Path) (entries : List Entry) (path : P
 
 -- new vertices for the path that comes next follow the old ones, from a new child of the vertex where the path leaves
 pub record Branches (paths : List Path) (old new : List Entry) (point : InsertionPoint) (len : ℕ) : Type 0 where
-  pub chain : List Entry
-  pub is_chain : IsChain (length paths) (length old) point.depth (len - point.depth) chain
-  pub is : new ≡ set old point.at (with_child (entry_at old point.at) point.position (length old)) ++ chain
+  pub kept : take (length old) new ≡ set old point.at (with_child (entry_at old point.at) point.position (length old))
+  pub is_chain : IsChain (length paths) (length old) point.depth (len - point.depth) (drop (length old) new)

@@ -1,5 +1,5 @@
 -- What a tree of paths keeps: its paths, and a vertex for each of their prefixes.
-use Rattle.std.specs.Prelude.{◌≡◌, ℕ, ◌+◌, ◌-◌, ◌<◌, ◌≤◌, List, [], ◌∷◌, ◌++◌, length, map, take, slice_index_or}
+use Rattle.std.specs.Prelude.{◌≡◌, ℕ, ◌+◌, ◌-◌, ◌<◌, ◌≤◌, List, [], ◌∷◌, ◌++◌, length, map, take, drop, slice_index_or}
 use Rattle.std.specs.List.{All, AllPairs, Contains, insert}
 use Rattle.std.specs.declared.cmp.Ordering.TheVariants.{Less}
 use Rattle.sonic_text.specs.Paths.{Node, index, Path}
@@ -109,6 +109,11 @@ pub record IsChain (number first depth count : ℕ) (chain : List Entry) : Type 
   pub long : length chain ≡ count
   pub inner : (j : ℕ) → j + 1 < count → entry_at chain j ≡ record { path = number; depth = depth + j + 1; orders = []; children = (first + j + 1) ∷ [] }
   pub last : (j : ℕ) → j + 1 ≡ count → entry_at chain j ≡ record { path = number; depth = depth + j + 1; orders = number ∷ []; children = [] }
+
+-- the new vertices of a path were appended, where the root comes before the old ones
+pub record HasChain (number depth count : ℕ) (old new : List Entry) : Type 0 where
+  pub kept : take (length old) new ≡ old
+  pub is_chain : IsChain number (length old + 1) depth count (drop (length old) new)
 
 -- the paths that are kept, and the vertices
 pub record IsTree (paths : List Path) (entries : List Entry) : Type 0 where

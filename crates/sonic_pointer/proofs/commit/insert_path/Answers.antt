@@ -1,5 +1,5 @@
-use Rattle.std.proofs.Common.{◌<◌, ◌-◌, Ok, Err, Result, OnOk, OnErr, length, sym, ◌∙◌, subst, subst₂, arith}
-use Rattle.std.proofs.lemmas.List.{take_all}
+use Rattle.std.proofs.Common.{◌<◌, ◌-◌, ◌++◌, Ok, Err, Result, OnOk, OnErr, length, drop, sym, ap, ◌∙◌, subst, subst₂, arith}
+use Rattle.std.proofs.lemmas.List.{take_all, take-append-drop}
 use Rattle.sonic_pointer.specs.Internal.Tries.{IsChain, IsTree}
 use Rattle.sonic_pointer.specs.Internal.TrieFields.{kept_entries}
 use Rattle.sonic_pointer.proofs.TreeLemmas.{tree_ended, tree_branched}
@@ -30,9 +30,10 @@ returns-clause-tree c =
     let l = c.requires.point in
     let e = c.branch_path.ensures in
     let v = c.args.point in
+    let chain = drop (length E) (kept_entries c.branch_path.new.parts) in
     let short = let a = c.requires.len in let b = c.if-point-len.false in let d = l.deep in let s : v.depth < length p = omega arith in s in
     after c.branch_path.result e.paths e.vertices e.same_paths e.same_vertices
-    (λ x y. subst₂ IsTree (sym x) (sym y.is)
-    (tree_branched P E p v.at v.position v.depth y.chain c.requires.tree c.requires.short l.inside l.prefix short (l.gap short) l.unmixed
-    (subst (λ n. IsChain (length P) (length E) v.depth (n - v.depth) y.chain) c.requires.len y.is_chain)))
+    (λ x y. subst₂ IsTree (sym x) (ap (λ l. l ++ chain) (sym y.kept) ∙ take-append-drop (length E) (kept_entries c.branch_path.new.parts))
+    (tree_branched P E p v.at v.position v.depth chain c.requires.tree c.requires.short l.inside l.prefix short (l.gap short) l.unmixed
+    (subst (λ n. IsChain (length P) (length E) v.depth (n - v.depth) chain) c.requires.len y.is_chain)))
     (λ x y. subst₂ IsTree (sym x) (sym y) c.requires.tree)

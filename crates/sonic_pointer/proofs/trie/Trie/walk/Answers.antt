@@ -24,15 +24,15 @@ returns-in-Err-clause-ok c =
 pub loop-depth-preserved : goal.loop-depth-preserved
 loop-depth-preserved c =
     let i = c.loop-depth.invariant in
-    let s = step_down c.args.self.now c.loop-depth.at c.in-Ok.i c.get-at.result c.loop-depth.depth (steps_of c.args.path.now) c.children.result.now c.children.ensures c.get-at.ensures i.prefix (omega arith)
+    let s = step_down c.args.self.now c.loop-depth.at c.in-Ok.i c.get-at.result c.loop-depth.depth (steps_of c.args.path.now) c.children-children.result.now c.children-children.ensures c.get-at.ensures i.prefix (omega arith)
     (c.in-Ok.ensures.found _ (sym c.node-node.ensures)) in
     record { inside = s.0; prefix = s.1 }
 
 pub returns-clause-ok : goal.returns-clause-ok
 returns-clause-ok c =
     let i = c.loop-depth.invariant in
-    let all = c.len.ensures in
+    let all = c.len-2.ensures in
     let bound = c.len-depth-end.ensures in
-    let end : c.loop-depth.depth ≡ c.len.result = omega (arith, all, bound) in
+    let end : c.loop-depth.depth ≡ c.len-2.result = omega (arith, all, bound) in
     subst (λ d. IsInsertionPoint c.args.self.now.paths.now (entries_of c.args.self.now) (steps_of c.args.path.now) (record { at = c.loop-depth.at; depth = d; position = 0 })) end
     (ending_here c.args.self.now c.loop-depth.at c.loop-depth.depth (steps_of c.args.path.now) c.requires i.inside i.prefix (omega (arith, all, bound)))

@@ -1,6 +1,6 @@
 use Rattle.sonic_find.proofs.AnswerLemmas.Cause.{only_memory}
 use Rattle.sonic_find.proofs.HonestLemmas.{honest_of_refusal}
-use Rattle.sonic_find.proofs.room.find_many_in.Goals as goal
+use Rattle.sonic_find.proofs.room.find_many_by.Goals as goal
 
 pub returns-in-Err-clause-err : goal.returns-in-Err-clause-err
 returns-in-Err-clause-err g c = c.in-Err.ensures.err c.error.result (rw c.to_u8_slice-text.ensures.bytes at c.error.ensures)
