@@ -117,6 +117,19 @@ int main(int count, char **words) {
     measure(length, documents, "sonic_get_many, of no document", [&](size_t) {
       return size_t(sonic_get_many(nullptr, 0, bytes(LINES), sizeof LINES - 1, spans, 3, &error) == SONIC_DOCUMENT_ERROR);
     });
+    sonic_paths paths = SONIC_NO_PATHS;
+    if (sonic_paths_new(bytes(LINES), sizeof LINES - 1, SONIC_KEYS_FIRST, &paths, &error) != SONIC_OK) return 1;
+    using With = uint32_t (*)(const uint8_t *, size_t, sonic_paths *, sonic_span *, size_t, sonic_error *);
+    auto with = [&](With call, size_t i) {
+      if (call(bytes(texts[i]), texts[i].size(), &paths, spans, 3, &error) != SONIC_OK) return size_t(0);
+      return sizes();
+    };
+    measure(length, documents, "sonic_get_many_with", [&](size_t i) { return with(sonic_get_many_with, i); });
+    measure(length, documents, "sonic_get_many_with_unchecked", [&](size_t i) { return with(sonic_get_many_with_unchecked, i); });
+    measure(length, documents, "sonic_get_many_with, of no document", [&](size_t) {
+      return size_t(sonic_get_many_with(nullptr, 0, &paths, spans, 3, &error) == SONIC_DOCUMENT_ERROR);
+    });
+    sonic_paths_free(&paths);
 #ifdef YYJSON
     measure(length, documents, "yyjson, read and three pointers", [&](size_t i) { return yyjson_three(texts[i]); });
 #endif

@@ -12,17 +12,18 @@
    - What is written to, as *span, spans, entries, *error and room, is initialised, and overlaps nothing else
      that is given.
    - Nobody writes to the text, the lines, the paths, the edits, the patch or the schema while a call runs.
-   - sonic_get_unchecked and sonic_get_many_unchecked are called only for a text that sonic_validate
-     took, or of which it is known otherwise that it begins with a value in UTF-8.
+   - sonic_get_unchecked, sonic_get_many_unchecked and sonic_get_many_with_unchecked are called only for a
+     text that sonic_validate took, or of which it is known otherwise that it begins with a value in UTF-8.
+   - A sonic_paths is SONIC_NO_PATHS, or what the last call with it left.
    - No call is made from a signal handler.
 
-   Ownership: all memory that is given stays the caller's. No call keeps a pointer, and nothing that a
-   call gives is to be freed: spans are places in the caller's text, a cursor is the caller's, and so is the
-   room for a text or for entries.
-   Memory: where a call takes any, it does so by malloc, and gives it back before it returns; which take
-   none is said with them.
-   Threads: nothing is kept between calls, so any number of threads may call at once, also for one text,
-   a cursor or a room for each.
+   Ownership: all memory that is given stays the caller's. No call keeps a pointer to it, and nothing that a
+   call gives is to be freed but paths that are kept, by sonic_paths_free: spans are places in the caller's
+   text, a cursor is the caller's, and so is the room for a text or for entries.
+   Memory: where a call takes any, it does so by malloc, and gives it back before it returns, but for what
+   is kept in a sonic_paths; which take none is said with them.
+   Threads: nothing else is kept between calls, so any number of threads may call at once, also for one text,
+   a cursor, a room or a sonic_paths for each.
    Stack: 128 KiB, which is what musl gives a thread, were measured to be enough for each call, with paths of
    255 nodes and pointers of 255 tokens; how deep the text is plays no part in it.
    Limits: a path has at most 255 nodes, a pointer 255 tokens, and an index is below 2^64. How long or deep a
@@ -104,7 +105,9 @@ enum {
      in *error is 0. */
   SONIC_BAD_SCHEMA = 18,
   /* Too many lines are said to come before. */
-  SONIC_BAD_NUMBER = 19
+  SONIC_BAD_NUMBER = 19,
+  /* The number says no rule for equal keys. */
+  SONIC_BAD_RULE = 20
 };
 
 /* The types of values. */
@@ -162,6 +165,55 @@ uint32_t sonic_get_many(const uint8_t *json, size_t json_length, const uint8_t *
 uint32_t sonic_get_many_unchecked(const uint8_t *json, size_t json_length, const uint8_t *paths,
                                   size_t paths_length, sonic_span *spans, size_t span_count,
                                   sonic_error *error);
+
+/* Paths that are kept from call to call, so that their lines are read once, with the room that a walk along
+   them takes, which the next walk uses again. It begins as SONIC_NO_PATHS says. Only the four calls below write
+   to it, and it isn't copied to be used twice; count may be read. What is kept changes while a call runs, so one
+   call at a time takes a sonic_paths, and a program that asks from many threads makes one for each. Nothing in it
+   knows its thread; that it may go to another, by a lock or the like, is tested and not proved. */
+typedef struct sonic_paths {
+  void *kept;
+  size_t held;
+  /* How many paths there are: as many spans are wanted. */
+  size_t count;
+} sonic_paths;
+
+/* No paths, which take no memory: sonic_paths paths = SONIC_NO_PATHS; */
+#define SONIC_NO_PATHS {0, 0, 0}
+
+/* Which member counts where several members of one object have a key of a path: the first one, as for the calls
+   above; the last one; or none, so that a second one is an error where it begins. Keys are equal as texts,
+   with their escapes undone. Under the last two an object in which a key is looked for is read to its end. */
+enum {
+  SONIC_KEYS_FIRST = 0,
+  SONIC_KEYS_LAST = 1,
+  SONIC_KEYS_REFUSE = 2
+};
+
+/* Keeps the paths that the lines say, those of sonic_get_many, for walks under a rule, one of SONIC_KEYS_...
+   What was kept before is given back, and is kept on where the status isn't SONIC_OK.
+
+   SONIC_OK: the paths are kept, in memory that sonic_paths_free gives back.
+   SONIC_BAD_LINES: a line is no path, is blank with more after it, or doesn't go with one before it.
+   SONIC_BAD_RULE, and *error is left as it was.
+   SONIC_NO_MEMORY. */
+uint32_t sonic_paths_new(const uint8_t *lines, size_t lines_length, uint32_t rule, sonic_paths *paths,
+                         sonic_error *error);
+
+/* Gives back what is kept, so that *paths is SONIC_NO_PATHS; that may be freed too, and kept in again. */
+void sonic_paths_free(sonic_paths *paths);
+
+/* What sonic_get_many tells of the lines of the paths that are kept, under their rule, with its statuses but
+   SONIC_BAD_LINES, whatever was told of another text before. It takes memory only where it needs more than
+   each call before it with these paths did. Whatever the status is, the paths are kept. */
+uint32_t sonic_get_many_with(const uint8_t *json, size_t json_length, sonic_paths *paths, sonic_span *spans,
+                             size_t span_count, sonic_error *error);
+
+/* The same, with the same statuses, of a text that is known to begin with a value in UTF-8: under
+   SONIC_KEYS_FIRST a walk for each path without a second look, which is faster for a few, and takes no
+   memory; under another rule it is sonic_get_many_with. */
+uint32_t sonic_get_many_with_unchecked(const uint8_t *json, size_t json_length, sonic_paths *paths,
+                                       sonic_span *spans, size_t span_count, sonic_error *error);
 
 /* What a value is: the calls from here to sonic_items_next take the text of one value, as json + span.start
    of the length span.end - span.start, or a whole document. White space round it plays no part. A text is

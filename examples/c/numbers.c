@@ -52,7 +52,7 @@ static const row rows[] = {
     {CODE(GET_IN_EMPTY_ARRAY), "Get value from an empty array", "\n []", "[0]", 3},
     {CODE(GET_INDEX_OUT_OF_ARRAY), "Get index out of the array", "\n [1]", "[1]", 4},
     {CODE(INVALID_SURROGATE_UNICODE_CODE_POINT), "Invalid surrogate Unicode code point", "\n \"\\ud800x\"", NULL, 9},
-    /* No call refuses a key that comes twice, so there is no text for this one. */
+    /* Paths that are kept alone refuse a key that comes twice: `check_kept` comes to it. */
     {CODE(DUPLICATE_KEY), "Duplicate key in the object", NULL, NULL, 0},
     {MISMATCH(0, 0), "invalid type: null, expected a JSON object", "\n null", "[\"a\"]", 5},
     {MISMATCH(0, 1), "invalid type: null, expected a JSON array", "\n null", "[0]", 5},
@@ -254,6 +254,32 @@ static void check_lists(void) {
   printf("status %u: 2^64 - 4 lines before\n", status);
 }
 
+/* Each rule for equal keys, and what only paths that are kept come to. */
+static void check_kept(void) {
+  static const char json[] = "{\"k\":1,\"k\":2}";
+  static const struct { uint32_t rule, status; size_t start; } rules[] = {
+      {SONIC_KEYS_FIRST, SONIC_OK, 5}, {SONIC_KEYS_LAST, SONIC_OK, 11}, {SONIC_KEYS_REFUSE, SONIC_DOCUMENT_ERROR, 91}};
+  sonic_paths paths = SONIC_NO_PATHS;
+  sonic_error error = {93, 94, 95, 96};
+  for (size_t i = 0; i < sizeof rules / sizeof *rules; i++) {
+    sonic_span span = {91, 92};
+    check(sonic_paths_new(bytes("[\"k\"]"), 5, rules[i].rule, &paths, &error) == SONIC_OK && paths.count == 1, "OK", "sonic_paths_new");
+    check(is_error(&error, 93, 94, 95, 96), "the error", "sonic_paths_new");
+    check(sonic_get_many_with(bytes(json), strlen(json), &paths, &span, 1, &error) == rules[i].status && span.start == rules[i].start,
+          "a rule", "sonic_get_many_with");
+  }
+  check(is_error(&error, SONIC_CODE_DUPLICATE_KEY, 1, 8, 7), "DUPLICATE_KEY", "sonic_get_many_with");
+  check(sonic_get_many_with(bytes("1"), 1, &paths, NULL, 0, &error) == SONIC_WRONG_COUNT && is_error(&error, 0, 1, 0, 0), "WRONG_COUNT",
+        "sonic_get_many_with");
+  check(sonic_paths_new(bytes("[]\n["), 4, 0, &paths, &error) == SONIC_BAD_LINES && is_error(&error, 0, 2, 0, 0), "BAD_LINES",
+        "sonic_paths_new");
+  uint32_t status = sonic_paths_new(bytes("[]\n["), 4, 3, &paths, &error);
+  check(status == SONIC_BAD_RULE && is_error(&error, 0, 2, 0, 0) && paths.count == 1, "BAD_RULE", "sonic_paths_new");
+  printf("status %u: a rule that is none\n", status);
+  sonic_paths_free(&paths);
+  check(paths.count == 0, "the count", "sonic_paths_free");
+}
+
 /* Where a length is 0, null is as good as "". */
 static void check_null(void) {
   sonic_span span = {91, 92};
@@ -269,6 +295,11 @@ static void check_null(void) {
   check(span.start == 91 && span.end == 92, "null", "the span");
   check(sonic_get_many(NULL, 0, NULL, 0, NULL, 0, &error) == SONIC_OK, "null", "sonic_get_many");
   check(sonic_get_many_unchecked(bytes("1"), 1, NULL, 0, NULL, 0, &error) == SONIC_OK, "null", "sonic_get_many_unchecked");
+  sonic_paths paths = SONIC_NO_PATHS;
+  check(sonic_paths_new(NULL, 0, SONIC_KEYS_FIRST, &paths, &error) == SONIC_OK && paths.count == 0, "null", "sonic_paths_new");
+  check(sonic_get_many_with(NULL, 0, &paths, NULL, 0, &error) == SONIC_OK, "null", "sonic_get_many_with");
+  check(sonic_get_many_with_unchecked(bytes("1"), 1, &paths, NULL, 0, &error) == SONIC_OK, "null", "sonic_get_many_with_unchecked");
+  sonic_paths_free(&paths);
   size_t wanted = 91;
   check(sonic_minify(bytes("[ 1 ]"), 5, NULL, 0, &wanted, &error) == SONIC_OK && wanted == 3, "null", "sonic_minify");
   check(sonic_edit(bytes("1"), 1, NULL, 0, NULL, 0, &wanted, &error) == SONIC_OK && wanted == 1, "null", "sonic_edit");
@@ -293,6 +324,7 @@ int main(void) {
   check_values();
   check_made();
   check_lists();
+  check_kept();
   for (size_t i = 0; i < sizeof rows / sizeof *rows; i++) check_row(&rows[i]);
   check_texts();
   check_null();

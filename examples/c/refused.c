@@ -105,6 +105,31 @@ static size_t get_many_unchecked(cells *told) {
                                   &told->error);
 }
 
+/* Paths are kept, asked for in a text of some length and given back. */
+static size_t keep_and_ask(cells *told, uint32_t rule, size_t length) {
+  sonic_paths kept = SONIC_NO_PATHS;
+  size_t status = sonic_paths_new(bytes(paths), strlen(paths), rule, &kept, &told->error);
+  if (status == SONIC_OK) status = sonic_get_many_with(bytes(json), length, &kept, told->spans, 3, &told->error);
+  sonic_paths_free(&kept);
+  return status;
+}
+
+static size_t get_many_with(cells *told) { return keep_and_ask(told, SONIC_KEYS_FIRST, strlen(json)); }
+
+static size_t get_many_with_cut(cells *told) { return keep_and_ask(told, SONIC_KEYS_FIRST, 40); }
+
+static size_t get_many_with_last(cells *told) { return keep_and_ask(told, SONIC_KEYS_LAST, strlen(json)); }
+
+/* What was kept is kept on where other paths find no memory, and then asked without a second look. */
+static size_t keep_again(cells *told) {
+  sonic_paths kept = SONIC_NO_PATHS;
+  size_t status = sonic_paths_new(bytes(paths), strlen(paths), SONIC_KEYS_REFUSE, &kept, &told->error);
+  if (status == SONIC_OK) status = sonic_paths_new(bytes(paths), strlen(paths), SONIC_KEYS_FIRST, &kept, &told->error);
+  if (status == SONIC_OK) status = sonic_get_many_with_unchecked(bytes(json), strlen(json), &kept, told->spans, 3, &told->error);
+  sonic_paths_free(&kept);
+  return status;
+}
+
 static size_t code_text(cells *told) { return sonic_code_text(SONIC_CODE_MISMATCH, told->room, sizeof told->room); }
 
 static size_t string_text(cells *told) {
@@ -251,6 +276,10 @@ int main(void) {
   wrong |= refuse_each("get_many, cut", get_many_cut, SONIC_NO_MEMORY);
   wrong |= refuse_each("get_many, for two", get_many_for_two, SONIC_NO_MEMORY);
   wrong |= refuse_each("get_many_unchecked", get_many_unchecked, SONIC_NO_MEMORY);
+  wrong |= refuse_each("get_many_with", get_many_with, SONIC_NO_MEMORY);
+  wrong |= refuse_each("get_many_with, cut", get_many_with_cut, SONIC_NO_MEMORY);
+  wrong |= refuse_each("get_many_with, the last key", get_many_with_last, SONIC_NO_MEMORY);
+  wrong |= refuse_each("get_many_with_unchecked, kept again", keep_again, SONIC_NO_MEMORY);
   wrong |= refuse_each("code_text", code_text, 0);
   wrong |= refuse_each("string_text", string_text, SONIC_NO_MEMORY);
   wrong |= refuse_each("string_text, plain", plain_text, SONIC_NO_MEMORY);

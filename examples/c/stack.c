@@ -86,6 +86,16 @@ static uint32_t get_many(void) {
 static uint32_t get_many_unchecked(void) {
   return sonic_get_many_unchecked(bytes(arrays), strlen(arrays), bytes(paths), strlen(paths), spans, NODES, &error);
 }
+static uint32_t keep_and_ask(uint32_t rule, int judged) {
+  sonic_paths kept = SONIC_NO_PATHS;
+  uint32_t status = sonic_paths_new(bytes(paths), strlen(paths), rule, &kept, &error);
+  if (status == SONIC_OK && judged) status = sonic_get_many_with_unchecked(bytes(arrays), strlen(arrays), &kept, spans, NODES, &error);
+  if (status == SONIC_OK && !judged) status = sonic_get_many_with(bytes(arrays), strlen(arrays), &kept, spans, NODES, &error);
+  sonic_paths_free(&kept);
+  return status;
+}
+static uint32_t get_many_with(void) { return keep_and_ask(SONIC_KEYS_LAST, 0); }
+static uint32_t get_many_with_unchecked(void) { return keep_and_ask(SONIC_KEYS_FIRST, 1); }
 static uint32_t count(void) { return sonic_count(bytes(arrays), strlen(arrays), &wanted, &error); }
 static uint32_t walk(void) {
   sonic_items items = {0, 0};
@@ -130,6 +140,8 @@ int main(void) {
       {"get_unchecked", get_unchecked, 99},
       {"get_many", get_many, 99},
       {"get_many_unchecked", get_many_unchecked, 99},
+      {"get_many_with", get_many_with, 99},
+      {"get_many_with_unchecked", get_many_with_unchecked, 99},
       {"count", count, 99},
       {"items", walk, 99},
       {"minify", minify, 99},

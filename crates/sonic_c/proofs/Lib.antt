@@ -3,7 +3,11 @@ mod CodeLemmas
 mod ContainerLemmas
 mod EntryLemmas
 mod FillLemmas
+mod KeepLemmas
+mod ListLemmas
 mod ManyLemmas
 mod PatchLemmas
+mod PathsValues
 mod TextLemmas
 mod ToldLemmas
+mod UnboxedValues

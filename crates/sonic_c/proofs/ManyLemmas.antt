@@ -30,7 +30,7 @@ say_one : {lines : List ℕ} {p q : List Path} → Say lines p → Say lines q �
 say_one {lines} {p} {q} x y = let same : Paths p (length lines) ≡ Paths q (length lines) = says_one lines _ _ x y in cc
 
 -- and no line of them is bad
-never_bad : {lines : List ℕ} {p : List Path} {n : ℕ} → Say lines p → SayBad lines n → ⊥
+pub never_bad : {lines : List ℕ} {p : List Path} {n : ℕ} → Say lines p → SayBad lines n → ⊥
 never_bad {lines} {p} {n} x (bad_path y) = let same : Paths p (length lines) ≡ Bad n = says_one lines _ _ x y in absurd cc
 never_bad {lines} {p} x (blank_line {paths} {d} y low e) =
     let same : Paths p (length lines) ≡ Paths paths d = says_one lines _ _ x y in

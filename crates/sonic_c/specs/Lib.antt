@@ -5,6 +5,8 @@ pub mod Containers
 pub mod Fills
 pub mod Indexes
 pub mod Internal
+pub mod Kept
+pub mod Lists
 pub mod Patches
 pub mod Rows
 pub mod Statuses

@@ -68,3 +68,7 @@ status_bad_schema = 18
 -- too many lines are said to come before
 abbrev pub status_bad_number : ℕ
 status_bad_number = 19
+
+-- the number says no rule for equal keys
+abbrev pub status_bad_rule : ℕ
+status_bad_rule = 20

@@ -23,6 +23,10 @@ mod get;
 mod index;
 // A way through the items of a container.
 mod items;
+// Keeps the paths that lines say.
+mod keep;
+// Paths that are kept, with the room of a walk along them.
+mod kept;
 // The type of a value.
 mod kind;
 // Many paths.
@@ -33,6 +37,8 @@ mod number;
 mod owned;
 // The text of a document with a patch made on it.
 mod patch;
+// The paths that a caller keeps.
+mod paths;
 // The caller's room for a text.
 mod room;
 // The rows of lines.
@@ -47,13 +53,18 @@ mod string;
 mod tests;
 // The words of an error.
 mod text;
+// A box as the pointer that it is.
+mod unboxed;
 // Whether a text is a document.
 mod validate;
 // One item of a container after the other.
 mod walk;
+// Where paths that are kept lead.
+mod with;
 
 pub use fault::Fault;
 pub use index::Entry;
 pub use items::Items;
+pub use paths::Paths;
 pub use span::Span;
 pub use walk::Item;

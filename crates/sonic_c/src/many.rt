@@ -145,7 +145,7 @@ pub(crate) fn paths_of(alloc: Global, lines: &[u8], error: &mut Fault) -> Result
 }
 
 // Tells what was found, or the error.
-fn tell_all(
+pub(crate) fn tell_all(
     found: Result<(), Error>,
     slots: &[Option<sonic_find::Span>],
     spans: &mut [Span],

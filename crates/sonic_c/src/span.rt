@@ -28,7 +28,7 @@ impl Span {
 }
 
 // An entry as a caller sees it.
-fn shown(entry: Option<sonic_find::Span>) -> Span
+pub(crate) fn shown(entry: Option<sonic_find::Span>) -> Span
     ensures { result ≡ shown_span (option_map pair_of entry) }
 {
     match entry {

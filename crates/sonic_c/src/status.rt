@@ -34,3 +34,5 @@ pub(crate) const EDIT_REFUSED: u32 = 17;
 pub(crate) const BAD_SCHEMA: u32 = 18;
 // Too many lines are said to come before.
 pub(crate) const BAD_NUMBER: u32 = 19;
+// The number says no rule for equal keys.
+pub(crate) const BAD_RULE: u32 = 20;

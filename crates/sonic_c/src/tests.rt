@@ -11,6 +11,8 @@ use std::process::Abort;
 
 // The call that tells all values.
 mod entries;
+// The calls for paths that are kept.
+mod lists;
 // The calls that make a text.
 mod texts;
 // The calls that read one value.

@@ -3,9 +3,9 @@
 use crate::lookups::{ANSWERED, Paths, REFUSED, tree_of};
 use crate::same::{same, same_at};
 use sonic_error::{ErrorCode, JsonType, Note, Wanted};
-use sonic_find::{Room, Span, find_many, find_many_in};
+use sonic_find::{Room, Span, find_many, find_many_by, find_many_in};
 use sonic_pointer::PointerNode::{Index, Key};
-use sonic_pointer::PointerTree;
+use sonic_pointer::{KeyRule, PointerTree};
 use std::alloc::Global;
 use std::process::Abort;
 use std::test::Fail;
@@ -70,6 +70,76 @@ fn serves_lines_one_after_the_other(rt: HostRuntime) {
     check_slots(&rt, &room, &[]);
     for &(line, wanted) in &LINES {
         match (find_many_in(alloc, &mut room, line, &tree), wanted) {
+            (Ok(()), Ok(spans)) => check_slots(&rt, &room, &spans),
+            (Err(error), Err((code, offset))) => {
+                same_at(&rt, error.code(), code, line);
+                same_at(&rt, error.offset(), offset, line);
+                check_slots(&rt, &room, &[]);
+            }
+            _ => panic!(&rt; "another answer of {line}"),
+        }
+    }
+}
+
+// A line under a rule for equal keys.
+type RuledLine = (KeyRule, Line);
+
+// Lines with equal keys that one room serves in this order.
+const RULED_LINES: [RuledLine; 6] = [
+    (
+        KeyRule::Last,
+        (
+            "{\"id\":1,\"t\":[0,2],\"i\\u0064\":3,\"t\":[4,\"u\"]}",
+            Ok([
+                Some(Span { start: 28, end: 29 }),
+                Some(Span { start: 37, end: 40 }),
+            ]),
+        ),
+    ),
+    (
+        KeyRule::First,
+        (
+            "{\"id\":1,\"t\":[0,2],\"id\":3,\"t\":0}",
+            Ok([
+                Some(Span { start: 6, end: 7 }),
+                Some(Span { start: 15, end: 16 }),
+            ]),
+        ),
+    ),
+    (
+        KeyRule::Last,
+        (
+            "{\"id\":1,\"t\":[0,2],\"t\":5}",
+            Err((NUMBER_FOR_ARRAY, 22)),
+        ),
+    ),
+    (
+        KeyRule::Refuse,
+        (
+            "{\"t\":[0,2],\"id\":1,\"id\":1}",
+            Err((ErrorCode::DuplicateKey, 18)),
+        ),
+    ),
+    (
+        KeyRule::Refuse,
+        (
+            "{\"x\":1,\"x\":2,\"id\":[]}",
+            Ok([Some(Span { start: 18, end: 20 }), None]),
+        ),
+    ),
+    (
+        KeyRule::Last,
+        ("{\"id\":1,\"id\":2", Err((ErrorCode::EofWhileParsing, 13))),
+    ),
+];
+
+#[test]
+fn serves_lines_under_each_rule(rt: HostRuntime) {
+    let alloc = rt.alloc();
+    let tree = tree_of(&rt, alloc, PATHS);
+    let mut room = Room::new(alloc);
+    for &(rule, (line, wanted)) in &RULED_LINES {
+        match (find_many_by(alloc, &mut room, line, &tree, rule), wanted) {
             (Ok(()), Ok(spans)) => check_slots(&rt, &room, &spans),
             (Err(error), Err((code, offset))) => {
                 same_at(&rt, error.code(), code, line);

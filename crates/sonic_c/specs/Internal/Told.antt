@@ -1,12 +1,13 @@
 -- What private calls say to the cells of a caller.
-use Rattle.std.specs.Prelude.{◌≡◌, ◌≢◌, ℕ, List, Option, Result, Ok, Err, length, map}
+use Rattle.std.specs.Prelude.{◌≡◌, ◌≢◌, ℕ, List, Option, Result, Ok, Err, length, map, option_map}
 use Rattle.sonic_error.specs.Errors.{error_code}
 use Rattle.sonic_error.specs.declared.error.Error.{Error}
 use Rattle.sonic_error.specs.declared.code.ErrorCode.TheVariants.{NoMemory}
 use Rattle.sonic_find.specs.declared.span.Span.{Span as Slot}
 use Rattle.sonic_text.specs.Paths.{Path}
 use Rattle.sonic_c.specs.declared.fault.Fault.{Fault}
-use Rattle.sonic_find.specs.Spans.{pairs_of}
+use Rattle.sonic_c.specs.declared.span.Span.{Span}
+use Rattle.sonic_find.specs.Spans.{pairs_of, pair_of}
 use Rattle.sonic_c.specs.Statuses.{status_wrong_count, status_ok, status_document_error, status_bad_lines, status_no_memory}
 use Rattle.sonic_c.specs.Internal.Numbers.{numbers_of}
 use Rattle.sonic_c.specs.Told.{Cells, shown_span, Say, SayBad, ManyCells, at_line}
@@ -36,3 +37,7 @@ pub data RefusesLines (lines : List ℕ) (count : ℕ) (before after : Fault) (s
 abbrev pub TellsAll : Result (Unit {0}) Error → List (Option Slot) → ManyCells → ManyCells → ℕ → Type 0
 TellsAll (Ok done) slots before after status = (status ≡ status_ok) × (after.spans ≡ map shown_span (pairs_of slots)) × (after.error ≡ before.error)
 TellsAll (Err e) slots before after status = TellsError e before.error after.error status × (after.spans ≡ before.spans)
+
+-- what is told of a slot
+abbrev pub shown_slot : Option Slot → Span
+shown_slot slot = shown_span (option_map pair_of slot)

@@ -1,0 +1,168 @@
+// Paths that are kept, with the room of a walk along them.
+ghost use Rattle.std.specs.Prelude.{◌≡◌, length, map, IfOk};
+ghost use Rattle.sonic_pointer.specs.declared.rule.KeyRule.TheVariants.{First};
+ghost use Rattle.sonic_text.specs.Documents.{StartsWithUtf8Value};
+ghost use Rattle.sonic_c.specs.Lists.{IsListCall};
+ghost use Rattle.sonic_c.specs.Internal.Told.{shown_slot};
+
+use crate::fault::{Fault, tell};
+use crate::many::tell_all;
+use crate::span::{Span, shown};
+use crate::status::{OK, WRONG_COUNT};
+use sonic_find::{Room, find_many_by, find_many_unchecked};
+use sonic_pointer::{KeyRule, PointerTree};
+use std::alloc::{AllocError, Global};
+use std::marker::Model;
+
+// A tree of paths, which of equal keys counts, and where a walk puts what it finds: one that judges what
+// it passes to the room, and one that doesn't to the slots.
+#[derive(Drop)]
+pub(crate) struct Kept {
+    tree: PointerTree,
+    rule: KeyRule,
+    room: Room,
+    slots: Vec<Option<sonic_find::Span>>,
+}
+
+impl Model for Kept {
+    ghost use Rattle.sonic_c.specs.Kept.{PathList};
+
+    ghost Value = { PathList };
+
+    ghost use Rattle.sonic_c.specs.Internal.Kept.{list_of, HasSlots};
+
+    ghost view = { list_of };
+
+    ghost invariant = { HasSlots };
+}
+
+impl Kept {
+    pub(crate) fn new(alloc: Global, tree: PointerTree, rule: KeyRule) -> Result<Kept, AllocError>
+        ensures { IfOk result (λ kept. kept ≡ record { rule = rule; paths = tree }) }
+    {
+        let slots = vec![in alloc; None; tree.size()]?;
+        let room = Room::new(alloc);
+        Ok(Kept {
+            tree,
+            rule,
+            room,
+            slots,
+        })
+    }
+
+    // How many paths there are.
+    pub(crate) fn len(&self) -> usize
+        ensures { result ≡ length self.now.paths }
+    {
+        self.tree.size()
+    }
+
+    // Tells where the paths lead in a text.
+    pub(crate) fn follow(
+        &mut self,
+        alloc: Global,
+        json: &[u8],
+        spans: &mut [Span],
+        error: &mut Fault,
+    ) -> u32
+        ensures call { IsListCall json.now self.old
+            (record { spans = spans.old; error = error.old })
+            (record { spans = spans.new; error = error.new }) result }
+        ensures kept { self.new ≡ self.old }
+    {
+        let len = self.len();
+        if spans.len() != len {
+            *error = Fault::at_line(len);
+            return WRONG_COUNT;
+        }
+        walk(
+            alloc,
+            json,
+            &self.tree,
+            self.rule,
+            &mut self.room,
+            spans,
+            error,
+        )
+    }
+
+    // The same in a text that is known to begin with a value in UTF-8.
+    pub(crate) fn follow_unchecked(
+        &mut self,
+        alloc: Global,
+        json: &[u8],
+        spans: &mut [Span],
+        error: &mut Fault,
+    ) -> u32
+        requires { StartsWithUtf8Value json.now }
+        ensures call { IsListCall json.now self.old
+            (record { spans = spans.old; error = error.old })
+            (record { spans = spans.new; error = error.new }) result }
+        ensures kept { self.new ≡ self.old }
+    {
+        let len = self.len();
+        if spans.len() != len {
+            *error = Fault::at_line(len);
+            return WRONG_COUNT;
+        }
+        match self.rule {
+            KeyRule::First => {
+                walk_unchecked(json, &self.tree, self.slots.as_mut_slice(), spans, error)
+            }
+            rule => walk(alloc, json, &self.tree, rule, &mut self.room, spans, error),
+        }
+    }
+}
+
+// Tells where the paths of a tree lead under a rule, of which as many spans are there.
+fn walk(
+    alloc: Global,
+    json: &[u8],
+    tree: &PointerTree,
+    rule: KeyRule,
+    room: &mut Room,
+    spans: &mut [Span],
+    error: &mut Fault,
+) -> u32
+    requires { length tree.now ≡ length spans.old }
+    ensures { IsListCall json.now (record { rule = rule; paths = tree.now })
+        (record { spans = spans.old; error = error.old })
+        (record { spans = spans.new; error = error.new }) result }
+{
+    match find_many_by(alloc, room, json, tree, rule) {
+        Ok(()) => {
+            fill_from_room(spans, room);
+            OK
+        }
+        Err(reason) => tell(error, &reason),
+    }
+}
+
+// The same by the first of equal keys, in a text that is known to begin with a value in UTF-8.
+fn walk_unchecked(
+    json: &[u8],
+    tree: &PointerTree,
+    slots: &mut [Option<sonic_find::Span>],
+    spans: &mut [Span],
+    error: &mut Fault,
+) -> u32
+    requires starts { StartsWithUtf8Value json.now }
+    requires slots { length slots.old ≡ length tree.now }
+    requires spans { length tree.now ≡ length spans.old }
+    ensures { IsListCall json.now (record { rule = First; paths = tree.now })
+        (record { spans = spans.old; error = error.old })
+        (record { spans = spans.new; error = error.new }) result }
+{
+    let found = find_many_unchecked(json, tree, slots);
+    tell_all(found, slots, spans, error)
+}
+
+// Writes what was found to the caller's array.
+fn fill_from_room(spans: &mut [Span], room: &Room)
+    requires { length room.now ≡ length spans.old }
+    ensures { spans.new ≡ map shown_slot room.now }
+{
+    for i in 0..room.len() {
+        spans[i] = shown(room.at(i));
+    }
+}

@@ -1,0 +1,77 @@
+// Where paths that are kept lead.
+ghost use Rattle.std.specs.Prelude.{◌≡◌, ℕ, List};
+ghost use Rattle.sonic_text.specs.Documents.{StartsWithUtf8Value};
+ghost use Rattle.sonic_c.specs.Kept.{no_list};
+ghost use Rattle.sonic_c.specs.Lists.{IsListCall};
+
+use crate::fault::Fault;
+use crate::paths::Paths;
+use crate::span::Span;
+use crate::status::{OK, WRONG_COUNT};
+use std::alloc::Global;
+
+/// Where paths that are kept lead in the text, in their order: what `sonic_get_many` tells of their
+/// lines, but that their rule says which of equal keys counts.
+///
+/// Under the rule that the first one counts, a call takes memory only where it needs more than each one
+/// before.
+#[unsafe(no_mangle)]
+pub extern "C" fn sonic_get_many_with(
+    alloc: Global,
+    json: &[u8],
+    paths: &mut Paths,
+    spans: &mut [Span],
+    error: &mut Fault,
+) -> u32
+    ensures call { IsListCall json.now paths.old.list
+        (record { spans = spans.old; error = error.old })
+        (record { spans = spans.new; error = error.new }) result }
+    ensures list { paths.new.list ≡ paths.old.list }
+    ensures count { paths.new.count ≡ paths.old.count }
+{
+    let Some(mut kept) = paths.take(alloc) else {
+        return follow_none(spans, error);
+    };
+    let status = kept.follow(alloc, json, spans, error);
+    paths.keep(kept);
+    status
+}
+
+/// The same in a text that is known to begin with a value in UTF-8, as one that `sonic_validate` took
+/// does, without a second look at what it passes. Under the rule that the first of equal keys counts it
+/// takes no memory.
+#[unsafe(no_mangle)]
+pub extern "C" fn sonic_get_many_with_unchecked(
+    alloc: Global,
+    json: &[u8],
+    paths: &mut Paths,
+    spans: &mut [Span],
+    error: &mut Fault,
+) -> u32
+    requires { StartsWithUtf8Value json.now }
+    ensures call { IsListCall json.now paths.old.list
+        (record { spans = spans.old; error = error.old })
+        (record { spans = spans.new; error = error.new }) result }
+    ensures list { paths.new.list ≡ paths.old.list }
+    ensures count { paths.new.count ≡ paths.old.count }
+{
+    let Some(mut kept) = paths.take(alloc) else {
+        return follow_none(spans, error);
+    };
+    let status = kept.follow_unchecked(alloc, json, spans, error);
+    paths.keep(kept);
+    status
+}
+
+// Tells that no path leads anywhere.
+fn follow_none(spans: &mut [Span], error: &mut Fault) -> u32
+    ensures { (text : List ℕ) → IsListCall text no_list
+        (record { spans = spans.old; error = error.old })
+        (record { spans = spans.new; error = error.new }) result }
+{
+    if spans.is_empty() {
+        return OK;
+    }
+    *error = Fault::at_line(0);
+    WRONG_COUNT
+}
