@@ -179,11 +179,12 @@ typedef struct sonic_paths {
 } sonic_paths;
 
 /* No paths, which take no memory: sonic_paths paths = SONIC_NO_PATHS; */
-#define SONIC_NO_PATHS {0, 0, 0}
+#define SONIC_NO_PATHS {NULL, 0, 0}
 
 /* Which member counts where several members of one object have a key of a path: the first one, as for the calls
    above; the last one; or none, so that a second one is an error where it begins. Keys are equal as texts,
-   with their escapes undone. Under the last two an object in which a key is looked for is read to its end. */
+   with their escapes undone. Under the last two an object in which a key is looked for is read to its end, and a
+   second key is an error whatever is wrong below the first one. */
 enum {
   SONIC_KEYS_FIRST = 0,
   SONIC_KEYS_LAST = 1,
@@ -191,7 +192,7 @@ enum {
 };
 
 /* Keeps the paths that the lines say, those of sonic_get_many, for walks under a rule, one of SONIC_KEYS_...
-   What was kept before is given back, and is kept on where the status isn't SONIC_OK.
+   Where it is SONIC_OK, what was kept before is given back; else it is kept on.
 
    SONIC_OK: the paths are kept, in memory that sonic_paths_free gives back.
    SONIC_BAD_LINES: a line is no path, is blank with more after it, or doesn't go with one before it.
@@ -204,8 +205,10 @@ uint32_t sonic_paths_new(const uint8_t *lines, size_t lines_length, uint32_t rul
 void sonic_paths_free(sonic_paths *paths);
 
 /* What sonic_get_many tells of the lines of the paths that are kept, under their rule, with its statuses but
-   SONIC_BAD_LINES, whatever was told of another text before. It takes memory only where it needs more than
-   each call before it with these paths did. Whatever the status is, the paths are kept. */
+   SONIC_BAD_LINES, whatever was told of another text before. Without paths it is SONIC_OK of no spans, as the
+   text isn't looked at. Under SONIC_KEYS_FIRST it takes memory only where it needs more than each call before it
+   with these paths did; under another rule each call takes some for each prefix of a path, and gives it back.
+   Whatever the status is, the paths are kept. */
 uint32_t sonic_get_many_with(const uint8_t *json, size_t json_length, sonic_paths *paths, sonic_span *spans,
                              size_t span_count, sonic_error *error);
 
@@ -444,7 +447,7 @@ enum {
   SONIC_CODE_GET_INDEX_OUT_OF_ARRAY = 24,
   /* Half of a surrogate pair is alone. */
   SONIC_CODE_INVALID_SURROGATE_UNICODE_CODE_POINT = 26,
-  /* An object has a key of a path twice. Here the first counts, so no call refuses the second. */
+  /* An object has a key of a path twice, which paths under SONIC_KEYS_REFUSE alone refuse. */
   SONIC_CODE_DUPLICATE_KEY = 32,
   /* A value of another type than the path asks for is 100 + 10 * found + wanted. What was found is 0 for
      null, 1 a boolean, 2 a number, 3 a string, 4 an object, 5 an array; what was wanted is 0 for an

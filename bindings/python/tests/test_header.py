@@ -28,6 +28,7 @@ PLAIN_TYPES = {
 STRUCTS = {
     "sonic_span": _native.Span,
     "sonic_error": _native.Fault,
+    "sonic_paths": _native.Kept,
     "sonic_items": _native.Items,
     "sonic_item": _native.Item,
     "sonic_entry": _native.Cell,
@@ -36,6 +37,8 @@ TYPES = {
     **PLAIN_TYPES,
     **STRUCTS,
     **{f"{name} *": ctypes.POINTER(kind) for name, kind in {**PLAIN_TYPES, **STRUCTS}.items()},
+    "void": None,
+    "void *": ctypes.c_void_p,
     "const uint8_t *": ctypes.c_void_p,
     "uint8_t *": ctypes.c_void_p,
 }
@@ -55,7 +58,7 @@ class Header(unittest.TestCase):
     def test_fields(self):
         found = {}
         for name, fields in re.findall(r"^typedef struct (\w+) \{(.*?)\}", PLAIN, re.M | re.S):
-            found[name] = [(field, TYPES[of]) for of, field in re.findall(r"(\w+) (\w+);", fields)]
+            found[name] = [(field, TYPES[of.strip()]) for of, field in re.findall(r"(\w+ \*?)(\w+);", fields)]
         self.assertEqual(found, {name: kind._fields_ for name, kind in STRUCTS.items()})
 
     def test_numbers(self):
@@ -81,7 +84,8 @@ class Page(unittest.TestCase):
         self.assertEqual("".join(told), "")
 
     def test_examples_of_calls(self):
-        for call in (sonic.index, sonic.minify, sonic.indent, sonic.patch, sonic.edit, sonic.fill, sonic.rows, sonic.Rows):
+        calls = (sonic.index, sonic.minify, sonic.indent, sonic.patch, sonic.edit, sonic.fill, sonic.rows, sonic.Rows, sonic.Finder)
+        for call in calls:
             test = doctest.DocTestParser().get_doctest(call.__doc__, {call.__name__: call}, call.__name__, None, 0)
             self.assertGreater(len(test.examples), 0)
             told = []

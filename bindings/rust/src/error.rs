@@ -75,7 +75,8 @@ impl fmt::Debug for Code {
 /// What kind of error a code is.
 #[derive(Clone, Copy, Debug, PartialEq, Eq, Hash)]
 pub enum Category {
-    /// The text isn't JSON in UTF-8, as far as it was needed; or it is deeper than [`fill`](crate::fill) reads.
+    /// The text isn't JSON in UTF-8, as far as it was needed; or it is deeper than [`fill`](crate::fill) reads, or
+    /// has a key twice that a [`Finder`](crate::Finder) refuses.
     Syntax,
     /// The text ends inside a value, or before one that is expected.
     Eof,

@@ -2,6 +2,7 @@
 #![warn(missing_docs)]
 
 mod error;
+mod finder;
 mod index;
 mod items;
 mod made;
@@ -12,6 +13,7 @@ mod text;
 mod value;
 
 pub use error::{Category, Code, Error, Fault};
+pub use finder::{Finder, Found, Keys};
 pub use index::{index, Entry, Label};
 pub use items::{elements, members, Elements, Members};
 pub use made::{edit, fill, indent, minify, patch};
@@ -21,6 +23,7 @@ pub use text::{Span, Text};
 pub use value::{as_i64, as_str, as_u64, count, type_of, Type};
 
 use error::judge;
+use text::part_of;
 
 fn look_up<'t, T: Text + ?Sized>(
     call: raw::Get,
@@ -68,10 +71,7 @@ fn look_up_many<'t, T: Text + ?Sized>(
         )
     };
     judge(status, fault)?;
-    Ok(spans
-        .into_iter()
-        .map(|span| (span.end > 0).then(|| json.part(span.start..span.end)))
-        .collect())
+    Ok(spans.into_iter().map(|span| part_of(json, span)).collect())
 }
 
 /// The text of the value to which the path leads. What follows it in the text may be anything.

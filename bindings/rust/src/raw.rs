@@ -1,5 +1,7 @@
 // The calls of libsonic.a, as sonic.h has them.
 pub(crate) use crate::text::Span;
+use std::ffi::c_void;
+use std::ptr;
 
 #[repr(C)]
 #[derive(Default)]
@@ -33,6 +35,23 @@ pub(crate) struct Entry {
     pub kind: u32,
 }
 
+/// `sonic_paths`.
+#[repr(C)]
+pub(crate) struct Kept {
+    kept: *mut c_void,
+    held: usize,
+    pub count: usize,
+}
+
+impl Kept {
+    /// No paths.
+    pub(crate) const NONE: Kept = Kept {
+        kept: ptr::null_mut(),
+        held: 0,
+        count: 0,
+    };
+}
+
 pub(crate) const OK: u32 = 0;
 pub(crate) const DOCUMENT_ERROR: u32 = 1;
 pub(crate) const BAD_LINES: u32 = 3;
@@ -49,6 +68,10 @@ pub(crate) const INTO_CHILD: u32 = 16;
 pub(crate) const EDIT_REFUSED: u32 = 17;
 pub(crate) const BAD_SCHEMA: u32 = 18;
 pub(crate) const BAD_NUMBER: u32 = 19;
+
+pub(crate) const KEYS_FIRST: u32 = 0;
+pub(crate) const KEYS_LAST: u32 = 1;
+pub(crate) const KEYS_REFUSE: u32 = 2;
 
 /// Two calls that take the same, after a name for the type of both.
 macro_rules! pairs {
@@ -78,6 +101,15 @@ pairs! {
         json_length: usize,
         paths: *const u8,
         paths_length: usize,
+        spans: *mut Span,
+        span_count: usize,
+        error: *mut Fault,
+    );
+    /// What the two calls for paths that are kept take.
+    GetManyWith: sonic_get_many_with, sonic_get_many_with_unchecked(
+        json: *const u8,
+        json_length: usize,
+        paths: *mut Kept,
         spans: *mut Span,
         span_count: usize,
         error: *mut Fault,
@@ -150,6 +182,14 @@ pub(crate) type Change = unsafe extern "C" fn(
 
 extern "C" {
     pub(crate) fn sonic_validate(json: *const u8, json_length: usize, error: *mut Fault) -> u32;
+    pub(crate) fn sonic_paths_new(
+        lines: *const u8,
+        lines_length: usize,
+        rule: u32,
+        paths: *mut Kept,
+        error: *mut Fault,
+    ) -> u32;
+    pub(crate) fn sonic_paths_free(paths: *mut Kept);
     pub(crate) fn sonic_items_next(
         json: *const u8,
         json_length: usize,

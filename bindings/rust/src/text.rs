@@ -50,6 +50,11 @@ impl From<Span> for Range<usize> {
     }
 }
 
+/// The part of a text that one of many spans has: none where it is twice 0, as no value is empty.
+pub(crate) fn part_of<T: Text + ?Sized>(json: &T, span: Span) -> Option<&T::Part> {
+    (span.end > 0).then(|| json.part(span.range()))
+}
+
 /// How many bytes of a text are such ones. Each block of it is so short that a byte takes its count, as sums of
 /// bytes are fast.
 pub(crate) fn count_bytes(text: &[u8], is_one: impl Fn(u8) -> bool) -> usize {

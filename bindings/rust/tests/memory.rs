@@ -2,7 +2,7 @@
 use sonic::{
     as_i64, as_str, as_u64, count, edit, elements, fill, get, indent, index, members, minify,
 };
-use sonic::{patch, path, rows, type_of, validate, Error, Paths, Rows};
+use sonic::{patch, path, rows, type_of, validate, Error, Finder, Keys, Paths, Rows};
 use std::cell::Cell;
 use std::ffi::c_void;
 
@@ -49,6 +49,10 @@ fn runs_out() {
     assert_eq!(refused(|| fill("{}", DEEP)), Err(none));
     let paths = Paths::new([key]).unwrap();
     assert_eq!(refused(|| rows(DEEP, &paths, 0)), Err(none));
+    for keys in [Keys::First, Keys::Last, Keys::Refuse] {
+        let made = refused(|| Finder::new(&paths, keys).map(|_| ()));
+        assert_eq!(made, Err(none));
+    }
 }
 
 #[test]
@@ -62,6 +66,16 @@ fn goes_on_where_it_was() {
     let mut found = refused(|| members(r#"{"a": [[2]]}"#)).unwrap();
     assert_eq!(refused(|| found.next()), Some(Err(Error::NoMemory)));
     assert_eq!(found.next(), Some(Ok((r#""a""#, "[[2]]"))));
+    let paths = Paths::new([path!["a"], path!["b", 0]]).unwrap();
+    let mut finder = Finder::new(&paths, Keys::First).unwrap();
+    let (few, more) = (r#"{"b": [7], "a": 1}"#, r#"{"a": [[[2]]], "b": [[]]}"#);
+    for (text, wanted) in [(few, ["1", "7"]), (more, ["[[[2]]]", "[]"])] {
+        assert_eq!(
+            refused(|| finder.find(text).map(|_| ())),
+            Err(Error::NoMemory)
+        );
+        assert!(finder.find(text).unwrap().eq(wanted.map(Some)));
+    }
     let mut stream = Rows::new(Paths::new([path!["id"]]).unwrap());
     let (start, end) = ("{\"id\"", ":7}\n{}");
     assert_eq!(refused(|| stream.feed(start)), Err(Error::NoMemory));
@@ -82,4 +96,16 @@ fn takes_none() {
     assert_eq!(refused(|| as_i64("-12")), Ok(-12));
     assert!(refused(|| as_u64("[")).is_err());
     assert_eq!(refused(|| as_str(r#" "Zoë" "#)).unwrap(), "Zoë");
+    let paths = Paths::new([path!["a"], path!["b", 0]]).unwrap();
+    let mut finder = Finder::new(&paths, Keys::First).unwrap();
+    let document = validate(r#"{"b": [[[[7]]]], "a": 1}"#).unwrap();
+    let wanted = [Some("1"), Some("[[[7]]]")];
+    // Without a second look at once, and else where a call before took as much.
+    assert!(refused(|| document
+        .find_with(&mut finder)
+        .unwrap()
+        .eq(wanted)));
+    assert!(finder.find(document.text()).unwrap().eq(wanted));
+    assert!(refused(|| finder.find(document.text()).unwrap().eq(wanted)));
+    assert!(refused(|| finder.find("[").map(|_| ())).is_err());
 }

@@ -199,7 +199,7 @@ fn the_header_says_the_same() {
     for (number, it) in (0..).zip(Type::ALL) {
         assert!(has(&it.to_string().to_uppercase(), number), "{it}");
     }
-    let statuses: Vec<(&str, u32)> = include_str!("../src/raw.rs")
+    let numbers: Vec<(&str, u32)> = include_str!("../src/raw.rs")
         .lines()
         .filter_map(|line| {
             line.strip_prefix("pub(crate) const ")?
@@ -208,8 +208,8 @@ fn the_header_says_the_same() {
         })
         .map(|(name, number)| (name, number.parse().unwrap()))
         .collect();
-    assert_eq!(statuses.len(), 16);
-    assert!(statuses.iter().all(|&(name, number)| has(name, number)));
+    assert_eq!(numbers.len(), 19);
+    assert!(numbers.iter().all(|&(name, number)| has(name, number)));
     let version = format!("#define SONIC_VERSION \"{}\"", env!("CARGO_PKG_VERSION"));
     assert!(header.lines().any(|line| line == version));
 }

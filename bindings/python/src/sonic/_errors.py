@@ -80,7 +80,8 @@ class DocumentError(SonicError):
 
 
 class BrokenText(DocumentError):
-    """The text isn't JSON in UTF-8, as far as it was needed; or it is deeper than `fill` reads."""
+    """The text isn't JSON in UTF-8, as far as it was needed; or it is deeper than `fill` reads, or has a key twice that a
+    Finder refuses."""
 
     @property
     def is_cut(self) -> bool:

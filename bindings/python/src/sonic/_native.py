@@ -3,14 +3,18 @@ from __future__ import annotations
 
 import ctypes
 import os
+import struct
 from ctypes import POINTER, c_int, c_int64, c_size_t, c_ssize_t, c_uint32, c_uint64, c_void_p
-from typing import Any, Callable, Dict, Tuple, Union
+from typing import Any, Callable, Dict, List, Tuple, Union
 
 # What a call comes to, as sonic.h says.
 OK, DOCUMENT_ERROR, WRONG_COUNT, BAD_LINES, NO_MEMORY = 0, 1, 2, 3, 7
 WRONG_TYPE, NO_INTEGER, END = 8, 9, 10
 BAD_WIDTH, BAD_PATCH, BAD_OPERATION, MISSING, TEST_FAILED, INTO_CHILD = 11, 12, 13, 14, 15, 16
-EDIT_REFUSED, BAD_SCHEMA, BAD_NUMBER = 17, 18, 19
+EDIT_REFUSED, BAD_SCHEMA, BAD_NUMBER, BAD_RULE = 17, 18, 19, 20
+
+# Which of equal keys counts.
+KEYS_FIRST, KEYS_LAST, KEYS_REFUSE = 0, 1, 2
 
 
 class Span(ctypes.Structure):
@@ -23,6 +27,12 @@ class Fault(ctypes.Structure):
     """sonic_error."""
 
     _fields_ = [("code", c_uint32), ("line", c_size_t), ("column", c_size_t), ("offset", c_size_t)]
+
+
+class Kept(ctypes.Structure):
+    """sonic_paths. A new one is SONIC_NO_PATHS."""
+
+    _fields_ = [("kept", c_void_p), ("held", c_size_t), ("count", c_size_t)]
 
 
 class Items(ctypes.Structure):
@@ -43,6 +53,9 @@ class Cell(ctypes.Structure):
     _fields_ = [("value", Span), ("key", Span), ("parent", c_size_t), ("position", c_size_t), ("type", c_uint32)]
 
 
+# What a span has, which is read so without an object for each of many.
+_SPAN = struct.Struct("2N")
+
 _TEXT = (c_void_p, c_size_t)
 _ROOM = (c_void_p, c_size_t, POINTER(c_size_t), POINTER(Fault))
 
@@ -53,6 +66,10 @@ CALLS: Dict[str, Any] = {
     "sonic_get_unchecked": (c_uint32, [*_TEXT, *_TEXT, POINTER(Span), POINTER(Fault)]),
     "sonic_get_many": (c_uint32, [*_TEXT, *_TEXT, POINTER(Span), c_size_t, POINTER(Fault)]),
     "sonic_get_many_unchecked": (c_uint32, [*_TEXT, *_TEXT, POINTER(Span), c_size_t, POINTER(Fault)]),
+    "sonic_paths_new": (c_uint32, [*_TEXT, c_uint32, POINTER(Kept), POINTER(Fault)]),
+    "sonic_paths_free": (None, [POINTER(Kept)]),
+    "sonic_get_many_with": (c_uint32, [*_TEXT, POINTER(Kept), POINTER(Span), c_size_t, POINTER(Fault)]),
+    "sonic_get_many_with_unchecked": (c_uint32, [*_TEXT, POINTER(Kept), POINTER(Span), c_size_t, POINTER(Fault)]),
     "sonic_type": (c_uint32, [*_TEXT, POINTER(c_uint32), POINTER(Fault)]),
     "sonic_u64": (c_uint32, [*_TEXT, POINTER(c_uint64), POINTER(Fault)]),
     "sonic_i64": (c_uint32, [*_TEXT, POINTER(c_int64), POINTER(Fault)]),
@@ -134,12 +151,21 @@ def source_of(text: Any) -> Source:
     return memoryview(text).cast("B")
 
 
-def part_of(text: Any, source: Source, span: Span) -> Any:
-    """The part of a text that the span of its bytes has, of the text's kind."""
-    part = source[span.start : span.end]
+def _of_kind(text: Any, part: Source) -> Any:
+    """A part of the bytes of a text, of the text's kind."""
     if isinstance(text, str):
         return str(part, "utf-8")
     return bytes(part) if isinstance(text, bytes) else part
+
+
+def part_of(text: Any, source: Source, span: Span) -> Any:
+    """The part of a text that the span of its bytes has, of the text's kind."""
+    return _of_kind(text, source[span.start : span.end])
+
+
+def parts_of(text: Any, source: Source, spans: ctypes.Array[Span]) -> List[Any]:
+    """The parts that many spans have, and None for one that is twice 0, as no value is empty."""
+    return [_of_kind(text, source[start:end]) if end else None for start, end in _SPAN.iter_unpack(spans)]
 
 
 def is_fixed(source: Source) -> bool:
@@ -158,6 +184,11 @@ def call(name: str, source: Source, *arguments: Any) -> int:
         return calls[name](held.buf, held.len, *arguments)
     finally:
         _release_buffer(held)
+
+
+def free(kept: Kept) -> None:
+    """Gives back what is kept, which nobody else uses."""
+    _HELD["sonic_paths_free"](ctypes.byref(kept))
 
 
 def unsigned(number: int) -> int:
