@@ -1,4 +1,4 @@
-// Measures single calls over a document in memory, the library's beside simdjson's On-Demand, serde_json
+// Measures single calls over a document in memory, the library's beside simdjson's On-Demand, yyjson, serde_json
 // and memcpy, in one process: the least of five runs of each, in milliseconds and nanoseconds a byte.
 //
 //   calls NAME FILE..     FILE as the command reads it: path lines, an empty line, the document
@@ -14,7 +14,12 @@
 #include <string_view>
 #include <vector>
 
+#ifndef ONLY_SIMDJSON
 #include "sonic.h"
+#endif
+#ifdef YYJSON
+#include "yyjson.h"
+#endif
 
 #ifdef SERDE_JSON
 extern "C" bool serde_json_validate(const uint8_t *json, size_t length);
@@ -30,7 +35,7 @@ static double now() {
   return time.tv_sec + time.tv_nsec * 1e-9;
 }
 
-static const uint8_t *bytes(std::string_view text) { return reinterpret_cast<const uint8_t *>(text.data()); }
+[[maybe_unused]] static const uint8_t *bytes(std::string_view text) { return reinterpret_cast<const uint8_t *>(text.data()); }
 
 struct Document {
   std::string text;
@@ -93,9 +98,10 @@ int main(int count, char **files) {
   for (int i = 1; i + 1 < count; i += 2) {
     Document document = read(files[i + 1]);
     const char *name = files[i];
-    const uint8_t *json = bytes(document.text);
+    [[maybe_unused]] const uint8_t *json = bytes(document.text);
     size_t size = document.text.size();
     const std::string &path = document.paths[0];
+#ifndef ONLY_SIMDJSON
     sonic_error error = {0, 0, 0, 0};
     std::vector<sonic_span> spans(document.paths.size());
     std::vector<char> copy(size, 1);
@@ -115,6 +121,7 @@ int main(int count, char **files) {
     measure(name, size, "sonic_get_many", [&] {
       return size_t(sonic_get_many(json, size, bytes(document.lines), document.lines.size(), spans.data(), spans.size(), &error) == SONIC_OK);
     });
+#endif
 
     simdjson::dom::parser reader;
     simdjson::dom::array array;
@@ -123,7 +130,16 @@ int main(int count, char **files) {
       for (auto step : array) steps.push_back(step);
     }
     ondemand::parser parser;
-    measure(name, size, "simdjson On-Demand", [&] { return follow(parser, document, steps); });
+    std::string peer = "On-Demand, " + std::string(simdjson::get_active_implementation()->name());
+    measure(name, size, peer.c_str(), [&] { return follow(parser, document, steps); });
+#ifdef YYJSON
+    measure(name, size, "yyjson, read", [&] {
+      yyjson_doc *whole = yyjson_read(document.text.data(), size, 0);
+      size_t values = yyjson_doc_get_val_count(whole);
+      yyjson_doc_free(whole);
+      return values;
+    });
+#endif
 #ifdef SERDE_JSON
     measure(name, size, "serde_json, whole", [&] { return size_t(serde_json_validate(json, size)); });
     measure(name, size, "serde_json, one path", [&] { return serde_json_get(json, size, bytes(path), path.size()); });

@@ -183,8 +183,9 @@ typedef struct sonic_paths {
 
 /* Which member counts where several members of one object have a key of a path: the first one, as for the calls
    above; the last one; or none, so that a second one is an error where it begins. Keys are equal as texts,
-   with their escapes undone. Under the last two an object in which a key is looked for is read to its end, and a
-   second key is an error whatever is wrong below the first one. */
+   with their escapes undone. Under the last two an object in which a key is looked for is read to its end, so that
+   broken text in it is told before what a path lacks there; and the second key of a path is told before what is
+   lacked, repeated or of another type below the first one. */
 enum {
   SONIC_KEYS_FIRST = 0,
   SONIC_KEYS_LAST = 1,
@@ -206,9 +207,11 @@ void sonic_paths_free(sonic_paths *paths);
 
 /* What sonic_get_many tells of the lines of the paths that are kept, under their rule, with its statuses but
    SONIC_BAD_LINES, whatever was told of another text before. Without paths it is SONIC_OK of no spans, as the
-   text isn't looked at. Under SONIC_KEYS_FIRST it takes memory only where it needs more than each call before it
-   with these paths did; under another rule each call takes some for each prefix of a path, and gives it back.
-   Whatever the status is, the paths are kept. */
+   text isn't looked at. A path that leads nowhere is the error of all, as there; a list of one path for each tells
+   which. Whatever the status is, the paths are kept.
+   The room that a walk takes is kept with them until sonic_paths_free: some 100 bytes for each path, and a byte for
+   each level of the deepest text so far. Under another rule than SONIC_KEYS_FIRST each call takes some more, for
+   each prefix of a path, and gives that back. */
 uint32_t sonic_get_many_with(const uint8_t *json, size_t json_length, sonic_paths *paths, sonic_span *spans,
                              size_t span_count, sonic_error *error);
 

@@ -198,6 +198,12 @@ class Refused(unittest.TestCase):
             finder.get_many('"\ud800"')
         self.assertEqual(finder.get_many("[1]"), ["1"])
 
+    def test_no_finder(self):
+        document = sonic.Document(b"{}")
+        for other in (sonic.Paths([["a"]]), [["a"]], None):
+            with self.assertRaisesRegex(TypeError, "a Finder is asked for, and not "):
+                document.get_many_with(other)
+
     def test_copies(self):
         finder = Finder(FIELDS)
         for call in (copy.copy, copy.deepcopy, pickle.dumps, lambda it: pickle.dumps(it, 0), lambda it: pickle.dumps(it, 2)):

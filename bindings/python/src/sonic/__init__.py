@@ -122,4 +122,6 @@ class Document(Generic[T]):
     def get_many_with(self, finder: Finder) -> List[Optional[T]]:
         """As the finder's `get_many`, without a second look. By the "first" of equal keys there is a walk for each path,
         which is faster for a few; by another rule it is the same walk."""
+        if not isinstance(finder, Finder):
+            raise TypeError(f"a Finder is asked for, and not {type(finder).__name__}")
         return finder._find("sonic_get_many_with_unchecked", self._text, self._source)
