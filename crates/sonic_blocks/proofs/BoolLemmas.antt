@@ -1,5 +1,5 @@
 -- Facts of Bools that hold as each of their cases computes.
-use Rattle.std.proofs.Common.{◌≡◌, ℕ, zero, suc, ◌<◌, inl, inr, subst, arith, Bool, true, false, not, ◌&&◌, ◌||◌, T, refl}
+use Rattle.std.proofs.Common.{◌≡◌, ℕ, zero, suc, ◌<◌, ◌⊎◌, inl, inr, subst, arith, Bool, true, false, not, ◌&&◌, ◌||◌, T, refl}
 use Rattle.std.proofs.lemmas.Bool.{cases_lt}
 
 abbrev pub xor : Bool → Bool → Bool
@@ -31,6 +31,19 @@ not_false false h = absurd cc
 pub both : (a b : Bool) → T (a && b) → T a × T b
 both true b h = (tt, h)
 both false b h = absurd h
+
+pub both_true : (a b : Bool) → (a && b) ≡ true → (a ≡ true) × (b ≡ true)
+both_true true b e = (refl, e)
+both_true false b e = absurd cc
+
+-- one of two tests
+pub either_true : (a b : Bool) → (a || b) ≡ true → (a ≡ true) ⊎ (b ≡ true)
+either_true true b e = inl refl
+either_true false b e = inr e
+
+-- no test both fails and passes
+pub never : {A : Type 0} {a : Bool} → a ≡ false → a ≡ true → A
+never f t = absurd cc
 
 -- the second of two tests, where the first holds
 pub implied : (a b : Bool) → T (not a || b) → a ≡ true → T b

@@ -13,5 +13,6 @@ pub mod OnesLemmas
 mod ClosingLemmas
 mod NextBitLemmas
 mod StringBlockLemmas
+mod ElementLemmas
 mod ViewLemmas
 pub mod RunLemmas

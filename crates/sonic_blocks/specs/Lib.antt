@@ -1,5 +1,6 @@
 pub mod Bits
 pub mod Closings
+pub mod Elements
 pub mod Firsts
 pub mod Internal
 pub mod Outside

@@ -8,6 +8,8 @@ mod bits;
 mod closing;
 // How often a byte occurs.
 mod count;
+// Numbers between commas, in a block of 64 bytes.
+mod elements;
 // White space in a block of 64 bytes, as bits.
 mod lanes;
 // Where a run of bytes of one kind ends, and where the first byte of another kind is.
@@ -20,6 +22,7 @@ mod tape;
 pub use bits::{get_escaped, get_string_bits, next_bit, prefix_xor};
 pub use closing::closing_bit;
 pub use count::count_of;
+pub use elements::whole_elements;
 pub use lanes::get_nonspace_bits;
 pub use runs::{digits_end, first_backslash, first_of, plain_end, space_end};
 pub use string_block::StringBlock;

@@ -8,6 +8,9 @@ mod bits;
 // Masks by blocks, and the bracket that closes all.
 #[cfg(test)]
 mod blocks;
+// Whole elements at the start of a block.
+#[cfg(test)]
+mod elements;
 // Assertions as calls.
 #[cfg(test)]
 mod same;

@@ -4,6 +4,7 @@ pub mod DescentLemmas
 pub mod FaultLemmas
 pub mod HonestLemmas
 mod RefusalLemmas
+mod SeriesLemmas
 pub mod SkippingLemmas
 mod SpaceLemmas
 mod TextLemmas

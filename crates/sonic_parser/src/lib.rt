@@ -22,6 +22,8 @@ mod parts;
 mod quick;
 // Text that is borrowed from one of two places.
 mod reference;
+// Series of numbers, passed by blocks.
+mod series;
 // The loop over open containers.
 mod skip;
 // White space by blocks.

@@ -10,6 +10,7 @@ ghost use Rattle.sonic_parser.specs.OpenContainers.{IsTop};
 ghost use Rattle.sonic_parser.specs.Parts.{IsAfterValue, IsItem, IsValueEnd};
 
 use crate::container::{Next, first_item, skip_key};
+use crate::series::Series;
 use crate::skip::{Extent, Reached, leave};
 use sonic_text::{Kind, byte_at, skip_digits, skip_literal, skip_number, skip_space, skip_string};
 
@@ -222,8 +223,9 @@ fn pass_items(text: &[u8], kinds: &mut [Kind], depth: usize, first: usize, lossy
         → IsReached lossy text.now root (take result.depth kinds.new) result.reached }
 {
     let mut depth = depth;
-    let mut place = first;
     let mut kind = kinds[depth - 1];
+    let mut series = Series::new(first);
+    let mut place = series.pass(text, first, kind);
     'items: while depth < kinds.len() {
         let Some(value) = value_place(text, place, kind, lossy) else {
             return Extent::new(Reached::Expected(place), depth);
@@ -234,8 +236,8 @@ fn pass_items(text: &[u8], kinds: &mut [Kind], depth: usize, first: usize, lossy
             depth += 1;
             let count = open_arrays(text, kinds, depth, first);
             depth += count;
-            place = first + count;
             kind = kinds[depth - 1];
+            place = series.pass(text, first + count, kind);
             continue 'items;
         }
         let Ahead::Value(ended) = ahead else {

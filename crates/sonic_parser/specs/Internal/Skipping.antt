@@ -40,6 +40,11 @@ IsReached m t i kinds (Expected h) = (h ≤ length t) × IsItemExpected m t i ki
 IsReached m t i kinds (Ended e) = IsItemEnded m t i kinds e × ((kind : Kind) → IsTop kinds kind → NothingFits t e (closing kind))
 IsReached m t i kinds (Closed j) = (j ≤ length t) × IsValue m t i j
 
+-- items of a container of this kind fit from p up to q: where one of the innermost container is expected at p and all before fits, so it is at q
+abbrev pub AreItemsPassed : Kind → List ℕ → ℕ → ℕ → Type 0
+AreItemsPassed kind t p q =
+    (m : Bool) (root : ℕ) (kinds : List Kind) → IsTop kinds kind → IsReached m t root kinds (Expected p) → IsReached m t root kinds (Expected q)
+
 -- unless the outermost container ended, one is open
 abbrev pub IsOngoing : ℕ → Reached → Type 0
 IsOngoing depth (Expected h) = 0 < depth
