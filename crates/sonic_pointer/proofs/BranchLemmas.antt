@@ -57,7 +57,7 @@ branched_prefix {S = S} {at = at} h k j is l = elim (cases_eq j (length h.rest))
   | inr e ↦ ap (λ (s : Spot). s.prefix) (h.inner k j is (omega arith))
 ]
 
-last_of : (f : Path) (n : Node) → last_node (f ++ n ∷ []) ≡ n
+pub last_of : (f : Path) (n : Node) → last_node (f ++ n ∷ []) ≡ n
 last_of f n = let l = length-append f (n ∷ []) in get_or_push f n (index 0) (length (f ++ n ∷ []) - 1) (omega arith)
 
 -- a new child is one step below its parent

@@ -6,7 +6,7 @@ use Rattle.sonic_text.specs.Paths.{Node, index, Path}
 use Rattle.sonic_pointer.specs.Nodes.{is_key}
 use Rattle.sonic_pointer.specs.Paths.{HasNextNode, IsMixed}
 use Rattle.sonic_pointer.specs.Internal.Tries.{spot_at, prefix_at, IsGap}
-use Rattle.sonic_pointer.specs.Internal.TrieFields.{entries_of, trie_spots, trie_labels, AreKids, HoldsTree, HasOtherKind, IsInsertionPoint}
+use Rattle.sonic_pointer.specs.Internal.TrieFields.{entries_of, trie_paths, trie_spots, trie_labels, AreKids, HoldsTree, HasOtherKind, IsInsertionPoint}
 use Rattle.sonic_pointer.specs.declared.trie.Trie.{Trie}
 use Rattle.sonic_pointer.proofs.TreeLemmas.{left_parts, gap_fresh, kinds_same}
 use Rattle.sonic_pointer.proofs.ShapeLemmas.{kid_step, kid_below, kid_node}
@@ -23,26 +23,26 @@ step_down trie at i child depth p kids are kid prefix short found =
 
 -- the path mixes
 pub mixed_here : (trie : Trie) (at depth : ℕ) (p : Path) (n : Node) → prefix_at (trie_spots trie) at ≡ take depth p → depth < length p → get_or p depth (index 0) ≡ n
-    → HasOtherKind trie at n → IsMixed trie.paths.now p
+    → HasOtherKind trie at n → IsMixed (trie_paths trie) p
 mixed_here trie at depth p n prefix short e h = record {
   prefix = take depth p;
   node = get_or p depth (index 0);
   rest = drop (depth + 1) p;
   other = h.other;
   is = left_parts p depth short;
-  next = subst (λ f. HasNextNode trie.paths.now f h.other) prefix h.next;
+  next = subst (λ f. HasNextNode (trie_paths trie) f h.other) prefix h.next;
   kinds = λ k. h.kinds (k ∙ ap is_key e);
 }
 
 -- or leaves the tree
 pub point_here : (trie : Trie) (at depth position : ℕ) (p : Path) (n : Node) → HoldsTree trie → at < length (entries_of trie) → prefix_at (trie_spots trie) at ≡ take depth p → depth < length p
-    → get_or p depth (index 0) ≡ n → IsGap (trie_labels trie at) n position → ¬ HasOtherKind trie at n → IsInsertionPoint trie.paths.now (entries_of trie) p (record { at = at; depth = depth; position = position })
+    → get_or p depth (index 0) ≡ n → IsGap (trie_labels trie at) n position → ¬ HasOtherKind trie at n → IsInsertionPoint (trie_paths trie) (entries_of trie) p (record { at = at; depth = depth; position = position })
 point_here trie at depth position p n tree inside prefix short e gap pure =
     let E = entries_of trie in
-    let P = trie.paths.now in
+    let P = trie_paths trie in
     let g = prefix_at (trie_spots trie) at in
     let fresh : ¬ HasNextNode P (take depth p) (get_or p depth (index 0)) = λ next.
-    gap_fresh P (trie_spots trie) (spot_at (trie_spots trie) at) n position (spot_here P E tree at inside) gap
+    gap_fresh P (trie_spots trie) (spot_at (trie_spots trie) at) n position (spot_here P E tree.tree at inside) gap
     (subst (HasNextNode P g) e (subst (λ f. HasNextNode P f (get_or p depth (index 0))) (sym prefix) next)) in
     let kind : (m : Node) → HasNextNode P (take depth p) m → is_key m ≡ is_key (get_or p depth (index 0)) = λ m next.
     elim (kinds_same (is_key m) (is_key (get_or p depth (index 0)))) [
@@ -54,16 +54,16 @@ point_here trie at depth position p n tree inside prefix short e gap pure =
       deep = omega arith;
       prefix = prefix;
       gap = λ _. subst (λ x. IsGap (trie_labels trie at) x position) (sym e) gap;
-      unmixed = pure_left P E tree at inside p (take depth p) (get_or p depth (index 0)) (drop (depth + 1) p) prefix (left_parts p depth short) fresh kind;
+      unmixed = pure_left P E tree.tree at inside p (take depth p) (get_or p depth (index 0)) (drop (depth + 1) p) prefix (left_parts p depth short) fresh kind;
     }
 
 -- or ends in it
 pub ending_here : (trie : Trie) (at depth : ℕ) (p : Path) → HoldsTree trie → at < length (entries_of trie) → prefix_at (trie_spots trie) at ≡ take depth p → depth ≡ length p
-    → IsInsertionPoint trie.paths.now (entries_of trie) p (record { at = at; depth = depth; position = 0 })
+    → IsInsertionPoint (trie_paths trie) (entries_of trie) p (record { at = at; depth = depth; position = 0 })
 ending_here trie at depth p tree inside prefix end = record {
   inside = inside;
   deep = omega arith;
   prefix = prefix;
   gap = λ short. absurd (omega arith);
-  unmixed = pure_ended trie.paths.now (entries_of trie) tree at inside p (prefix ∙ take_all depth p (omega arith));
+  unmixed = pure_ended (trie_paths trie) (entries_of trie) tree.tree at inside p (prefix ∙ take_all depth p (omega arith));
 }

@@ -10,3 +10,6 @@ mod ShapeLemmas
 mod TargetLemmas
 pub mod TreeLemmas
 mod TrieLemmas
+mod WayLemmas
+mod CommitLemmas
+mod ChainLemmas

@@ -1,18 +1,20 @@
 // A path more in a tree: all memory is taken before anything changes.
-ghost use Rattle.std.specs.Prelude.{◌≡◌, ◌+◌, ◌-◌, ◌<◌, ◌≤◌, ◌∷◌, ◌++◌, [], OnOk, OnErr, length, set, vec_len, vec_capacity};
+ghost use Rattle.std.specs.Prelude.{◌≡◌, ◌+◌, ◌-◌, ◌<◌, ◌≤◌, ◌∷◌, ◌++◌, [], OnOk, OnErr, length, map, set, vec_len, vec_capacity};
 ghost use Rattle.sonic_pointer.specs.Paths.{IsShort};
-ghost use Rattle.sonic_pointer.specs.Internal.Tries.{entry_at, with_order, with_child, HasChain, IsTree};
-ghost use Rattle.sonic_pointer.specs.Internal.TrieFields.{kept_entries, entries_of, IsInsertionPoint, Branches};
+ghost use Rattle.sonic_pointer.specs.Internal.Tries.{entry_at, with_order, with_child, HasChain};
+ghost use Rattle.sonic_pointer.specs.Nodes.{owned_node};
+ghost use Rattle.sonic_pointer.specs.Internal.TrieFields.{kept_entries, kept_paths, entries_of, KeepsTree, IsInsertionPoint, Branches};
 
-use crate::owned::OwnedPath;
+use crate::owned::{OwnedNode, OwnedPath};
 use crate::trie::{InsertionPoint, Trie};
 use crate::vertex::Vertex;
 use std::alloc::{AllocError, Global};
 
-// What a tree keeps: its paths, and a vertex for each prefix of them, the empty one's apart.
+// What a tree keeps: the vertices at which its paths end, and a vertex for each prefix of them, the empty
+// one's apart.
 #[derive(Debug, Drop)]
 pub(crate) struct Parts {
-    pub(crate) paths: Vec<OwnedPath>,
+    pub(crate) ends: Vec<usize>,
     pub(crate) root: Vertex,
     pub(crate) vertices: Vec<Vertex>,
 }
@@ -20,28 +22,47 @@ pub(crate) struct Parts {
 impl Parts {
     // The same parts, borrowed.
     pub(crate) fn trie(&self) -> Trie<'_>
-        ensures paths { result.paths.now ≡ self.now.paths.items }
+        ensures ends { result.ends.now ≡ self.now.ends.items }
         ensures entries { entries_of result ≡ kept_entries self.now }
     {
         Trie {
-            paths: self.paths.as_slice(),
+            ends: self.ends.as_slice(),
             root: &self.root,
             vertices: self.vertices.as_slice(),
         }
     }
 }
 
-// Appends the new vertices of a path with this length, below the depth where it leaves the tree.
-fn push_chain(alloc: Global, vertices: &mut Vec<Vertex>, number: usize, depth: usize, len: usize)
-    requires short { depth < len }
-    requires room { vec_len vertices.old + (len - depth) ≤ vec_capacity vertices.old }
-    ensures { HasChain number depth (len - depth) vertices.old.items vertices.new.items }
+// Appends a vertex for each node of a path below the depth where it leaves the tree after the vertex `at`.
+fn push_chain(
+    alloc: Global,
+    vertices: &mut Vec<Vertex>,
+    number: usize,
+    at: usize,
+    depth: usize,
+    nodes: Vec<OwnedNode>,
+)
+    requires short { depth < length nodes.items }
+    requires room { vec_len vertices.old + (length nodes.items - depth) ≤ vec_capacity vertices.old }
+    ensures { HasChain number at depth (map owned_node nodes.items) vertices.old.items vertices.new.items }
 {
-    for above in depth + 1..len {
-        let child = vertices.len() + 2;
-        vertices.push_reserved(Vertex::with_child(alloc, number, above, child));
+    let len = nodes.len();
+    let mut parent = at;
+    let mut above = 0;
+    'nodes: for node in nodes {
+        above += 1;
+        if above <= depth {
+            continue 'nodes;
+        }
+        let own = vertices.len() + 1;
+        let vertex = if above < len {
+            Vertex::with_child(alloc, parent, node, own + 1)
+        } else {
+            Vertex::with_order(alloc, parent, node, number)
+        };
+        vertices.push_reserved(vertex);
+        parent = own;
     }
-    vertices.push_reserved(Vertex::with_order(alloc, number, len));
 }
 
 // One more path ends at the vertex with this number.
@@ -87,18 +108,18 @@ fn add_child(
 }
 
 // The path ends at a vertex that is there.
-fn end_path(parts: &mut Parts, at: usize, path: OwnedPath) -> Result<(), AllocError>
+fn end_path(parts: &mut Parts, at: usize) -> Result<(), AllocError>
     requires { at ≤ vec_len parts.old.vertices }
-    ensures paths { OnOk result (parts.new.paths.items ≡ parts.old.paths.items ++ path ∷ []) }
+    ensures ends { OnOk result (parts.new.ends.items ≡ parts.old.ends.items ++ at ∷ []) }
     ensures vertices { OnOk result (kept_entries parts.new ≡ set (kept_entries parts.old) at
-        (with_order (entry_at (kept_entries parts.old) at) (length parts.old.paths.items))) }
-    ensures same_paths { OnErr result (parts.new.paths.items ≡ parts.old.paths.items) }
+        (with_order (entry_at (kept_entries parts.old) at) (length parts.old.ends.items))) }
+    ensures same_ends { OnErr result (parts.new.ends.items ≡ parts.old.ends.items) }
     ensures same_vertices { OnErr result (kept_entries parts.new ≡ kept_entries parts.old) }
 {
-    let number = parts.paths.len();
-    parts.paths.reserve(1)?;
+    let number = parts.ends.len();
+    parts.ends.reserve(1)?;
     add_order(&mut parts.root, &mut parts.vertices, at, number)?;
-    parts.paths.push_reserved(path);
+    parts.ends.push_reserved(at);
     Ok(())
 }
 
@@ -107,31 +128,38 @@ fn branch_path(
     alloc: Global,
     parts: &mut Parts,
     point: InsertionPoint,
-    len: usize,
     path: OwnedPath,
 ) -> Result<(), AllocError>
     requires inside { point.at ≤ vec_len parts.old.vertices }
     requires fits { point.position
         ≤ length (entry_at (kept_entries parts.old) point.at).children }
-    requires short { point.depth < len }
-    ensures paths { OnOk result (parts.new.paths.items ≡ parts.old.paths.items ++ path ∷ []) }
-    ensures vertices { OnOk result (Branches parts.old.paths.items (kept_entries parts.old)
-        (kept_entries parts.new) point len) }
-    ensures same_paths { OnErr result (parts.new.paths.items ≡ parts.old.paths.items) }
+    requires short { point.depth < length path }
+    ensures ends { OnOk result (parts.new.ends.items
+        ≡ parts.old.ends.items ++ vec_len parts.new.vertices ∷ []) }
+    ensures vertices { OnOk result (Branches (length parts.old.ends.items) (kept_entries parts.old)
+        (kept_entries parts.new) point path) }
+    ensures same_ends { OnErr result (parts.new.ends.items ≡ parts.old.ends.items) }
     ensures same_vertices { OnErr result (kept_entries parts.new ≡ kept_entries parts.old) }
 {
-    let number = parts.paths.len();
+    let number = parts.ends.len();
     let first = parts.vertices.len() + 1;
-    parts.paths.reserve(1)?;
+    parts.ends.reserve(1)?;
     let InsertionPoint {
         at,
         depth,
         position,
     } = point;
-    parts.vertices.reserve(len - depth)?;
+    parts.vertices.reserve(path.len() - depth)?;
     add_child(&mut parts.root, &mut parts.vertices, at, position, first)?;
-    push_chain(alloc, &mut parts.vertices, number, depth, len);
-    parts.paths.push_reserved(path);
+    push_chain(
+        alloc,
+        &mut parts.vertices,
+        number,
+        at,
+        depth,
+        path.into_nodes(),
+    );
+    parts.ends.push_reserved(parts.vertices.len());
     Ok(())
 }
 
@@ -140,19 +168,17 @@ pub(crate) fn insert_path(
     alloc: Global,
     parts: &mut Parts,
     point: InsertionPoint,
-    len: usize,
     path: OwnedPath,
 ) -> Result<(), AllocError>
-    requires tree { IsTree parts.old.paths.items (kept_entries parts.old) }
-    requires point { IsInsertionPoint parts.old.paths.items (kept_entries parts.old) path point }
-    requires len { len ≡ length path }
+    requires tree { KeepsTree parts.old }
+    requires point { IsInsertionPoint (kept_paths parts.old) (kept_entries parts.old) path point }
     requires short { IsShort path }
-    ensures tree { IsTree parts.new.paths.items (kept_entries parts.new) }
-    ensures ok { OnOk result (parts.new.paths.items ≡ parts.old.paths.items ++ path ∷ []) }
-    ensures err { OnErr result (parts.new.paths.items ≡ parts.old.paths.items) }
+    ensures tree { KeepsTree parts.new }
+    ensures ok { OnOk result (kept_paths parts.new ≡ kept_paths parts.old ++ path ∷ []) }
+    ensures err { OnErr result (kept_paths parts.new ≡ kept_paths parts.old) }
 {
-    if point.depth == len {
-        return end_path(parts, point.at, path);
+    if point.depth == path.len() {
+        return end_path(parts, point.at);
     }
-    branch_path(alloc, parts, point, len, path)
+    branch_path(alloc, parts, point, path)
 }

@@ -1,5 +1,5 @@
 // Paths that own their keys.
-ghost use Rattle.std.specs.Prelude.{◌≡◌, ◌<◌, ◌∷◌, ◌++◌, [], IfOk, OnOk, OnErr, length, slice_index_or};
+ghost use Rattle.std.specs.Prelude.{◌≡◌, ◌<◌, ◌∷◌, ◌++◌, [], IfOk, OnOk, OnErr, length, map, slice_index_or};
 ghost use Rattle.sonic_text.specs.Paths.{index};
 ghost use Rattle.sonic_pointer.specs.Nodes.{node_of, path_of, owned_node};
 
@@ -52,7 +52,7 @@ impl OwnedNode {
     }
 
     // The same node, whose key is borrowed.
-    fn lend(&self) -> PointerNode<'_>
+    pub(crate) fn lend(&self) -> PointerNode<'_>
         ensures { node_of result ≡ owned_node self.now }
     {
         match self {
@@ -113,6 +113,14 @@ impl OwnedPath {
     {
         self.nodes.push(node)?;
         Ok(())
+    }
+
+    // The nodes, which own their keys.
+    pub(crate) fn into_nodes(self) -> Vec<OwnedNode>
+        ensures { map owned_node result.items ≡ self }
+    {
+        let OwnedPath { nodes } = self;
+        nodes
     }
 
     // The node at a position, from 0.

@@ -37,8 +37,9 @@ impl Model for PointerTree {
     ghost Value = { List (List Node) };
 
     ghost use Rattle.sonic_pointer.specs.Internal.Trees.{IsPointerTree};
+    ghost use Rattle.sonic_pointer.specs.Internal.TrieFields.{kept_paths};
 
-    ghost view = { λ tree. tree.parts.paths.items };
+    ghost view = { λ tree. kept_paths tree.parts };
 
     ghost invariant = { IsPointerTree };
 }
@@ -52,8 +53,8 @@ impl PointerTree {
         ensures { result ≡ [] }
     {
         let parts = Parts {
-            paths: Vec::new(alloc),
-            root: Vertex::new(alloc, 0, 0),
+            ends: Vec::new(alloc),
+            root: Vertex::new_root(alloc),
             vertices: Vec::new(alloc),
         };
         PointerTree { parts }
@@ -76,7 +77,7 @@ impl PointerTree {
         }
         let point = self.parts.trie().walk(&Steps::Lent(path))?;
         let copy = OwnedPath::from_nodes(alloc, path)?;
-        insert_path(alloc, &mut self.parts, point, path.len(), copy)?;
+        insert_path(alloc, &mut self.parts, point, copy)?;
         Ok(())
     }
 
@@ -91,12 +92,11 @@ impl PointerTree {
         ensures mixed { (result ≡ Err PathError.Mixed)
             ↔ ((length path ≤ 255) × IsMixed self.old path) }
     {
-        let len = path.len();
-        if len > MAX_NODES {
+        if path.len() > MAX_NODES {
             return Err(PathError::TooLong);
         }
         let point = self.parts.trie().walk(&Steps::Owned(&path))?;
-        insert_path(alloc, &mut self.parts, point, len, path)?;
+        insert_path(alloc, &mut self.parts, point, path)?;
         Ok(())
     }
 
@@ -104,7 +104,7 @@ impl PointerTree {
     pub fn size(&self) -> usize
         ensures { result ≡ length self.now }
     {
-        self.parts.paths.len()
+        self.parts.ends.len()
     }
 
     /// The place of the empty prefix.

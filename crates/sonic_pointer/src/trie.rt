@@ -7,16 +7,16 @@ ghost use Rattle.sonic_pointer.specs.Internal.Tries.{entry_at, prefix_at, label_
 
 use crate::fault::PathError;
 use crate::node::PointerNode;
-use crate::owned::{OwnedPath, Steps};
+use crate::owned::Steps;
 use crate::pieces::Pieces;
 use crate::target::Target;
 use crate::vertex::Vertex;
 use std::cmp::Ordering;
 
-// The parts of a tree, borrowed.
+// The parts of a tree, borrowed: its paths end at these vertices.
 #[derive(Clone, Copy)]
 pub(crate) struct Trie<'t> {
-    pub(crate) paths: &'t [OwnedPath],
+    pub(crate) ends: &'t [usize],
     pub(crate) root: &'t Vertex,
     pub(crate) vertices: &'t [Vertex],
 }
@@ -49,7 +49,7 @@ fn probe(low: usize, high: usize, near: usize) -> usize
 impl<'t> Trie<'t> {
     ghost use Rattle.sonic_pointer.specs.Internal.Owned.{steps_of};
     ghost use Rattle.sonic_pointer.specs.Internal.Targets.{IsTarget};
-    ghost use Rattle.sonic_pointer.specs.Internal.TrieFields.{entries_of, HoldsTree, trie_spots, trie_labels, AreKids, HasOtherKind, IsInsertionPoint};
+    ghost use Rattle.sonic_pointer.specs.Internal.TrieFields.{entries_of, HoldsTree, trie_paths, trie_spots, trie_labels, AreKids, HasOtherKind, IsInsertionPoint};
 
     // The vertex with this number, 0 for the root.
     #[inline(always)]
@@ -82,8 +82,7 @@ impl<'t> Trie<'t> {
         ensures { node_of result ≡ label_at (trie_spots self.now) at }
     {
         let vertex = self.vertex_below(at);
-        let paths: &'t [OwnedPath] = self.paths;
-        paths[vertex.path()].node(vertex.depth() - 1)
+        vertex.node()
     }
 
     // The numbers of the children of the vertex with this number.
@@ -103,9 +102,9 @@ impl<'t> Trie<'t> {
         requires trie { HoldsTree self.now }
         requires inside { at < length (entries_of self.now) }
         ensures some { IfSome result (λ node.
-            HasNextNode self.now.paths.now (prefix_at (trie_spots self.now) at) (node_of node)) }
+            HasNextNode (trie_paths self.now) (prefix_at (trie_spots self.now) at) (node_of node)) }
         ensures none { IfNone result ((node : Node)
-            → ¬ HasNextNode self.now.paths.now (prefix_at (trie_spots self.now) at) node) }
+            → ¬ HasNextNode (trie_paths self.now) (prefix_at (trie_spots self.now) at) node) }
     {
         match self.children(at).first() {
             None => None,
@@ -197,9 +196,9 @@ impl<'t> Trie<'t> {
     pub(crate) fn walk(&self, path: &Steps<'_>) -> Result<InsertionPoint, PathError>
         requires { HoldsTree self.now }
         ensures ok { IfOk result (λ point.
-            IsInsertionPoint self.now.paths.now (entries_of self.now) (steps_of path.now) point) }
+            IsInsertionPoint (trie_paths self.now) (entries_of self.now) (steps_of path.now) point) }
         ensures err { IfErr result (λ error.
-            (error ≡ PathError.Mixed) × IsMixed self.now.paths.now (steps_of path.now)) }
+            (error ≡ PathError.Mixed) × IsMixed (trie_paths self.now) (steps_of path.now)) }
     {
         let mut at = 0;
         for depth in 0..path.len() {

@@ -1,17 +1,22 @@
 // The vertices of a tree.
 ghost use Rattle.std.specs.Prelude.{◌≡◌, ◌+◌, ◌≤◌, ◌∷◌, ◌++◌, [], OnOk, OnErr, length};
+ghost use Rattle.sonic_text.specs.Paths.{index};
+ghost use Rattle.sonic_pointer.specs.Nodes.{node_of, owned_node};
 ghost use Rattle.sonic_pointer.specs.Internal.Tries.{with_order, with_child};
 
+use crate::node::PointerNode;
+use crate::owned::OwnedNode;
 use crate::pieces::{INLINE, Pieces};
 use smallvec::SmallVec;
 use std::alloc::{AllocError, Global};
 use std::marker::Model;
 
-// A vertex of a tree: its prefix is the first `depth` nodes of the path with the number `path`.
+// A vertex of a tree: its prefix is that of its parent and one node more. Of the root neither says anything.
+// No call reads the number of the parent: by it the vertices say which paths the tree has.
 #[derive(Debug, Drop)]
 pub(crate) struct Vertex {
-    path: usize,
-    depth: usize,
+    parent: usize,
+    node: OwnedNode,
     orders: SmallVec<usize, INLINE>,
     children: Pieces,
 }
@@ -27,54 +32,49 @@ impl Model for Vertex {
 }
 
 impl Vertex {
-    // A vertex without orders or children. It takes no memory.
-    pub(crate) fn new(alloc: Global, path: usize, depth: usize) -> Vertex
-        ensures { result ≡ record { path = path; depth = depth; orders = []; children = [] } }
+    // The root of a tree without paths. It takes no memory.
+    pub(crate) fn new_root(alloc: Global) -> Vertex
+        ensures { result ≡ record { parent = 0; node = index 0; orders = []; children = [] } }
     {
         Vertex {
-            path,
-            depth,
+            parent: 0,
+            node: OwnedNode::Index(0),
             orders: SmallVec::new(alloc),
             children: Pieces::new(alloc),
         }
     }
 
     // A vertex with one child. It takes no memory.
-    pub(crate) fn with_child(alloc: Global, path: usize, depth: usize, child: usize) -> Vertex
-        ensures { result ≡ record { path = path; depth = depth; orders = []; children = child ∷ [] } }
+    pub(crate) fn with_child(alloc: Global, parent: usize, node: OwnedNode, child: usize) -> Vertex
+        ensures { result ≡ record { parent = parent; node = owned_node node; orders = []; children = child ∷ [] } }
     {
         Vertex {
-            path,
-            depth,
+            parent,
+            node,
             orders: SmallVec::new(alloc),
             children: Pieces::of_one(alloc, child),
         }
     }
 
-    // The vertex where the path ends. It takes no memory.
-    pub(crate) fn with_order(alloc: Global, path: usize, depth: usize) -> Vertex
-        ensures { result ≡ record { path = path; depth = depth; orders = path ∷ []; children = [] } }
+    // The vertex where a path ends. It takes no memory.
+    pub(crate) fn with_order(alloc: Global, parent: usize, node: OwnedNode, order: usize) -> Vertex
+        ensures { result ≡ record { parent = parent; node = owned_node node; orders = order ∷ []; children = [] } }
     {
         let mut orders = SmallVec::new(alloc);
-        orders.push_reserved(path);
+        orders.push_reserved(order);
         Vertex {
-            path,
-            depth,
+            parent,
+            node,
             orders,
             children: Pieces::new(alloc),
         }
     }
 
-    pub(crate) fn path(&self) -> usize
-        ensures { result ≡ self.now.path }
+    // The node by which it follows its parent.
+    pub(crate) fn node(&self) -> PointerNode<'_>
+        ensures { node_of result ≡ self.now.node }
     {
-        self.path
-    }
-
-    pub(crate) fn depth(&self) -> usize
-        ensures { result ≡ self.now.depth }
-    {
-        self.depth
+        self.node.lend()
     }
 
     pub(crate) fn orders(&self) -> &[usize]

@@ -50,12 +50,12 @@ impl<'t> Model for TreeView<'t> {
 }
 
 impl<'t> TreeView<'t> {
-    ghost use Rattle.sonic_pointer.specs.Internal.TrieFields.{HoldsTree};
+    ghost use Rattle.sonic_pointer.specs.Internal.TrieFields.{HoldsTree, trie_paths};
     ghost use Rattle.sonic_pointer.specs.Internal.Targets.{IsTarget};
 
     pub(crate) fn of_root(trie: Trie<'t>) -> TreeView<'t>
         requires { HoldsTree trie }
-        ensures paths { result.paths ≡ trie.entry.paths.now }
+        ensures paths { result.paths ≡ trie_paths trie.entry }
         ensures prefix { result.prefix ≡ [] }
     {
         TreeView { trie, at: 0 }

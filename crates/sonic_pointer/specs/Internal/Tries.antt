@@ -1,15 +1,16 @@
 -- What a tree of paths keeps: its paths, and a vertex for each of their prefixes.
-use Rattle.std.specs.Prelude.{◌≡◌, ℕ, ◌+◌, ◌-◌, ◌<◌, ◌≤◌, List, [], ◌∷◌, ◌++◌, length, map, take, drop, slice_index_or}
-use Rattle.std.specs.List.{All, AllPairs, Contains, insert}
+use Rattle.std.specs.Prelude.{◌≡◌, ℕ, zero, suc, ◌+◌, ◌-◌, ◌<◌, ◌≤◌, List, [], ◌∷◌, ◌++◌, length, map, take, drop, slice_index_or}
+use Rattle.std.specs.List.{All, AllPairs, Contains, insert, range_with_len}
 use Rattle.std.specs.declared.cmp.Ordering.TheVariants.{Less}
 use Rattle.sonic_text.specs.Paths.{Node, index, Path}
 use Rattle.sonic_pointer.specs.Internal.Nodes.{node_cmp}
+use Rattle.sonic_pointer.specs.Internal.Prefixes.{HasPrefix}
 use Rattle.sonic_pointer.specs.Paths.{HasNextNode, IsOrders, IsShort, IsUnmixed}
 
--- a kept vertex: its prefix is the first nodes of a path, and its children are numbers of vertices
+-- a kept vertex: the number of its parent, the node by which it follows it, and the numbers of the paths that end here and of its children
 pub record Entry : Type 0 where
-  pub path : ℕ
-  pub depth : ℕ
+  pub parent : ℕ
+  pub node : Node
   pub orders : List ℕ
   pub children : List ℕ
 
@@ -21,23 +22,29 @@ pub record Spot : Type 0 where
 
 -- the vertex with this number
 abbrev pub entry_at : List Entry → ℕ → Entry
-entry_at entries number = slice_index_or entries number (record { path = 0; depth = 0; orders = []; children = [] })
+entry_at entries number = slice_index_or entries number (record { parent = 0; node = index 0; orders = []; children = [] })
 
--- the path with this number, empty where there is none
-abbrev pub path_at : List Path → ℕ → Path
-path_at paths number = slice_index_or paths number []
+-- the nodes by which the vertex with this number is reached from the root, which has the number 0, of so many of them at most
+abbrev pub way : List Entry → ℕ → ℕ → Path
+way entries zero number = []
+way entries (suc most) zero = []
+way entries (suc most) (suc before) = way entries most (entry_at entries (suc before)).parent ++ (entry_at entries (suc before)).node ∷ []
 
--- the prefix of a kept vertex
-abbrev pub prefix_of : List Path → Entry → Path
-prefix_of paths entry = take entry.depth (path_at paths entry.path)
+-- all of them, as a parent has a number below
+abbrev pub prefix_of : List Entry → ℕ → Path
+prefix_of entries number = way entries number number
 
--- the vertex that is kept
-abbrev pub spot_of : List Path → Entry → Spot
-spot_of paths entry = record { prefix = prefix_of paths entry; orders = entry.orders; children = entry.children }
+-- the vertex with this number and its prefix
+abbrev pub spot_of : List Entry → ℕ → Spot
+spot_of entries number = record { prefix = prefix_of entries number; orders = (entry_at entries number).orders; children = (entry_at entries number).children }
 
 -- all the vertices that are kept
-abbrev pub spots_of : List Path → List Entry → List Spot
-spots_of paths entries = map (spot_of paths) entries
+abbrev pub spots_of : List Entry → List Spot
+spots_of entries = map (spot_of entries) (range_with_len 0 (length entries))
+
+-- the paths that end at these vertices
+abbrev pub paths_of : List Entry → List ℕ → List Path
+paths_of entries ends = map (prefix_of entries) ends
 
 -- the vertex with this number
 abbrev pub spot_at : List Spot → ℕ → Spot
@@ -92,10 +99,6 @@ pub record IsGap (nodes : List Node) (node : Node) (position : ℕ) : Type 0 whe
   pub before : (k : ℕ) (d : Node) → k < position → IsBefore (slice_index_or nodes k d) node
   pub after : (k : ℕ) (d : Node) → position ≤ k → k < length nodes → IsBefore node (slice_index_or nodes k d)
 
--- a prefix lies in its path
-abbrev pub IsWithinPath : List Path → Entry → Type 0
-IsWithinPath paths entry = entry.depth ≤ length (path_at paths entry.path)
-
 -- the vertex, once the path with this number ends there
 abbrev pub with_order : Entry → ℕ → Entry
 with_order entry number = record entry { orders = entry.orders ++ number ∷ [] }
@@ -104,20 +107,32 @@ with_order entry number = record entry { orders = entry.orders ++ number ∷ [] 
 abbrev pub with_child : Entry → ℕ → ℕ → Entry
 with_child entry position child = record entry { children = insert entry.children position child }
 
--- the new vertices of a path: count of them, below the depth where the path leaves, from the number first on
-pub record IsChain (number first depth count : ℕ) (chain : List Entry) : Type 0 where
-  pub long : length chain ≡ count
-  pub inner : (j : ℕ) → j + 1 < count → entry_at chain j ≡ record { path = number; depth = depth + j + 1; orders = []; children = (first + j + 1) ∷ [] }
-  pub last : (j : ℕ) → j + 1 ≡ count → entry_at chain j ≡ record { path = number; depth = depth + j + 1; orders = number ∷ []; children = [] }
+-- the parent of a new vertex, where those before it are new from the number first on, and the first of them follows the vertex at
+abbrev pub parent_of : ℕ → ℕ → ℕ → ℕ
+parent_of at first zero = at
+parent_of at first (suc j) = first + j
+
+-- the new vertices of a path, from the number first on: one for each node below the depth where it leaves the tree, after the vertex at
+pub record IsChain (number at first depth : ℕ) (path : Path) (chain : List Entry) : Type 0 where
+  pub long : length chain ≡ length path - depth
+  pub inner : (j : ℕ) → j + 1 < length path - depth
+      → entry_at chain j ≡ record { parent = parent_of at first j; node = slice_index_or path (depth + j) (index 0); orders = []; children = (first + j + 1) ∷ [] }
+  pub last : (j : ℕ) → j + 1 ≡ length path - depth
+      → entry_at chain j ≡ record { parent = parent_of at first j; node = slice_index_or path (depth + j) (index 0); orders = number ∷ []; children = [] }
 
 -- the new vertices of a path were appended, where the root comes before the old ones
-pub record HasChain (number depth count : ℕ) (old new : List Entry) : Type 0 where
+pub record HasChain (number at depth : ℕ) (path : Path) (old new : List Entry) : Type 0 where
   pub kept : take (length old) new ≡ old
-  pub is_chain : IsChain number (length old + 1) depth count (drop (length old) new)
+  pub is_chain : IsChain number at (length old + 1) depth path (drop (length old) new)
 
--- the paths that are kept, and the vertices
+-- the parent of each vertex but the root has a number below
+abbrev pub AreBelow : List Entry → Type 0
+AreBelow entries = (number : ℕ) → 0 < number → number < length entries → (entry_at entries number).parent < number
+
+-- the vertices, and the paths that are kept
 pub record IsTree (paths : List Path) (entries : List Entry) : Type 0 where
-  pub inside : All (IsWithinPath paths) entries
-  pub trie : IsTrie paths (spots_of paths entries)
+  pub below : AreBelow entries
+  pub used : (number : ℕ) → 0 < number → number < length entries → HasPrefix paths (prefix_of entries number)
+  pub trie : IsTrie paths (spots_of entries)
   pub short : All IsShort paths
   pub unmixed : IsUnmixed paths

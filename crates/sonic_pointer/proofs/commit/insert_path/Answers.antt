@@ -1,8 +1,7 @@
-use Rattle.std.proofs.Common.{◌<◌, ◌-◌, ◌++◌, Ok, Err, Result, OnOk, OnErr, length, drop, sym, ap, ◌∙◌, subst, subst₂, arith}
-use Rattle.std.proofs.lemmas.List.{take_all, take-append-drop}
-use Rattle.sonic_pointer.specs.Internal.Tries.{IsChain, IsTree}
-use Rattle.sonic_pointer.specs.Internal.TrieFields.{kept_entries}
-use Rattle.sonic_pointer.proofs.TreeLemmas.{tree_ended, tree_branched}
+use Rattle.std.proofs.Common.{◌<◌, Ok, Err, Result, OnOk, OnErr, length, ◌∙◌, arith}
+use Rattle.sonic_pointer.specs.Internal.TrieFields.{kept_entries, kept_paths}
+use Rattle.sonic_pointer.proofs.VertexLemmas.{length-labels}
+use Rattle.sonic_pointer.proofs.CommitLemmas.{ends_here, leaves_here, unchanged}
 use Rattle.sonic_pointer.proofs.commit.insert_path.Goals as goal
 
 -- what holds after Ok, and after Err, leads to the goal
@@ -10,30 +9,43 @@ after : {T E A B C D G : Type 0} (r : Result T E) → OnOk r A → OnOk r B → 
 after (Ok x) a b c d ok err = ok a b
 after (Err e) a b c d ok err = err c d
 
+-- and what holds after Ok alone
+after_ok : {T E A B G : Type 0} (r : Result T E) → OnOk r A → OnOk r B → (A → B → G) → OnOk r G
+after_ok (Ok x) a b ok = ok a b
+after_ok (Err e) a b ok = a
+
 pub returns-then-point-len-clause-tree : goal.returns-then-point-len-clause-tree
 returns-then-point-len-clause-tree c =
-    let P = c.args.parts.now.paths.items in
-    let E = kept_entries c.args.parts.now in
-    let p = c.args.path in
-    let l = c.requires.point in
     let e = c.end_path.ensures in
-    let all = take_all c.args.point.depth p (let a = c.requires.len in let b = c.if-point-len.true in omega arith) in
-    after c.end_path.result e.paths e.vertices e.same_paths e.same_vertices
-    (λ x y. subst₂ IsTree (sym x) (sym y) (tree_ended P E p c.args.point.at c.requires.tree c.requires.short l.inside (l.prefix ∙ all) l.unmixed))
-    (λ x y. subst₂ IsTree (sym x) (sym y) c.requires.tree)
+    after c.end_path.result e.ends e.vertices e.same_ends e.same_vertices
+    (λ x y. (ends_here c.args.parts.now c.end_path.new.parts c.args.point c.args.path c.requires.tree c.requires.point c.requires.short (c.if-point-len.true ∙ c.len.ensures) x y).0)
+    (λ x y. (unchanged c.args.parts.now c.end_path.new.parts c.requires.tree x y).0)
+
+pub returns-then-point-len-clause-ok : goal.returns-then-point-len-clause-ok
+returns-then-point-len-clause-ok c =
+    let e = c.end_path.ensures in
+    after_ok c.end_path.result e.ends e.vertices
+    (λ x y. (ends_here c.args.parts.now c.end_path.new.parts c.args.point c.args.path c.requires.tree c.requires.point c.requires.short (c.if-point-len.true ∙ c.len.ensures) x y).1)
+
+pub branch_path-requires-clause-fits : goal.branch_path-requires-clause-fits
+branch_path-requires-clause-fits c =
+    let p = c.requires.point in
+    let short : c.args.point.depth < length c.args.path = (let a = c.len.ensures in let b = c.if-point-len.false in let d = p.deep in omega arith) in
+    let fits = (p.gap short).fits in
+    let many = length-labels (kept_paths c.args.parts.now) (kept_entries c.args.parts.now) c.requires.tree.tree c.args.point.at p.inside in
+    omega (arith, fits, many)
 
 pub returns-clause-tree : goal.returns-clause-tree
 returns-clause-tree c =
-    let P = c.args.parts.now.paths.items in
-    let E = kept_entries c.args.parts.now in
-    let p = c.args.path in
-    let l = c.requires.point in
     let e = c.branch_path.ensures in
-    let v = c.args.point in
-    let chain = drop (length E) (kept_entries c.branch_path.new.parts) in
-    let short = let a = c.requires.len in let b = c.if-point-len.false in let d = l.deep in let s : v.depth < length p = omega arith in s in
-    after c.branch_path.result e.paths e.vertices e.same_paths e.same_vertices
-    (λ x y. subst₂ IsTree (sym x) (ap (λ l. l ++ chain) (sym y.kept) ∙ take-append-drop (length E) (kept_entries c.branch_path.new.parts))
-    (tree_branched P E p v.at v.position v.depth chain c.requires.tree c.requires.short l.inside l.prefix short (l.gap short) l.unmixed
-    (subst (λ n. IsChain (length P) (length E) v.depth (n - v.depth) chain) c.requires.len y.is_chain)))
-    (λ x y. subst₂ IsTree (sym x) (sym y) c.requires.tree)
+    let short : c.args.point.depth < length c.args.path = (let a = c.len.ensures in let b = c.if-point-len.false in let d = c.requires.point.deep in omega arith) in
+    after c.branch_path.result e.ends e.vertices e.same_ends e.same_vertices
+    (λ x y. (leaves_here c.args.parts.now c.branch_path.new.parts c.args.point c.args.path c.requires.tree c.requires.point c.requires.short short x y).0)
+    (λ x y. (unchanged c.args.parts.now c.branch_path.new.parts c.requires.tree x y).0)
+
+pub returns-clause-ok : goal.returns-clause-ok
+returns-clause-ok c =
+    let e = c.branch_path.ensures in
+    let short : c.args.point.depth < length c.args.path = (let a = c.len.ensures in let b = c.if-point-len.false in let d = c.requires.point.deep in omega arith) in
+    after_ok c.branch_path.result e.ends e.vertices
+    (λ x y. (leaves_here c.args.parts.now c.branch_path.new.parts c.args.point c.args.path c.requires.tree c.requires.point c.requires.short short x y).1)

@@ -1,11 +1,14 @@
-use Rattle.std.proofs.Common.{◌≡◌, ℕ, ◌-◌, ◌+◌, ◌<◌, ◌≤◌, [], ◌∷◌, take, drop, vec_len, vec_capacity}
-use Rattle.sonic_pointer.specs.Internal.Tries.{entry_at}
+use Rattle.std.proofs.Common.{◌≡◌, ◌-◌, ◌+◌, ◌≤◌, length, map, drop, vec_len, vec_capacity}
+use Rattle.sonic_pointer.specs.Nodes.{owned_node}
+use Rattle.sonic_pointer.specs.Internal.Tries.{parent_of}
+use Rattle.sonic_pointer.proofs.ChainLemmas.{IsGrown}
 use Rattle.sonic_pointer.proofs.commit.push_chain.Given as goal
 
-abbrev pub invariant-loop-above : goal.invariant-loop-above
-invariant-loop-above l = record {
-  kept : take (vec_len l.fn.vertices) l.vertices.items ≡ l.fn.vertices.items;
-  long : vec_len l.vertices + l.depth + 1 ≡ vec_len l.fn.vertices + l.above;
-  inner : (k : ℕ) → k + l.depth + 1 < l.above → entry_at (drop (vec_len l.fn.vertices) l.vertices.items) k ≡ record { path = l.number; depth = l.depth + k + 1; orders = []; children = (vec_len l.fn.vertices + 1 + k + 1) ∷ [] };
-  room : vec_len l.vertices + (l.len + 1 - l.above) ≤ vec_capacity l.vertices;
+abbrev pub invariant-nodes : goal.invariant-nodes
+invariant-nodes l = record {
+  rest : l.node-iterator.rest.items ≡ drop l.above l.fn.nodes.items;
+  within : l.above ≤ length l.fn.nodes.items;
+  grown : IsGrown l.number l.at l.depth (map owned_node l.fn.nodes.items) l.fn.vertices.items l.vertices.items l.above;
+  parent : l.parent ≡ parent_of l.at (length l.fn.vertices.items + 1) (l.above - l.depth);
+  room : vec_len l.fn.vertices + (length l.fn.nodes.items - l.depth) ≤ vec_capacity l.vertices;
 }

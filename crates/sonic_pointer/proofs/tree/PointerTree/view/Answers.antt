@@ -3,4 +3,4 @@ use Rattle.sonic_pointer.specs.Paths.{IsUnmixed}
 use Rattle.sonic_pointer.proofs.tree.PointerTree.view.Goals as goal
 
 pub returns-clause-unmixed : goal.returns-clause-unmixed
-returns-clause-unmixed c = subst IsUnmixed c.self.view_is c.self.invariant.unmixed
+returns-clause-unmixed c = subst IsUnmixed c.self.view_is c.self.invariant.tree.unmixed

@@ -24,5 +24,5 @@ returns-in-Some c =
     let own = c.is_key.ensures in
     let node = c.is_key-in-Some.ensures in (
       λ h. record { other = node_of c.in-Some.first; next = next; kinds = λ e. differ c.is_key.result c.is_key-in-Some.result h (own ∙ (e ∙ sym node)) },
-      λ h. differs c.is_key.result c.is_key-in-Some.result (λ e. h.kinds (c.requires.trie.unmixed _ h.other (node_of c.in-Some.first) h.next next ∙ (sym own ∙ (e ∙ node)))),
+      λ h. differs c.is_key.result c.is_key-in-Some.result (λ e. h.kinds (c.requires.trie.tree.unmixed _ h.other (node_of c.in-Some.first) h.next next ∙ (sym own ∙ (e ∙ node)))),
     )

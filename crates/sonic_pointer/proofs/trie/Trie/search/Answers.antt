@@ -2,7 +2,7 @@ use Rattle.std.proofs.Common.{◌≡◌, Some, sym, ap, ◌∙◌, arith}
 use Rattle.std.proofs.lemmas.Option.{slice_get-get_or}
 use Rattle.sonic_pointer.specs.Nodes.{node_of}
 use Rattle.sonic_pointer.specs.Internal.Tries.{prefix_at}
-use Rattle.sonic_pointer.specs.Internal.TrieFields.{entries_of, trie_spots, trie_labels}
+use Rattle.sonic_pointer.specs.Internal.TrieFields.{entries_of, trie_paths, trie_spots, trie_labels}
 use Rattle.sonic_pointer.proofs.VertexLemmas.{spot_here}
 use Rattle.sonic_pointer.proofs.ShapeLemmas.{kid_step, kid_node}
 use Rattle.sonic_pointer.proofs.NodeLemmas.{after_middle, before_middle, node_cmp_same}
@@ -21,7 +21,7 @@ loop-low-preserved-in-Less c =
     let kids = c.children-children.ensures in
     let many = kids.count in
     let node = kid_node trie c.args.at _ _ c.get.result kids c.get.ensures in
-    let sorted = (spot_here trie.paths.now (entries_of trie) c.requires.trie c.args.at c.requires.inside).sorted in
+    let sorted = (spot_here (trie_paths trie) (entries_of trie) c.requires.trie.tree c.args.at c.requires.inside).sorted in
     record {
       order = omega arith;
       end = omega arith;
@@ -50,7 +50,7 @@ loop-low-preserved c =
     let kids = c.children-children.ensures in
     let many = kids.count in
     let node = kid_node trie c.args.at _ _ c.get.result kids c.get.ensures in
-    let sorted = (spot_here trie.paths.now (entries_of trie) c.requires.trie c.args.at c.requires.inside).sorted in
+    let sorted = (spot_here (trie_paths trie) (entries_of trie) c.requires.trie.tree c.args.at c.requires.inside).sorted in
     record {
       order = omega arith;
       end = i.end;

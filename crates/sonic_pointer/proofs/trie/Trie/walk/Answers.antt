@@ -1,7 +1,7 @@
 use Rattle.std.proofs.Common.{◌≡◌, refl, sym, subst, arith}
 use Rattle.std.proofs.lemmas.Result.{IfOk-weaker, IfErr-weaker}
 use Rattle.sonic_pointer.specs.Internal.Owned.{steps_of}
-use Rattle.sonic_pointer.specs.Internal.TrieFields.{entries_of, IsInsertionPoint}
+use Rattle.sonic_pointer.specs.Internal.TrieFields.{entries_of, trie_paths, IsInsertionPoint}
 use Rattle.sonic_pointer.proofs.InsertionLemmas.{step_down, mixed_here, point_here, ending_here}
 use Rattle.sonic_pointer.proofs.trie.Trie.walk.Goals as goal
 
@@ -34,5 +34,5 @@ returns-clause-ok c =
     let all = c.len-2.ensures in
     let bound = c.len-depth-end.ensures in
     let end : c.loop-depth.depth ≡ c.len-2.result = omega (arith, all, bound) in
-    subst (λ d. IsInsertionPoint c.args.self.now.paths.now (entries_of c.args.self.now) (steps_of c.args.path.now) (record { at = c.loop-depth.at; depth = d; position = 0 })) end
+    subst (λ d. IsInsertionPoint (trie_paths c.args.self.now) (entries_of c.args.self.now) (steps_of c.args.path.now) (record { at = c.loop-depth.at; depth = d; position = 0 })) end
     (ending_here c.args.self.now c.loop-depth.at c.loop-depth.depth (steps_of c.args.path.now) c.requires i.inside i.prefix (omega (arith, all, bound)))

@@ -1,8 +1,18 @@
-use Rattle.std.proofs.Common.{subst}
-use Rattle.sonic_pointer.specs.Internal.TrieFields.{trie_spots}
+use Rattle.std.proofs.Common.{length, ap, subst, arith}
+use Rattle.std.proofs.lemmas.List.{length-map}
+use Rattle.sonic_pointer.specs.Internal.TrieFields.{entries_of, trie_spots}
 use Rattle.sonic_pointer.specs.Views.{View, HaveOneNumber}
-use Rattle.sonic_pointer.proofs.PrefixLemmas.{one_number}
+use Rattle.sonic_pointer.proofs.PrefixLemmas.{one_number, prefix_in}
+use Rattle.sonic_pointer.proofs.WayLemmas.{length-spots_of}
 use Rattle.sonic_pointer.proofs.view.TreeView.prefixes.Goals as goal
 
 pub returns-clause-one : goal.returns-clause-one
-returns-clause-one c = subst (λ (v : View). HaveOneNumber v.prefixes) c.self.view_is (one_number (trie_spots c.self.inside.trie) c.self.invariant.trie.trie)
+returns-clause-one c = subst (λ (v : View). HaveOneNumber v.prefixes) c.self.view_is (one_number (trie_spots c.self.inside.trie) c.self.invariant.trie.tree.trie)
+
+pub returns-clause-count : goal.returns-clause-count
+returns-clause-count c =
+    let view = c.self.inside in
+    let many = length-spots_of (entries_of view.trie) in
+    let all = length-map (trie_spots view.trie) prefix_in in
+    let own = ap (λ (v : View). length v.prefixes) c.self.view_is in
+    omega (arith, many, all, own)
