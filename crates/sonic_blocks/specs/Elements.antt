@@ -24,8 +24,8 @@ abbrev pub is_behind_fraction : (ℕ → ℕ) → ℕ → Bool
 is_behind_fraction bytes zero = false
 is_behind_fraction bytes (suc k) = is_digit_at bytes k && (passes_before (is_at bytes 46) false k || is_behind_fraction bytes k)
 
--- the byte at k fits after those before it in elements that are each perhaps a blank, a number without an exponent, and a comma: a comma after a digit, a blank after a
--- comma, a minus sign after one of these two, a dot after a digit that is in no fraction, and a digit where no first 0 comes before it; before the first byte a comma comes
+-- the byte at k fits after those before it, before the first of which a comma comes, in elements that are each perhaps a blank, a number without an exponent, and a comma:
+-- a comma after a digit, a blank after a comma, a minus sign after one of these two, a dot after a digit that is in no fraction, and a digit where no first 0 comes before it
 abbrev pub fits_after : (ℕ → ℕ) → ℕ → Bool
 fits_after bytes k =
     (((is_at bytes 44 k && passes_before (is_digit_at bytes) false k
@@ -35,7 +35,7 @@ fits_after bytes k =
     || is_digit_at bytes k && not (passes_before (is_first_zero bytes) false k)
 
 -- the first n of 64 bytes fit, and the last of them is a comma: so they are whole elements (RFC 8259, sections 5 and 6)
-pub record AreElements (bytes : ℕ → ℕ) (n : ℕ) : Type 0 where
+pub record AreWholeElements (bytes : ℕ → ℕ) (n : ℕ) : Type 0 where
   pub within : n ≤ 64
   pub fit : (k : ℕ) → k < n → fits_after bytes k ≡ true
   pub comma : 0 < n → bytes (n - 1) ≡ 44

@@ -2,7 +2,7 @@
 ghost use Rattle.std.specs.Prelude.{◌≡◌, ℕ, ◌-◌, ◌<◌, ◌≤◌, true, get_or, slice_index};
 ghost use Rattle.std.specs.Char.{is_ascii_digit};
 ghost use Rattle.sonic_blocks.specs.Bits.{is_set};
-ghost use Rattle.sonic_blocks.specs.Elements.{AreElements, fits_after};
+ghost use Rattle.sonic_blocks.specs.Elements.{AreWholeElements, fits_after};
 ghost use Rattle.sonic_blocks.specs.Internal.NumberMasks.{AreNumberMasks};
 
 use crate::lanes::equal_to;
@@ -103,7 +103,7 @@ fn bit_length(bits: u64) -> usize
 /// aren't looked at, and it is 0: so few elements are passed faster one by one.
 #[inline(always)]
 pub fn whole_elements(block: &[u8; 64]) -> usize
-    ensures { AreElements (slice_index block.now) result }
+    ensures { AreWholeElements (slice_index block.now) result }
 {
     if !begins_elements(block) {
         return 0;

@@ -28,6 +28,7 @@ impl<T: Drop, A: Allocator> Unboxed<T, A> {
         ensures { result.value ≡ self.value }
     {
         let Unboxed { at, alloc } = self;
+        // SAFETY: `at` came of a box of this allocator, which nobody else has and which wasn't made again.
         unsafe { Box::from_raw(alloc, at) }
     }
 }

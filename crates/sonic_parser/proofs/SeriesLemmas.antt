@@ -4,7 +4,7 @@ use Rattle.std.proofs.lemmas.Bool.{cases_lt, cases_eq}
 use Rattle.std.proofs.lemmas.Bool.Decides.{nat_tests}
 use Rattle.std.proofs.lemmas.List.Sums.{prefix_len-drop_no, prefix_len-drop_yes, prefix_len-drop_all}
 use Rattle.std.specs.Char.{is_ascii_digit}
-use Rattle.sonic_blocks.specs.Elements.{passes_before, is_at, is_digit_at, is_first_zero, is_behind_fraction, fits_after, AreElements}
+use Rattle.sonic_blocks.specs.Elements.{passes_before, is_at, is_digit_at, is_first_zero, is_behind_fraction, fits_after, AreWholeElements}
 use Rattle.sonic_blocks.proofs.BoolLemmas.{both_true, either_true, never, not_true}
 use Rattle.sonic_blocks.proofs.RunLemmas.{run_fails}
 use Rattle.sonic_text.specs.declared.kind.Kind.{Kind}
@@ -277,7 +277,7 @@ behind_comma e (at_dot h i r int b w d c s o) = never c (ap (λ b. b == 44) e)
 behind_comma e (at_fraction h i r int b first w d c s g) = never c (ap (λ b. b == 44) e)
 
 -- behind the last comma of elements the next one is expected
-pub elements_passed : (t : List ℕ) (p n : ℕ) → AreElements (λ j. byte t (p + j)) n → 0 < n → AreItemsPassed Array t p (after_space t (p + n))
+pub elements_passed : (t : List ℕ) (p n : ℕ) → AreWholeElements (λ j. byte t (p + j)) n → 0 < n → AreItemsPassed Array t p (after_space t (p + n))
 elements_passed t p zero are some m root kinds top r = absurd (omega arith)
 elements_passed t p (suc n) are some m root kinds top r =
     let last : suc n - 1 ≡ n = omega arith in
@@ -300,7 +300,7 @@ module _ (f g : ℕ → ℕ) (same : (k : ℕ) → k < 64 → f k ≡ g k) where
   fits_same (suc (suc k)) h = rw (same (suc (suc k)) h, same (suc k) (omega arith), same k (omega arith), dot_same k (omega arith), fraction_same k (omega arith))
 
 -- the bytes of a block are those of the text
-pub elements_in_text : (bytes : ℕ → ℕ) (t : List ℕ) (p n : ℕ) → ((k : ℕ) → k < 64 → bytes k ≡ byte t (p + k)) → AreElements bytes n → AreElements (λ j. byte t (p + j)) n
+pub elements_in_text : (bytes : ℕ → ℕ) (t : List ℕ) (p n : ℕ) → ((k : ℕ) → k < 64 → bytes k ≡ byte t (p + k)) → AreWholeElements bytes n → AreWholeElements (λ j. byte t (p + j)) n
 elements_in_text bytes t p n same are =
     let short : n ≤ 64 = are.within in
     record {
