@@ -33,25 +33,25 @@ impl Parts {
     }
 }
 
-// Appends a vertex for each node of a path below the depth where it leaves the tree after the vertex `at`.
+// Appends a vertex for each node of a path below the depth where it leaves the tree.
 fn push_chain(
     alloc: Global,
     vertices: &mut Vec<Vertex>,
     number: usize,
-    at: usize,
-    depth: usize,
+    point: InsertionPoint,
     nodes: Vec<OwnedNode>,
 )
-    requires short { depth < length nodes.items }
-    requires room { vec_len vertices.old + (length nodes.items - depth) ≤ vec_capacity vertices.old }
-    ensures { HasChain number at depth (map owned_node nodes.items) vertices.old.items vertices.new.items }
+    requires short { point.depth < length nodes.items }
+    requires room { vec_len vertices.old + (length nodes.items - point.depth) ≤ vec_capacity vertices.old }
+    ensures { HasChain number point.at point.depth (map owned_node nodes.items)
+        vertices.old.items vertices.new.items }
 {
     let len = nodes.len();
-    let mut parent = at;
+    let mut parent = point.at;
     let mut above = 0;
     'nodes: for node in nodes {
         above += 1;
-        if above <= depth {
+        if above <= point.depth {
             continue 'nodes;
         }
         let own = vertices.len() + 1;
@@ -151,14 +151,8 @@ fn branch_path(
     } = point;
     parts.vertices.reserve(path.len() - depth)?;
     add_child(&mut parts.root, &mut parts.vertices, at, position, first)?;
-    push_chain(
-        alloc,
-        &mut parts.vertices,
-        number,
-        at,
-        depth,
-        path.into_nodes(),
-    );
+    let nodes = path.into_nodes();
+    push_chain(alloc, &mut parts.vertices, number, point, nodes);
     parts.ends.push_reserved(parts.vertices.len());
     Ok(())
 }
