@@ -28,6 +28,7 @@ pub(crate) enum Target<'a> {
     },
 }
 
+#[inline(always)]
 fn compare_nodes(left: PointerNode<'_>, right: PointerNode<'_>) -> Ordering
     ensures { result ≡ node_cmp (node_of left.entry) (node_of right.entry) }
 {

@@ -1,7 +1,8 @@
 -- After a backslash is a char of a string, or a first wrong byte, and never both.
 use Rattle.std.proofs.Common.{◌≡◌, ◌⊎◌, ℕ, zero, suc, ◌+◌, ◌<◌, ◌≤◌, Bool, true, false, inl, inr, List, arith, refl}
 use Rattle.std.proofs.lemmas.Bool.{cases_Bool, cases_lt, cases_eq, cases_order}
-use Rattle.std.specs.Prelude.{is_some, Some}
+use Rattle.std.proofs.lemmas.Bool.Decides.{nat_tests}
+use Rattle.std.specs.Prelude.{is_some, unwrap_or, Some}
 use Rattle.sonic_text.specs.declared.stop.Stop.{Stop}
 use Rattle.sonic_text.specs.Places.{byte, bad}
 use Rattle.sonic_text.specs.Strings.{hex_digit, is_low_byte, escaped, escape_fault, IsEscape, IsHigh, IsLow, IsLowEscape, IsUnicodeChar, IsChar, IsEscapeFault}
@@ -88,6 +89,22 @@ escape_fault_one {m} {t} {p} f g = elim (cases_order f.n g.n) [
       let d : bad t (p + f.n) f.code ≡ bad t (p + g.n) g.code = rw (e, c) refl in
       cc (f.stop, g.stop)
 ]
+
+-- what a letter denotes after a backslash is no 0
+pub escaped_some : (b : ℕ) → 0 < unwrap_or (escaped b) 0 → is_some (escaped b) ≡ true
+escaped_some b h = elim (known (escaped b)) [
+  | inl e ↦ absurd (let none : unwrap_or (escaped b) 0 ≡ 0 = rw e refl in omega arith)
+  | inr (c, e) ↦ rw e refl
+]
+
+pub escaped_nonzero : (b : ℕ) → 0 < unwrap_or (escaped b) 0 → 0 < b
+unfolding escaped
+escaped_nonzero zero h = absurd (omega arith)
+escaped_nonzero (suc b) h = omega arith
+
+pub escaped_none : (b : ℕ) → unwrap_or (escaped b) 0 ≡ 0 → is_some (escaped b) ≡ false
+unfolding escaped
+escaped_none b h = grind (arith, nat_tests)
 
 -- a letter that denotes a char after a backslash
 pub short_char : {m : Bool} {t : List ℕ} {k : ℕ} → is_some (escaped (byte t (k + 1))) ≡ true → byte t k ≡ 92 → (q : ℕ) → q ≡ k + 2 → (b : List ℕ) × IsChar m t k q b

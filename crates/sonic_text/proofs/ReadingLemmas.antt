@@ -1,5 +1,6 @@
 -- The steps of the loops that read a string: what is known before a step and what the step found give what is known after it.
-use Rattle.std.proofs.Common.{◌≡◌, ◌≢◌, inl, inr, ℕ, zero, suc, ◌+◌, ◌-◌, ◌<◌, ◌≤◌, Bool, true, false, not, List, length, arith, refl, sym, ◌∙◌, subst}
+use Rattle.std.proofs.Common.{◌≡◌, ◌≢◌, inl, inr, ℕ, zero, suc, ◌+◌, ◌-◌, ◌^◌, ◌/◌, ◌%◌, ◌<◌, ◌≤◌, ◌==◌, ap, Bool, true, false, not, List, length, arith, refl, sym, ◌∙◌, subst}
+use Rattle.std.proofs.lemmas.Nat.{shr-shr}
 use Rattle.std.proofs.lemmas.Bool.{cases_lt}
 use Rattle.std.proofs.lemmas.Bool.Decides.{nat_tests}
 use Rattle.sonic_error.specs.declared.code.ErrorCode.TheVariants.{ControlCharacterWhileParsingString}
@@ -7,7 +8,7 @@ use Rattle.sonic_text.specs.declared.stop.Stop.{Stop}
 use Rattle.sonic_text.specs.Places.{byte, bad}
 use Rattle.sonic_blocks.specs.Bits.{is_set, IsNextBit}
 use Rattle.sonic_blocks.specs.Runs.{is_plain}
-use Rattle.sonic_text.specs.Internal.Reading.{AreSpecial, IsInString, EndsString}
+use Rattle.sonic_text.specs.Internal.Reading.{AreSpecial, IsLeftOf, IsInString, EndsString}
 use Rattle.sonic_text.specs.Strings.{AreChars, IsChar, IsEscapeFault, IsEscapedString, IsStringFault, IsUnescaped}
 use Rattle.sonic_text.proofs.Places.{byte_within}
 use Rattle.sonic_text.proofs.Strings.{chars_later}
@@ -45,6 +46,38 @@ plain_to_special {p = p} {k = k} special next q from to =
 pub plain_to_end : {t : List ℕ} {p word n : ℕ} → AreSpecial t p word → ((k : ℕ) → n ≤ k → k < 64 → is_set word k ≡ false) → ArePlain t (p + n) (p + 32)
 plain_to_end {p = p} special clear q from to = no_special special (omega arith) to (clear (q - p) (omega arith) (omega arith))
 
+-- a word that is shifted has the bits from there on
+set_shr : (n s k : ℕ) → is_set (n / 2 ^ s) k ≡ is_set n (s + k)
+unfolding is_set
+set_shr n s k = ap (λ q. q % 2 == 1) (shr-shr n s k)
+
+pub left_after : {word n left m : ℕ} (s : ℕ) → m ≡ n + s → IsLeftOf word n left → IsLeftOf word m (left / 2 ^ s)
+left_after {word} {n} {left} {m} s e same = record {
+  bits = λ k.
+      let there : n + (s + k) ≡ m + k = omega arith in
+      set_shr left s k ∙ same.bits (s + k) ∙ ap (is_set word) there;
+}
+
+-- so its lowest bit is the next one of the other
+pub next_of_left : {t : List ℕ} {p word n left k : ℕ} → AreSpecial t p word → IsLeftOf word n left → IsNextBit left 0 k → IsNextBit word n (n + k)
+next_of_left {word = word} {n} {k = k} special same next =
+    let here : is_set word (n + k) ≡ true = sym (same.bits k) ∙ next.here in
+    let few = special.few (n + k) here in
+    record {
+      later = omega arith;
+      within = omega (arith, few);
+      here = here;
+      before = λ j from to.
+          let back : n + (j - n) ≡ j = omega arith in
+          subst (λ q. is_set word q ≡ false) back (sym (same.bits (j - n)) ∙ next.before (j - n) (omega arith) (omega arith));
+    }
+
+-- and where it has none, the other has none from n on
+pub none_of_left : {word n left : ℕ} → IsLeftOf word n left → ((k : ℕ) → 0 ≤ k → k < 64 → is_set left k ≡ false) → (k : ℕ) → n ≤ k → k < 64 → is_set word k ≡ false
+none_of_left {word} {n} same clear k from to =
+    let back : n + (k - n) ≡ k = omega arith in
+    subst (λ q. is_set word q ≡ false) back (sym (same.bits (k - n)) ∙ clear (k - n) (omega arith) (omega arith))
+
 -- are chars
 plain_chars : {m : Bool} {t : List ℕ} {i p : ℕ} (n : ℕ) → ArePlain t p (p + n) → ((b : List ℕ) × AreChars m t i p b) → (b : List ℕ) × AreChars m t i (p + n) b
 plain_chars {m} {t} {i} zero plain fits = subst (λ k. (b : List ℕ) × AreChars m t i k b) (omega arith) fits
@@ -69,6 +102,23 @@ pub past_special : {m : Bool} {t : List ℕ} {i p word n k : ℕ} → AreSpecial
 past_special special next s =
     let few = special.few _ next.here in
     past_plain (omega (arith, next.later)) (omega (arith, special.within, few)) (plain_to_special special next) s
+
+-- the same where a word has the bits from a place on
+pub past_left : {m : Bool} {t : List ℕ} {i p q word left k : ℕ} → p ≤ q → AreSpecial t p word → IsLeftOf word (q - p) left → IsNextBit left 0 k → IsInString m t i q
+    → (q + k < p + 32) × IsInString m t i (q + k)
+past_left {m} {t} {i} {p} {q} {k = k} later special same next s =
+    let stop = next_of_left special same next in
+    let few = special.few _ stop.here in
+    let here : q ≡ p + (q - p) = omega arith in
+    let there : p + (q - p + k) ≡ q + k = omega arith in
+    (omega arith, subst (λ j. IsInString m t i j) there (past_special special stop (subst (λ j. IsInString m t i j) here s)))
+
+-- and to the end of the block, where it has no bit
+pub past_block : {m : Bool} {t : List ℕ} {i p q word left : ℕ} → p ≤ q → q ≤ p + 32 → AreSpecial t p word → IsLeftOf word (q - p) left → ((k : ℕ) → 0 ≤ k → k < 64 → is_set left k ≡ false)
+    → IsInString m t i q → IsInString m t i (p + 32)
+past_block {t = t} {p = p} {q} later within special same clear s =
+    let here : p + (q - p) ≡ q = omega arith in
+    past_plain within special.within (subst (λ j. ArePlain t j (p + 32)) here (plain_to_end special (none_of_left same clear))) s
 
 -- past a char
 pub past_char : {m : Bool} {t : List ℕ} {i p q : ℕ} {b : List ℕ} → p < q → q ≤ length t → IsChar m t p q b → IsInString m t i p → IsInString m t i q

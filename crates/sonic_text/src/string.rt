@@ -8,7 +8,7 @@ ghost use Rattle.sonic_text.specs.Strings.{escaped, hex_digit, is_low_byte, IsHe
 use crate::hex::{digit_of, hex4_at};
 use crate::scan::{byte_at, stop_at};
 use crate::stop::Stop;
-use crate::unescape::low_at;
+use crate::unescape::{escaped_of, low_at};
 use sonic_blocks::{StringBlock, next_bit, plain_end};
 use sonic_error::ErrorCode;
 
@@ -110,6 +110,7 @@ fn unicode_end(text: &[u8], place: usize, lossy: bool) -> Result<usize, Stop>
     requires letter { byte text.now (place + 1) ≡ 117 }
     ensures ok { IfOk result (λ j. (place < j) × (j ≤ length text.now)
         × (b : List ℕ) × IsChar lossy text.now place j b) }
+    ensures short { IfOk result (λ j. j ≤ place + 12) }
     ensures err { IfErr result (λ s. IsEscapeFault lossy text.now place s) }
 {
     let number = number_at(text, place, lossy)?;
@@ -127,29 +128,17 @@ fn unicode_end(text: &[u8], place: usize, lossy: bool) -> Result<usize, Stop>
     }
 }
 
-// Whether a letter alone follows a backslash.
-#[inline]
-#[tactic(auto, unfolding(crate::specs::Strings::escaped))]
-fn is_short(letter: u8) -> bool
-    ensures value { result ≡ is_some (escaped letter) }
-    ensures within { result ≡ true → 0 < letter }
-{
-    matches!(
-        letter,
-        b'"' | b'\\' | b'/' | b'b' | b'f' | b'n' | b'r' | b't'
-    )
-}
-
 // The place after the escape that begins at a place, or its first wrong byte.
 #[inline(always)]
 fn escape_end(text: &[u8], place: usize, lossy: bool) -> Result<usize, Stop>
     requires { byte text.now place ≡ 92 }
     ensures ok { IfOk result (λ j. (place < j) × (j ≤ length text.now)
         × (b : List ℕ) × IsChar lossy text.now place j b) }
+    ensures short { IfOk result (λ j. j ≤ place + 12) }
     ensures err { IfErr result (λ s. IsEscapeFault lossy text.now place s) }
 {
     let letter = byte_at(text, place + 1);
-    if is_short(letter) {
+    if escaped_of(letter) != 0 {
         Ok(place + 2)
     } else if letter == b'u' {
         unicode_end(text, place, lossy)
@@ -206,24 +195,23 @@ fn pass_block(text: &[u8], base: usize, lossy: bool) -> Passed
     let Some(special) = special_at(text, base) else {
         return Passed::Left(base);
     };
-    let mut passed = 0;
-    'chars: while let Some(next) = next_bit(special, passed) {
-        let place = base + next;
-        if text[place] == b'"' {
-            return Passed::Closed(place + 1);
+    let mut place = base;
+    let mut left = special;
+    'chars: while let Some(near) = next_bit(left, 0) {
+        let stop = place + near;
+        if text[stop] == b'"' {
+            return Passed::Closed(stop + 1);
         }
-        if text[place] != b'\\' {
-            return Passed::Left(place);
+        if text[stop] != b'\\' {
+            return Passed::Left(stop);
         }
-        let Ok(end) = escape_end(text, place, lossy) else {
-            return Passed::Left(place);
+        let Ok(end) = escape_end(text, stop, lossy) else {
+            return Passed::Left(stop);
         };
-        if end - base >= 32 {
-            return Passed::Reached(end);
-        }
-        passed = end - base;
+        left >>= end - place;
+        place = end;
     }
-    Passed::Reached(base + 32)
+    Passed::Reached(place.max(base + 32))
 }
 
 // The end of the string whose chars fit up to a place, char by char.

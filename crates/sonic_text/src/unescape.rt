@@ -33,7 +33,8 @@ pub const ESCAPED_TAB: [u8; 256] = [
 ];
 
 /// What the letter denotes after a backslash, and 0 if it denotes nothing there.
-fn escaped_of(letter: u8) -> u8
+#[inline(always)]
+pub(crate) fn escaped_of(letter: u8) -> u8
     ensures { result ≡ unwrap_or (escaped letter) 0 }
 {
     ESCAPED_TAB[letter as usize]

@@ -13,6 +13,10 @@ pub record AreSpecial (t : List ℕ) (p word : ℕ) : Type 0 where
   pub bits : (k : ℕ) → k < 32 → is_set word k ≡ not (is_plain (byte t (p + k)))
   pub few : (k : ℕ) → is_set word k ≡ true → k < 32
 
+-- the word `left` has the bits of the other one from n on
+pub record IsLeftOf (word n left : ℕ) : Type 0 where
+  pub bits : (k : ℕ) → is_set left k ≡ is_set word (n + k)
+
 -- all before p fits inside the string that begins at i
 pub record IsInString (m : Bool) (t : List ℕ) (i p : ℕ) : Type 0 where
   pub opens : byte t i ≡ 34
