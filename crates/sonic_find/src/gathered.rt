@@ -182,7 +182,7 @@ fn member(walk: &mut Walk<'_>, level: &Level<'_, '_>, passed: usize) -> Result<(
     ensures err { IfErr result (IsStopFor (λ s. IsFault strict walk.old.text level.now.start s)) }
 {
     let quote = walk.place();
-    let Some(child) = head(walk, level, passed, 0)? else {
+    let Some(child) = head(walk, level, passed, 0, &mut 0)? else {
         walk.skip()?;
         return Ok(());
     };

@@ -12,7 +12,7 @@ ghost use Rattle.sonic_find.specs.Internal.Located.{IsStatus};
 ghost use Rattle.sonic_find.specs.Paths.{kind_of};
 ghost use Rattle.sonic_find.specs.Internal.Walk.{IsStop, ComesTo, AreFindings, IsLater, AllSettled, BelowSettled, IsContainer, IsFollowed, IsItemPassed, IsWanted, IsChildItem, SomeOpen};
 ghost use Rattle.sonic_find.specs.Internal.Marks.{KeepsMarks};
-ghost use Rattle.sonic_find.specs.Internal.View.{point_at, container_at, marking_at, progress_at};
+ghost use Rattle.sonic_find.specs.Internal.View.{point_at, container_at, marking_at, progress_at, NoneBefore};
 
 use crate::gathered::follow_whole;
 use crate::state::Walk;
@@ -149,8 +149,9 @@ fn items(walk: &mut Walk<'_>, level: &Level<'_, '_>) -> Result<bool, Fault>
     walk.enter(level.kind)?;
     let mut visited = Visited::new(walk.alloc(), level.view.count())?;
     let mut passed = 0;
+    let mut next_child = 0;
     'items: loop {
-        item(walk, level, &mut visited, passed)?;
+        item(walk, level, &mut visited, passed, &mut next_child)?;
         if !is_wanted(walk, level, &visited) {
             return Ok(false);
         }
@@ -170,7 +171,9 @@ fn item(
     level: &Level<'_, '_>,
     visited: &mut Visited,
     passed: usize,
+    next_child: &mut usize,
 ) -> Result<(), Fault>
+    requires none { NoneBefore level.now.view.now passed next_child.old }
     requires before { IsFollowed (container_at walk.old.rule walk.old.text level.now)
         (progress_at passed walk.old.place visited.old walk.old.findings) }
     requires wanted { IsWanted (container_at walk.old.rule walk.old.text level.now)
@@ -178,6 +181,7 @@ fn item(
     requires marks { KeepsMarks (marking_at walk.old level.now.view.now) walk.old.place }
     ensures passed { OnOk result (IsItemPassed (container_at walk.old.rule walk.old.text level.now)
         (progress_at passed walk.old.place visited.new walk.new.findings) walk.new.place) }
+    ensures none { OnOk result (NoneBefore level.now.view.now passed next_child.new) }
     ensures later { OnOk result (IsLater walk.old.rule walk.old.text level.now.view.now.paths walk.old.findings
         walk.new.findings) }
     ensures marks { OnOk result (KeepsMarks (marking_at walk.new level.now.view.now) walk.new.place) }
@@ -186,7 +190,7 @@ fn item(
     ensures err { IfErr result (IsStopFor (IsStop (container_at walk.old.rule walk.old.text level.now).point
         level.now.needs)) }
 {
-    let child = head(walk, level, passed, visited.count())?;
+    let child = head(walk, level, passed, visited.count(), next_child)?;
     let Some(unvisited) = visited.unvisited(child) else {
         walk.skip()?;
         return Ok(());
@@ -209,23 +213,36 @@ fn is_wanted(walk: &Walk<'_>, level: &Level<'_, '_>, visited: &Visited) -> bool
 }
 
 // Passes what comes before the value of the item at the cursor: the number of the child that it is. An
-// element is found at once where `near` children have a lesser index.
+// element is found at once where `near` children have a lesser index, and none is looked for before the
+// next child.
 #[inline(always)]
 pub(crate) fn head(
     walk: &mut Walk<'_>,
     level: &Level<'_, '_>,
     passed: usize,
     near: usize,
+    next_child: &mut usize,
 ) -> Result<Option<usize>, Stop>
+    requires none { NoneBefore level.now.view.now passed next_child.old }
     ensures item { IfOk result (λ child. IsChildItem (container_at walk.old.rule walk.old.text level.now) passed
         walk.old.place walk.new.place child) }
     ensures moved { OnOk result (walk.new ≡ record walk.old { place = walk.new.place }) }
     ensures later { OnOk result (walk.old.place ≤ walk.new.place) }
+    ensures none { NoneBefore level.now.view.now passed next_child.new }
     ensures err { IfErr result (λ s. (level.now.kind ≡ Kind.Object)
         × IsKeyFault strict walk.old.text walk.old.place s) }
 {
     let Kind::Object = level.kind else {
-        return Ok(level.view.of_index_near(passed, near));
+        if passed < *next_child {
+            return Ok(None);
+        }
+        return match level.view.index_from(passed, near) {
+            Ok(child) => Ok(Some(child)),
+            Err(next) => {
+                *next_child = next;
+                Ok(None)
+            }
+        };
     };
     let start = walk.place();
     let key = walk.key()?;

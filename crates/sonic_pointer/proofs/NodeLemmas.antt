@@ -1,12 +1,14 @@
 -- The order of nodes is total.
-use Rattle.std.proofs.Common.{◌≡◌, ◌≢◌, ℕ, ◌+◌, ◌<◌, ◌≤◌, List, length, get_or, AllPairs, refl, subst, inl, inr, arith, Less, Equal, Greater}
+use Rattle.std.proofs.Common.{◌≡◌, ◌≢◌, ℕ, ◌+◌, ◌<◌, ◌≤◌, List, length, get_or, AllPairs, refl, sym, subst, inl, inr, arith, Less, Equal, Greater}
 use Rattle.std.proofs.lemmas.Bool.{cases_eq}
+use Rattle.std.specs.Cmp.{nat_cmp_is}
+use Rattle.std.proofs.lemmas.Cmp.{ranked}
 use Rattle.std.specs.Ordering.{ordering_reverse}
 use Rattle.std.specs.FinMap.{nat_cmp-IsAntisymmetric, slice_cmp-IsAntisymmetric}
 use Rattle.std.proofs.lemmas.Cmp.{nat_cmp_total, nat_list_cmp_total, tied_itself}
 use Rattle.sonic_text.specs.Paths.{Node, key, index}
 use Rattle.sonic_pointer.specs.Internal.Nodes.{node_cmp}
-use Rattle.sonic_pointer.specs.Internal.Tries.{IsBefore}
+use Rattle.sonic_pointer.specs.Internal.Tries.{IsBefore, IsGap}
 
 pub before_trans : (a b c : Node) → IsBefore a b → IsBefore b c → IsBefore a c
 before_trans (key a) (key b) (key c) h k = nat_list_cmp_total.trans a b c h k
@@ -59,3 +61,25 @@ before_middle xs n v m sorted l is e k d above inside =
       | inl same ↦ rw (same, is d) e
       | inr other ↦ before_trans n v (get_or xs k d) e (subst (λ x. IsBefore x (get_or xs k d)) (is d) (sorted m k d (omega arith) inside))
     ]
+
+-- lesser numbers come before greater ones
+pub index_before : (n k : ℕ) → n < k → IsBefore (index n) (index k)
+index_before n k less = sym (nat_cmp_is n k Less less)
+
+pub before_index : (n k : ℕ) → IsBefore (index n) (index k) → n < k
+before_index n k before = ranked n k Less (sym before)
+
+-- where an index would be in a sorted list, so would a greater one that comes before the next node, if there is one
+pub gap_wider : (xs : List Node) (n k position : ℕ) → AllPairs IsBefore xs → IsGap xs (index n) position → n ≤ k
+    → (position < length xs → (v : Node) × ((d : Node) → get_or xs position d ≡ v) × IsBefore (index k) v) → IsGap xs (index k) position
+gap_wider xs n k position sorted gap later next = record {
+  fits = gap.fits;
+  before = λ j d l.
+      elim (cases_eq n k) [
+        | inl same ↦ rw (← same) (gap.before j d l)
+        | inr other ↦ before_trans (get_or xs j d) (index n) (index k) (gap.before j d l) (index_before n k (omega arith))
+      ];
+  after = λ j d from inside.
+      let (v, is, less) = next (omega arith) in
+      before_middle xs (index k) v position sorted (omega arith) is less j d from inside;
+}

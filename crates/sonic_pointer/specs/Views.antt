@@ -1,6 +1,6 @@
 -- A vertex of a tree, as its callers see it.
-use Rattle.std.specs.Prelude.{◌≡◌, ℕ, Bool, true, false, List, Some, slice_get}
-use Rattle.sonic_text.specs.Paths.{Node}
+use Rattle.std.specs.Prelude.{◌≡◌, ◌⊎◌, ◌<◌, ◌≤◌, ◌-◌, ◌^◌, ℕ, Bool, true, false, List, Some, slice_get}
+use Rattle.sonic_text.specs.Paths.{Node, index}
 use Rattle.sonic_pointer.specs.Nodes.{is_key}
 use Rattle.sonic_pointer.specs.Paths.{HasNextNode}
 use Rattle.sonic_pointer.specs.declared.branch.Branch.{Branch}
@@ -28,3 +28,9 @@ abbrev pub IsBranch : List (List Node) → List Node → Branch → Type 0
 IsBranch paths prefix Leaf = (node : Node) → ¬ HasNextNode paths prefix node
 IsBranch paths prefix Keys = HasKind paths prefix true
 IsBranch paths prefix Indexes = HasKind paths prefix false
+
+-- no child is the index n, nor one behind it before `next`, which is the next child, or the largest number where there is none
+pub record IsNextIndex (view : View) (n next : ℕ) : Type 0 where
+  pub absent : ¬ HasNextNode view.paths view.prefix (index n)
+  pub none_before : (k : ℕ) → n ≤ k → k < next → ¬ HasNextNode view.paths view.prefix (index k)
+  pub reached : (next ≡ 2 ^ 64 - 1) ⊎ (n < next) × (i : ℕ) × (slice_get view.children i ≡ Some (index next))

@@ -1,6 +1,6 @@
 // A tree as its calls read it.
-ghost use Rattle.std.specs.Prelude.{◌≡◌, ◌≢◌, ℕ, ◌<◌, ◌≤◌, ◌↔◌, IsTrue, IfOk, IfErr, IfSome, IfNone, Some, length, slice_get};
-ghost use Rattle.sonic_text.specs.Paths.{Node, Path, key};
+ghost use Rattle.std.specs.Prelude.{◌≡◌, ◌≢◌, ◌⊎◌, ℕ, ◌<◌, ◌≤◌, ◌↔◌, IsTrue, IfOk, IfErr, IfSome, IfNone, Some, length, slice_get};
+ghost use Rattle.sonic_text.specs.Paths.{Node, Path, key, index};
 ghost use Rattle.sonic_pointer.specs.Nodes.{node_of};
 ghost use Rattle.sonic_pointer.specs.Paths.{HasNextNode, IsMixed};
 ghost use Rattle.sonic_pointer.specs.Internal.Tries.{entry_at, prefix_at, label_at, IsChildVertex, IsGap};
@@ -135,6 +135,26 @@ impl<'t> Trie<'t> {
             }
         }
         Err(low)
+    }
+
+    // Before which index no child comes from one on that would be at this position: the next child's, and
+    // the largest number where there is none.
+    pub(crate) fn next_index(&self, at: usize, position: usize) -> usize
+        requires trie { HoldsTree self.now }
+        requires inside { at < length (entries_of self.now) }
+        ensures wider { (number k : ℕ) → IsGap (trie_labels self.now at) (index number) position
+            → number ≤ k → k < result → IsGap (trie_labels self.now at) (index k) position }
+        ensures reached { (result ≡ usize.MAX)
+            ⊎ (slice_get (trie_labels self.now at) position ≡ Some (index result)) }
+    {
+        let children = self.children(at);
+        if position >= children.len() {
+            return usize::MAX;
+        }
+        match self.label(children.get(position)) {
+            PointerNode::Index(number) => number,
+            PointerNode::Key(_) => usize::MAX,
+        }
     }
 
     // The number of the child with the key of these bytes, of children that are few: each is looked at.

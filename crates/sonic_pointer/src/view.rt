@@ -1,10 +1,10 @@
 // Vertices of a tree.
-ghost use Rattle.std.specs.Prelude.{◌≡◌, ◌<◌, ◌∷◌, ◌++◌, ℕ, List, [], Some, IfSome, IfNone, length, slice_get};
+ghost use Rattle.std.specs.Prelude.{◌≡◌, ◌<◌, ◌∷◌, ◌++◌, ℕ, List, [], Some, IfOk, IfErr, IfSome, IfNone, length, slice_get};
 ghost use Rattle.sonic_text.specs.Strings.{IsEscapedString, IsString, strict};
 ghost use Rattle.sonic_text.specs.Paths.{Node, key, index};
 ghost use Rattle.sonic_pointer.specs.Nodes.{node_of};
 ghost use Rattle.sonic_pointer.specs.Paths.{HasNextNode, IsOrders, IsChildren};
-ghost use Rattle.sonic_pointer.specs.Views.{HaveOneNumber, IsBranch};
+ghost use Rattle.sonic_pointer.specs.Views.{HaveOneNumber, IsBranch, IsNextIndex};
 
 use crate::branch::Branch;
 use crate::node::PointerNode;
@@ -203,17 +203,23 @@ impl<'t> TreeView<'t> {
         ensures some { IfSome result (λ i. slice_get self.now.children i ≡ Some (index number)) }
         ensures none { IfNone result (¬ HasNextNode self.now.paths self.now.prefix (index number)) }
     {
-        self.of_index_near(number, usize::MAX)
+        self.number_of(&Target::Node(PointerNode::Index(number)), usize::MAX)
     }
 
-    /// The same, found at once where `near` is the number of children with a lesser index, as for who
-    /// goes over the items of an array in order.
+    /// The same, or else the index before which no child comes from this one on: the next child's, or the
+    /// largest number where there is none. So who goes over the items of an array in order needs to ask no
+    /// more before that.
     ///
-    /// After the paths `[1]` and `[5]` no child is the index 3, and near 1 two of them are looked at.
-    pub fn of_index_near(&self, number: usize, near: usize) -> Option<usize>
-        ensures some { IfSome result (λ i. slice_get self.now.children i ≡ Some (index number)) }
-        ensures none { IfNone result (¬ HasNextNode self.now.paths self.now.prefix (index number)) }
+    /// It is found at once where `near` is the number of children with a lesser index. After the paths
+    /// `[1]` and `[5]` from the index 2 on it is `Err(5)`, and near 1 two of them are looked at.
+    pub fn index_from(&self, number: usize, near: usize) -> Result<usize, usize>
+        ensures ok { IfOk result (λ i. slice_get self.now.children i ≡ Some (index number)) }
+        ensures err { IfErr result (IsNextIndex self.now number) }
     {
-        self.number_of(&Target::Node(PointerNode::Index(number)), near)
+        let node = PointerNode::Index(number);
+        match self.trie.search(self.at, &Target::Node(node), near) {
+            Ok(i) => Ok(i),
+            Err(position) => Err(self.trie.next_index(self.at, position)),
+        }
     }
 }

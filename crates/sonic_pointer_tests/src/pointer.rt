@@ -195,13 +195,25 @@ fn keeps_repeated_and_empty_paths(rt: HostRuntime) {
     check_index(&rt, &tree.view(), 1, Some(0));
     check_index(&rt, &tree.view(), 3, Some(1));
     check_index(&rt, &tree.view(), 2, None);
+    for &(number, next) in &[
+        (0, Err(1)),
+        (1, Ok(0)),
+        (2, Err(3)),
+        (3, Ok(1)),
+        (4, Err(usize::MAX)),
+        (usize::MAX, Err(usize::MAX)),
+    ] {
+        for near in 0..4 {
+            same(&rt, tree.view().index_from(number, near), next);
+        }
+    }
 }
 
 // From wherever it is looked for.
 fn check_index(rt: &impl Abort, view: &TreeView<'_>, number: usize, found: Option<usize>) {
     same(rt, view.of_index(number), found);
     for near in 0..4 {
-        same(rt, view.of_index_near(number, near), found);
+        same(rt, view.index_from(number, near).ok(), found);
     }
 }
 

@@ -1,5 +1,7 @@
 -- What the fields of a walk and of a level denote.
-use Rattle.std.specs.Prelude.{◌≡◌, ℕ, Bool, true, List}
+use Rattle.std.specs.Prelude.{◌≡◌, ◌<◌, ◌≤◌, ℕ, Bool, true, List}
+use Rattle.sonic_text.specs.Paths.{index}
+use Rattle.sonic_pointer.specs.Paths.{HasNextNode}
 use Rattle.sonic_pointer.specs.Views.{View}
 use Rattle.sonic_find.specs.declared.state.Walk.TheInside.{Inside}
 use Rattle.sonic_find.specs.declared.marks.Mark.{Mark}
@@ -48,3 +50,7 @@ marking_at walk view = record { rule = walk.rule; text = walk.text; paths = view
 -- the point of a view whose value is known by its mark
 abbrev pub marked_at : Walking → View → Mark → Point
 marked_at walk view mark = record { rule = walk.rule; text = walk.text; paths = view.paths; prefix = view.prefix; place = mark.value.start }
+
+-- from the n-th element on none before this one is a child
+abbrev pub NoneBefore : View → ℕ → ℕ → Type 0
+NoneBefore view n next = (k : ℕ) → n ≤ k → k < next → ¬ HasNextNode view.paths view.prefix (index k)

@@ -182,6 +182,7 @@ items-items-init t c =
       wanted = inr (inr (first_wanted (container_at c.args.walk.now.rule c.args.walk.now.text c.args.level.now) _ c.requires.some none));
       later = rw c.in_ok-enter.ensures.moved (not_later c.requires.are);
       marks = rw c.in_ok-enter.ensures.moved (keeps_later c.requires.marks (omega (arith, place)));
+      none = λ k later less. absurd (omega (arith, less));
     }
 
 pub items-returns-then-not-is_wanted-clause-settled : goal.items-returns-then-not-is_wanted-clause-settled
@@ -228,6 +229,7 @@ items-items-preserved t c =
       wanted = rw c.in_ok-next_item.ensures.moved wanted;
       later = rw (c.in_ok-next_item.ensures.moved, c.in_ok-item.ensures.text, c.in_ok-item.ensures.rule) (later_twice c.items.invariant.later c.in_ok-item.ensures.later);
       marks = rw c.in_ok-next_item.ensures.moved (keeps_later c.in_ok-item.ensures.marks (omega (arith, next.0)));
+      none = λ k later less. c.in_ok-item.ensures.none k (omega (arith, later)) less;
     }
 
 pub items-returns-in_err-close-clause-err : goal.items-returns-in_err-close-clause-err

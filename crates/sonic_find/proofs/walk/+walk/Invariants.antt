@@ -1,6 +1,6 @@
 use Rattle.std.proofs.Common.{◌≡◌, ◌+◌, ◌-◌, ◌*◌, ◌<◌, length}
 use Rattle.sonic_find.specs.Internal.Marks.{KeepsMarks}
-use Rattle.sonic_find.specs.Internal.View.{container_at, marking_at, progress_at}
+use Rattle.sonic_find.specs.Internal.View.{container_at, marking_at, progress_at, NoneBefore}
 use Rattle.sonic_find.specs.Internal.Walk.{IsFollowed, IsWanted, IsLater}
 use Rattle.sonic_find.proofs.walk.+walk.Given as goal
 
@@ -26,6 +26,7 @@ invariant-items-items l = record {
   wanted : IsWanted (container_at l.walk.rule l.walk.text l.level) (progress_at l.passed l.walk.place l.visited l.walk.findings);
   later : IsLater l.walk.rule l.walk.text l.level.view.now.paths l.fn.walk.findings l.walk.findings;
   marks : KeepsMarks (marking_at l.walk l.level.view.now) l.walk.place;
+  none : NoneBefore l.level.view.now l.passed l.next_child;
 }
 
 abbrev pub decreases-items-items : goal.decreases-items-items

@@ -17,12 +17,6 @@ key_child : {t : List ℕ} {start end : ℕ} (a : Container) (o : Option ℕ) (b
 key_child a (Some c) b s some none = some b s
 key_child a None b s some none = none b s
 
--- of an index
-index_child : (a : Container) (o : Option ℕ) (n : ℕ) → IfSome o (λ i. slice_get a.children i ≡ Some (index n))
-    → IfNone o (¬ HasNextNode a.point.paths a.point.prefix (index n)) → IsChildOf a o (index n)
-index_child a (Some c) n some none = some
-index_child a None n some none = none
-
 -- no backslash is in a key that was found to have none
 plain_key : (t : List ℕ) (start end : ℕ) (escaped : Bool) → IsTrue escaped ↔ IsEscapedString t start end → escaped ≡ false → ¬ IsEscapedString t start end
 plain_key t start end escaped both none h = absurd (let yes = both.1 h in cc)
@@ -65,9 +59,26 @@ returns-clause-item c =
 pub returns-clause-later : goal.returns-clause-later
 returns-clause-later c = omega (arith, key-longer c.in_ok-key.ensures.ok.2)
 
-pub returns-in_default-clause-item : goal.returns-in_default-clause-item
-returns-in_default-clause-item c = record {
+pub returns-then-passed-next_child-clause-item : goal.returns-then-passed-next_child-clause-item
+returns-then-passed-next_child-clause-item c = record {
   node = index c.args.passed;
   head = rw c.in_default.is record { label = None; head = no_head refl; name = refl };
-  is = index_child (container_at c.args.walk.now.rule c.args.walk.now.text c.args.level.now) c.of_index_near.result c.args.passed c.of_index_near.ensures.some c.of_index_near.ensures.none;
+  is = c.requires.none c.args.passed (omega arith) c.if-passed-next_child.true;
 }
+
+pub returns-in-Ok-clause-item : goal.returns-in-Ok-clause-item
+returns-in-Ok-clause-item c = record {
+  node = index c.args.passed;
+  head = rw c.in_default.is record { label = None; head = no_head refl; name = refl };
+  is = c.in-Ok.ensures.ok;
+}
+
+pub returns-in-Err-clause-item : goal.returns-in-Err-clause-item
+returns-in-Err-clause-item c = record {
+  node = index c.args.passed;
+  head = rw c.in_default.is record { label = None; head = no_head refl; name = refl };
+  is = c.in-Err.ensures.err.absent;
+}
+
+pub returns-in-Err-clause-none : goal.returns-in-Err-clause-none
+returns-in-Err-clause-none c = c.in-Err.ensures.err.none_before
