@@ -75,15 +75,7 @@ impl Kept {
             *error = Fault::at_line(len);
             return WRONG_COUNT;
         }
-        walk(
-            alloc,
-            json,
-            &self.tree,
-            self.rule,
-            &mut self.room,
-            spans,
-            error,
-        )
+        self.walk(alloc, json, spans, error)
     }
 
     // The same in a text that is known to begin with a value in UTF-8.
@@ -109,36 +101,30 @@ impl Kept {
             KeyRule::First => {
                 walk_unchecked(json, &self.tree, self.slots.as_mut_slice(), spans, error)
             }
-            rule => walk(alloc, json, &self.tree, rule, &mut self.room, spans, error),
+            _ => self.walk(alloc, json, spans, error),
+        }
+    }
+
+    // Tells where the paths lead in a text, where as many spans are there.
+    fn walk(&mut self, alloc: Global, json: &[u8], spans: &mut [Span], error: &mut Fault) -> u32
+        requires { length self.old.paths ≡ length spans.old }
+        ensures call { IsListCall json.now self.old
+            (record { spans = spans.old; error = error.old })
+            (record { spans = spans.new; error = error.new }) result }
+        ensures kept { self.new ≡ self.old }
+    {
+        match find_many_by(alloc, &mut self.room, json, &self.tree, self.rule) {
+            Ok(()) => {
+                fill_from_room(spans, &self.room);
+                OK
+            }
+            Err(reason) => tell(error, &reason),
         }
     }
 }
 
-// Tells where the paths of a tree lead under a rule, of which as many spans are there.
-fn walk(
-    alloc: Global,
-    json: &[u8],
-    tree: &PointerTree,
-    rule: KeyRule,
-    room: &mut Room,
-    spans: &mut [Span],
-    error: &mut Fault,
-) -> u32
-    requires { length tree.now ≡ length spans.old }
-    ensures { IsListCall json.now (record { rule = rule; paths = tree.now })
-        (record { spans = spans.old; error = error.old })
-        (record { spans = spans.new; error = error.new }) result }
-{
-    match find_many_by(alloc, room, json, tree, rule) {
-        Ok(()) => {
-            fill_from_room(spans, room);
-            OK
-        }
-        Err(reason) => tell(error, &reason),
-    }
-}
-
-// The same by the first of equal keys, in a text that is known to begin with a value in UTF-8.
+// Tells where the paths of a tree lead by the first of equal keys, where as many spans are there, in a
+// text that is known to begin with a value in UTF-8.
 fn walk_unchecked(
     json: &[u8],
     tree: &PointerTree,
