@@ -36,7 +36,7 @@ use sonic_text::{Kind, Stop, byte_at, type_of};
 // has to be whole.
 pub(crate) fn follow_whole(walk: &mut Walk<'_>, level: &Level<'_, '_>) -> Result<(), Fault>
     requires start { level.now.start ≡ walk.old.place }
-    requires level { IsWholeLevel (container_at walk.old.rule walk.old.text level.now) }
+    requires level { IsWholeLevel (container_at walk.old level.now) }
     requires object { level.now.kind ≡ Kind.Object }
     requires some { level.now.view.now.children ≢ List.[] }
     requires comes { ComesTo (point_at walk.old level.now.view.now) }
@@ -141,11 +141,11 @@ fn passed(walk: &Walk<'_>, start: usize, status: ParseStatus, has_items: bool) -
 // Passes the items of the level's container, from the first one on, up to its end.
 #[cycle(gather)]
 fn members(walk: &mut Walk<'_>, level: &Level<'_, '_>) -> Result<(), Fault>
-    requires level { IsWholeLevel (container_at walk.old.rule walk.old.text level.now) }
+    requires level { IsWholeLevel (container_at walk.old level.now) }
     requires marking { IsMarking (marking_at walk.old level.now.view.now)
-        (container_at walk.old.rule walk.old.text level.now) 0 walk.old.place }
+        (container_at walk.old level.now) 0 walk.old.place }
     ensures closed { OnOk result (IsClosed (marking_at walk.new level.now.view.now)
-        (container_at walk.old.rule walk.old.text level.now) walk.new.place) }
+        (container_at walk.old level.now) walk.new.place) }
     ensures beside { OnOk result (KeptBeside (marking_at walk.old level.now.view.now) walk.new.marks
         level.now.view.now.prefix) }
     ensures moved { OnOk result (walk.new ≡ record walk.old {
@@ -168,11 +168,11 @@ fn members(walk: &mut Walk<'_>, level: &Level<'_, '_>) -> Result<(), Fault>
 // Passes the item at the cursor, and gathers it where it is a child that may count.
 #[cycle(gather)]
 fn member(walk: &mut Walk<'_>, level: &Level<'_, '_>, passed: usize) -> Result<(), Fault>
-    requires level { IsWholeLevel (container_at walk.old.rule walk.old.text level.now) }
+    requires level { IsWholeLevel (container_at walk.old level.now) }
     requires marking { IsMarking (marking_at walk.old level.now.view.now)
-        (container_at walk.old.rule walk.old.text level.now) passed walk.old.place }
+        (container_at walk.old level.now) passed walk.old.place }
     ensures marked { OnOk result (IsMarkedItem (marking_at walk.new level.now.view.now)
-        (container_at walk.old.rule walk.old.text level.now) passed walk.old.place walk.new.place) }
+        (container_at walk.old level.now) passed walk.old.place walk.new.place) }
     ensures beside { OnOk result (KeptBeside (marking_at walk.old level.now.view.now) walk.new.marks
         level.now.view.now.prefix) }
     ensures moved { OnOk result (walk.new ≡ record walk.old {

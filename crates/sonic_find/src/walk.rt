@@ -12,7 +12,7 @@ ghost use Rattle.sonic_find.specs.Internal.Located.{IsStatus};
 ghost use Rattle.sonic_find.specs.Paths.{kind_of};
 ghost use Rattle.sonic_find.specs.Internal.Walk.{IsStop, ComesTo, AreFindings, IsLater, AllSettled, BelowSettled, IsContainer, IsFollowed, IsItemPassed, IsWanted, IsChildItem, SomeOpen};
 ghost use Rattle.sonic_find.specs.Internal.Marks.{KeepsMarks};
-ghost use Rattle.sonic_find.specs.Internal.View.{point_at, container_at, marking_at, progress_at, NoneBefore};
+ghost use Rattle.sonic_find.specs.Internal.View.{point_at, container_at, marking_at, progress_at, progress_of, NoneBefore};
 
 use crate::gathered::follow_whole;
 use crate::state::Walk;
@@ -127,14 +127,13 @@ pub(crate) fn kind_of_children(view: &TreeView<'_>) -> Kind
 #[cycle(walk)]
 fn items(walk: &mut Walk<'_>, level: &Level<'_, '_>) -> Result<bool, Fault>
     requires start { level.now.start ≡ walk.old.place }
-    requires container { IsContainer (container_at walk.old.rule walk.old.text level.now) }
+    requires container { IsContainer (container_at walk.old level.now) }
     requires some { level.now.view.now.children ≢ List.[] }
     requires are { AreFindings walk.old.rule walk.old.text level.now.view.now.paths walk.old.findings }
     requires marks { KeepsMarks (marking_at walk.old level.now.view.now) walk.old.place }
     ensures later { OnOk result (IsLater walk.old.rule walk.old.text level.now.view.now.paths walk.old.findings
         walk.new.findings) }
-    ensures settled { OnOk result (BelowSettled (container_at walk.old.rule walk.old.text level.now).point
-        walk.new.findings) }
+    ensures settled { OnOk result (BelowSettled (container_at walk.old level.now).point walk.new.findings) }
     ensures whole { IfOk result (λ whole. whole ≡ true → IsValue strict walk.old.text walk.old.place walk.new.place) }
     ensures status { IfOk result (λ whole. whole ≡ true
         → IsStatus walk.old.text walk.old.place walk.new.place ParseStatus.None) }
@@ -143,8 +142,7 @@ fn items(walk: &mut Walk<'_>, level: &Level<'_, '_>) -> Result<bool, Fault>
     ensures marks { OnOk result (KeepsMarks (marking_at walk.new level.now.view.now) walk.new.place) }
     ensures text { OnOk result (walk.new.text ≡ walk.old.text) }
     ensures rule { OnOk result (walk.new.rule ≡ walk.old.rule) }
-    ensures err { IfErr result (IsStopFor (IsStop (container_at walk.old.rule walk.old.text level.now).point
-        level.now.needs)) }
+    ensures err { IfErr result (IsStopFor (IsStop (container_at walk.old level.now).point level.now.needs)) }
 {
     walk.enter(level.kind)?;
     let mut visited = Visited::new(walk.alloc(), level.view.count())?;
@@ -174,12 +172,10 @@ fn item(
     next_child: &mut usize,
 ) -> Result<(), Fault>
     requires none { NoneBefore level.now.view.now passed next_child.old }
-    requires before { IsFollowed (container_at walk.old.rule walk.old.text level.now)
-        (progress_at passed walk.old.place visited.old walk.old.findings) }
-    requires wanted { IsWanted (container_at walk.old.rule walk.old.text level.now)
-        (progress_at passed walk.old.place visited.old walk.old.findings) }
+    requires before { IsFollowed (container_at walk.old level.now) (progress_of walk.old passed visited.old) }
+    requires wanted { IsWanted (container_at walk.old level.now) (progress_of walk.old passed visited.old) }
     requires marks { KeepsMarks (marking_at walk.old level.now.view.now) walk.old.place }
-    ensures passed { OnOk result (IsItemPassed (container_at walk.old.rule walk.old.text level.now)
+    ensures passed { OnOk result (IsItemPassed (container_at walk.old level.now)
         (progress_at passed walk.old.place visited.new walk.new.findings) walk.new.place) }
     ensures none { OnOk result (NoneBefore level.now.view.now passed next_child.new) }
     ensures later { OnOk result (IsLater walk.old.rule walk.old.text level.now.view.now.paths walk.old.findings
@@ -187,8 +183,7 @@ fn item(
     ensures marks { OnOk result (KeepsMarks (marking_at walk.new level.now.view.now) walk.new.place) }
     ensures text { OnOk result (walk.new.text ≡ walk.old.text) }
     ensures rule { OnOk result (walk.new.rule ≡ walk.old.rule) }
-    ensures err { IfErr result (IsStopFor (IsStop (container_at walk.old.rule walk.old.text level.now).point
-        level.now.needs)) }
+    ensures err { IfErr result (IsStopFor (IsStop (container_at walk.old level.now).point level.now.needs)) }
 {
     let child = head(walk, level, passed, visited.count(), next_child)?;
     let Some(unvisited) = visited.unvisited(child) else {
@@ -224,7 +219,7 @@ pub(crate) fn head(
     next_child: &mut usize,
 ) -> Result<Option<usize>, Stop>
     requires none { NoneBefore level.now.view.now passed next_child.old }
-    ensures item { IfOk result (λ child. IsChildItem (container_at walk.old.rule walk.old.text level.now) passed
+    ensures item { IfOk result (λ child. IsChildItem (container_at walk.old level.now) passed
         walk.old.place walk.new.place child) }
     ensures moved { OnOk result (walk.new ≡ record walk.old { place = walk.new.place }) }
     ensures later { OnOk result (walk.old.place ≤ walk.new.place) }
@@ -236,13 +231,11 @@ pub(crate) fn head(
         if passed < *next_child {
             return Ok(None);
         }
-        return match level.view.index_from(passed, near) {
-            Ok(child) => Ok(Some(child)),
-            Err(next) => {
-                *next_child = next;
-                Ok(None)
-            }
-        };
+        let found = level.view.index_from(passed, near);
+        if let Err(next) = found {
+            *next_child = next;
+        }
+        return Ok(found.ok());
     };
     let start = walk.place();
     let key = walk.key()?;

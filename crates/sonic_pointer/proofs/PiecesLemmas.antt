@@ -6,9 +6,10 @@ use Rattle.std.proofs.lemmas.List.{append_assoc, length-append, append-nil, leng
 use Rattle.std.proofs.lemmas.List.Concat.{flat_map-append}
 use Rattle.std.proofs.lemmas.List.Edits.{map_over_more, length-insert, insert-append_left, insert-append_right}
 use Rattle.std.proofs.lemmas.List.Folds.{flat_map-map}
-use Rattle.std.proofs.lemmas.Option.{slice_get_read, slice_get_within, get_or_from_slice_get}
-use Rattle.sonic_pointer.specs.Internal.Pieces.{numbers_of, raised, AreStarts, IsHolder}
+use Rattle.std.proofs.lemmas.Option.{slice_get-get_or, slice_get_within, get_or_from_slice_get}
+use Rattle.sonic_pointer.specs.Internal.Pieces.{numbers_of, raised, AreStarts, IsHolder, IsWindow, IsInWindow}
 use Rattle.sonic_pointer.specs.declared.pieces.Piece.{Piece}
+use Rattle.sonic_pointer.specs.declared.pieces.Window.{Window}
 
 pub numbers-append : (xs ys : List Piece) → numbers_of (xs ++ ys) ≡ numbers_of xs ++ numbers_of ys
 numbers-append xs ys = flat_map-append (λ (p : Piece). p.numbers.items) xs ys
@@ -129,20 +130,17 @@ module _ (xs : List Piece) (k : ℕ) (x : Piece) (inside : k < length xs) (is : 
       let to = held position 1 here (omega arith) (omega arith) in
       omega arith
 
-  pub number_at : (position n : ℕ) → AreStarts 0 xs → IsHolder xs position k → position < length (numbers_of xs) → get_or (numbers_of xs) position n ≡ get_or x.numbers.items (position - x.start) n
-  number_at position n starts here within =
-      let start = (starts_at 0 starts).1.0 in
-      ap (λ l. get_or l position n) numbers_at
-      ∙ (get_or-append_right (numbers_of (take k xs)) (x.numbers.items ++ numbers_of (drop (k + 1) xs)) x.start position n (omega arith) (from_start position starts here)
-      ∙ get_or_append_left x.numbers.items (numbers_of (drop (k + 1) xs)) n (position - x.start) (before_end position starts here within))
-
-  -- what is read there, after m other numbers
-  pub slice_get_at : (first : List ℕ) (m i n : ℕ) → m ≡ length first → m ≤ i → AreStarts 0 xs → IsHolder xs (i - m) k → i < length (first ++ numbers_of xs)
-      → n ≡ get_or x.numbers.items (i - m - x.start) n → slice_get (first ++ numbers_of xs) i ≡ Some n
-  slice_get_at first m i n long after starts here within read =
-      let all = length-append first (numbers_of xs) in
-      slice_get_read (first ++ numbers_of xs) (length (first ++ numbers_of xs)) i n refl within
-      (read ∙ (sym (number_at (i - m) n starts here (omega arith)) ∙ sym (get_or-append_right first (numbers_of xs) m i n (sym long) after)))
+  -- its numbers stand in the list, after others
+  pub is_window : (first : List ℕ) (window : Window) → window.numbers.now ≡ x.numbers.items → window.start ≡ length first + x.start → AreStarts 0 xs → IsWindow (first ++ numbers_of xs) window
+  is_window first window same start starts =
+      let before = (starts_at 0 starts).1.0 in
+      record {
+        before = first ++ numbers_of (take k xs);
+        after = numbers_of (drop (k + 1) xs);
+        is = ap (λ l. first ++ l) numbers_at
+            ∙ (sym (append_assoc first (numbers_of (take k xs)) _) ∙ ap (λ l. (first ++ numbers_of (take k xs)) ++ (l ++ numbers_of (drop (k + 1) xs))) (sym same));
+        start = omega (arith, length-append first (numbers_of (take k xs)));
+      }
 
   -- the last piece ends where the list does
   pub last_end : k + 1 ≡ length xs → AreStarts 0 xs → x.start + length x.numbers.items ≡ length (numbers_of xs)
@@ -197,3 +195,16 @@ starts_fit a by xs starts fits k d inside =
     let start = start_of a xs k d inside starts in
     let all = length_at xs k (get_or xs k d) inside (get_or_default xs k d (get_or xs k d) inside) in
     omega arith
+
+-- what is read in a window is the list's
+pub window_get : (list : List ℕ) (window : Window) (i d : ℕ) → IsWindow list window → IsInWindow window i → slice_get list i ≡ Some (get_or window.numbers.now (i - window.start) d)
+window_get list window i d w here =
+    let from = here.from in
+    let to = here.to in
+    let all = ap length w.is ∙ length-append w.before (window.numbers.now ++ w.after) in
+    let rest = length-append window.numbers.now w.after in
+    slice_get-get_or list i d (omega (arith, w.start))
+    ∙ ap Some
+    (ap (λ l. get_or l i d) w.is
+    ∙ (get_or-append_right w.before (window.numbers.now ++ w.after) window.start i d w.start from
+    ∙ get_or_append_left window.numbers.now w.after d (i - window.start) (omega arith)))

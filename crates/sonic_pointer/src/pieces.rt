@@ -1,7 +1,7 @@
 // Lists of numbers that grow at any position.
-ghost use Rattle.std.specs.Prelude.{◌≡◌, ◌+◌, ◌^◌, ◌<◌, ◌≤◌, ◌∷◌, [], ◌++◌, IfSome, OnOk, OnErr, length, map, take, drop, slice_get};
+ghost use Rattle.std.specs.Prelude.{◌≡◌, ◌+◌, ◌^◌, ◌<◌, ◌≤◌, ℕ, List, ◌∷◌, [], ◌++◌, IfSome, OnOk, OnErr, length, map, take, drop, slice_get, true};
 ghost use Rattle.std.specs.List.{All, insert};
-ghost use Rattle.sonic_pointer.specs.Internal.Pieces.{numbers_of, raised, AreStarts, IsHolder};
+ghost use Rattle.sonic_pointer.specs.Internal.Pieces.{numbers_of, raised, AreStarts, IsHolder, IsWindow, IsInWindow};
 
 use smallvec::SmallVec;
 use std::alloc::{AllocError, Global};
@@ -18,6 +18,33 @@ pub(crate) const FULL: usize = 4096;
 struct Piece {
     start: usize,
     numbers: Vec<usize>,
+}
+
+// Some numbers of a list, which stand in it from `start` on: who reads numbers near each other looks for
+// their piece once.
+#[derive(Clone, Copy)]
+pub(crate) struct Window<'p> {
+    start: usize,
+    numbers: &'p [usize],
+}
+
+impl<'p> Window<'p> {
+    // Whether the number at this position of the list is here.
+    #[inline(always)]
+    fn has(&self, i: usize) -> bool
+        ensures { result ≡ true → IsInWindow self.now i }
+    {
+        self.start <= i && i - self.start < self.numbers.len()
+    }
+
+    // The number at this position of the list.
+    #[inline(always)]
+    pub(crate) fn get(&self, i: usize) -> usize
+        requires { IsInWindow self.now i }
+        ensures { (list : List ℕ) → IsWindow list self.now → slice_get list i ≡ Some result }
+    {
+        self.numbers[i - self.start]
+    }
 }
 
 // A list of numbers, seen as that list. It is kept in short pieces, so that one more number at any
@@ -76,13 +103,52 @@ impl Pieces {
         requires { i < length self.now }
         ensures { slice_get self.now i ≡ Some result }
     {
+        self.window_at(i).get(i)
+    }
+
+    // The numbers of the first piece.
+    #[inline(always)]
+    pub(crate) fn first_window(&self) -> Window<'_>
+        ensures { IsWindow self.now result }
+    {
+        Window {
+            start: 0,
+            numbers: self.first.as_slice(),
+        }
+    }
+
+    // A window with this position: the one that is near, if it has it.
+    #[inline(always)]
+    pub(crate) fn window_near<'p>(&'p self, i: usize, near: Window<'p>) -> Window<'p>
+        requires inside { i < length self.now }
+        requires near { IsWindow self.now near }
+        ensures window { IsWindow self.now result }
+        ensures here { IsInWindow result i }
+    {
+        if near.has(i) {
+            return near;
+        }
+        self.window_at(i)
+    }
+
+    // The numbers of the piece that has this position.
+    fn window_at(&self, i: usize) -> Window<'_>
+        requires { i < length self.now }
+        ensures window { IsWindow self.now result }
+        ensures here { IsInWindow result i }
+    {
         let first = self.first.as_slice();
         if i < first.len() {
-            return first[i];
+            return Window {
+                start: 0,
+                numbers: first,
+            };
         }
-        let after = i - first.len();
-        let piece = &self.more[holder(&self.more, after)];
-        piece.numbers[after - piece.start]
+        let piece = &self.more[holder(&self.more, i - first.len())];
+        Window {
+            start: first.len() + piece.start,
+            numbers: piece.numbers.as_slice(),
+        }
     }
 
     // All numbers, where the first piece has them.

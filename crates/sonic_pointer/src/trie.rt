@@ -124,11 +124,13 @@ impl<'t> Trie<'t> {
             → IsGap (trie_labels self.now at) node i) }
     {
         let children = self.children(at);
+        let mut window = children.first_window();
         let mut low = 0;
         let mut high = children.len();
         while low < high {
             let middle = probe(low, high, near);
-            match target.compare(self.label(children.get(middle))) {
+            window = children.window_near(middle, window);
+            match target.compare(self.label(window.get(middle))) {
                 Ordering::Less => high = middle,
                 Ordering::Equal => return Ok(middle),
                 Ordering::Greater => low = middle + 1,

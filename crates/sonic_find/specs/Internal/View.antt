@@ -9,7 +9,6 @@ use Rattle.sonic_find.specs.declared.walk.Level.{Level}
 use Rattle.sonic_find.specs.Internal.Located.{spans_of, HaveStatuses}
 use Rattle.sonic_find.specs.Internal.Marks.{Marking}
 use Rattle.sonic_find.specs.Internal.Walk.{Findings, Walking, Point, Container, Progress}
-use Rattle.sonic_pointer.specs.declared.rule.KeyRule.{KeyRule}
 
 -- the walk that its callers see
 abbrev pub walking_of : Inside → Walking
@@ -30,10 +29,10 @@ pub record IsWalk (walk : Inside) : Type 0 where
 abbrev pub point_at : Walking → View → Point
 point_at walk view = record { rule = walk.rule; text = walk.text; paths = view.paths; prefix = view.prefix; place = walk.place }
 
--- the container of a level, under a rule
-abbrev pub container_at : KeyRule → List ℕ → Level → Container
-container_at rule text level = record {
-  point = record { rule = rule; text = text; paths = level.view.now.paths; prefix = level.view.now.prefix; place = level.start };
+-- the container of a level, in the text of a walk
+abbrev pub container_at : Walking → Level → Container
+container_at walk level = record {
+  point = record { rule = walk.rule; text = walk.text; paths = level.view.now.paths; prefix = level.view.now.prefix; place = level.start };
   children = level.view.now.children;
   kind = level.kind;
   needs = level.needs;
@@ -42,6 +41,10 @@ container_at rule text level = record {
 -- how far a walk came in a container, of whose items these were passed
 abbrev pub progress_at : ℕ → ℕ → List Bool → Findings → Progress
 progress_at passed next visited findings = record { passed = passed; next = next; visited = visited; findings = findings }
+
+-- how far a walk has come now
+abbrev pub progress_of : Walking → ℕ → List Bool → Progress
+progress_of walk passed visited = progress_at passed walk.place visited walk.findings
 
 -- the marks of a walk, by the prefixes of a view
 abbrev pub marking_at : Walking → View → Marking

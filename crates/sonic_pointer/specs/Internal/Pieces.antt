@@ -2,6 +2,7 @@
 use Rattle.std.specs.Prelude.{◌≡◌, ℕ, ◌+◌, ◌^◌, ◌<◌, ◌≤◌, List, [], ◌∷◌, ◌++◌, length, take}
 use Rattle.std.specs.List.{flat_map}
 use Rattle.sonic_pointer.specs.declared.pieces.Piece.{Piece}
+use Rattle.sonic_pointer.specs.declared.pieces.Window.{Window}
 use Rattle.sonic_pointer.specs.declared.pieces.Pieces.TheInside.{Inside}
 
 -- the numbers of pieces, one piece after the other
@@ -31,3 +32,15 @@ pub record IsHolder (pieces : List Piece) (position k : ℕ) : Type 0 where
 pub record ArePieces (pieces : Inside) : Type 0 where
   pub starts : AreStarts 0 pieces.more.items
   pub fits : length (all_numbers pieces) < 2 ^ 64
+
+-- the numbers of the window stand in the list, from its start on
+pub record IsWindow (list : List ℕ) (window : Window) : Type 0 where
+  pub before : List ℕ
+  pub after : List ℕ
+  pub is : list ≡ before ++ (window.numbers.now ++ after)
+  pub start : length before ≡ window.start
+
+-- the number at this position of the list is in the window
+pub record IsInWindow (window : Window) (i : ℕ) : Type 0 where
+  pub from : window.start ≤ i
+  pub to : i < window.start + length window.numbers.now

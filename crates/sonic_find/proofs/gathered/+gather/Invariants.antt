@@ -19,7 +19,7 @@ abbrev pub invariant-members-items : goal.invariant-members-items
 invariant-members-items l = record {
   moved : l.walk ≡ record l.fn.walk { place = l.walk.place; marks = l.walk.marks };
   place : l.fn.walk.place ≤ l.walk.place;
-  marking : IsMarking (marking_at l.walk l.level.view.now) (container_at l.fn.walk.rule l.fn.walk.text l.level) l.passed l.walk.place;
+  marking : IsMarking (marking_at l.walk l.level.view.now) (container_at l.fn.walk l.level) l.passed l.walk.place;
   beside : KeptBeside (marking_at l.fn.walk l.level.view.now) l.walk.marks l.level.view.now.prefix;
 }
 

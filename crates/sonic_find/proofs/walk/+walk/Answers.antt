@@ -89,13 +89,13 @@ item-returns-in_err-child-clause-err t c =
 
 pub item-unvisited-requires : goal.item-unvisited-requires
 item-unvisited-requires t c =
-    child_within (container_at c.args.walk.now.rule c.args.walk.now.text c.args.level.now) c.args.visited.now _ c.in_ok-child.child c.requires.before.long c.in_ok-child.ensures.item.is
+    child_within (container_at c.args.walk.now c.args.level.now) c.args.visited.now _ c.in_ok-child.child c.requires.before.long c.in_ok-child.ensures.item.is
 
 pub item-returns-in_err-skip-clause-err : goal.item-returns-in_err-skip-clause-err
 item-returns-in_err-skip-clause-err t c =
     let p = err_from_is_err_and c.from_residual-in_err-skip.result c.from_residual-in_err-skip.ensures.1 in
     let x = c.in_ok-child.ensures.item in
-    let container = container_at c.args.walk.now.rule c.args.walk.now.text c.args.level.now in
+    let container = container_at c.args.walk.now c.args.level.now in
     let other = closed container c.args.visited.now c.in_ok-child.child c.requires.before.container x.is c.in_default.ensures.none in
     let e = rw c.in_ok-child.ensures.moved at c.in_err-skip.ensures.err in
     rw (p.1, p.2) (stop_weaker c.in_err-skip.field-0.0 (λ s f. skip_stops c.requires.before c.requires.wanted x.head other f) e)
@@ -103,7 +103,7 @@ item-returns-in_err-skip-clause-err t c =
 pub item-returns-in_default-clause-passed : goal.item-returns-in_default-clause-passed
 item-returns-in_default-clause-passed t c =
     let x = c.in_ok-child.ensures.item in
-    let container = container_at c.args.walk.now.rule c.args.walk.now.text c.args.level.now in
+    let container = container_at c.args.walk.now c.args.level.now in
     let other = closed container c.args.visited.now c.in_ok-child.child c.requires.before.container x.is c.in_default.ensures.none in
     let value = rw c.in_ok-child.ensures.moved at c.in_ok-skip.ensures.value in
     rw (c.in_ok-skip.ensures.moved, c.in_ok-child.ensures.moved) (skip_passed c.requires.before x.head other value)
@@ -179,7 +179,7 @@ items-items-init t c =
       within = rw c.in_ok-enter.ensures.moved (omega arith);
       before = rw c.in_ok-enter.ensures.moved
           (first_followed c.requires.container at_start c.requires.are (c.in_ok-visited.ensures.long ∙ c.count.ensures.count) none);
-      wanted = inr (inr (first_wanted (container_at c.args.walk.now.rule c.args.walk.now.text c.args.level.now) _ c.requires.some none));
+      wanted = inr (inr (first_wanted (container_at c.args.walk.now c.args.level.now) _ c.requires.some none));
       later = rw c.in_ok-enter.ensures.moved (not_later c.requires.are);
       marks = rw c.in_ok-enter.ensures.moved (keeps_later c.requires.marks (omega (arith, place)));
       none = λ k later less. absurd (omega (arith, less));

@@ -1,14 +1,16 @@
-use Rattle.std.proofs.Common.{◌≡◌, ◌↔◌, ℕ, Bool, false, IsTrue, List, refl, arith}
-use Rattle.std.specs.Prelude.{Option, Some, None, slice_get, IfSome, IfNone}
+use Rattle.std.proofs.Common.{◌≡◌, ◌∙◌, sym, ◌↔◌, ℕ, Bool, false, IsTrue, List, refl, arith}
+use Rattle.std.specs.Prelude.{Option, Some, None, Result, Ok, Err, slice_get, IfSome, IfNone, IfOk, IfErr}
+use Rattle.std.specs.Result.{result_ok}
 use Rattle.sonic_text.specs.Strings.{IsEscapedString, IsString, strict}
 use Rattle.sonic_text.specs.Paths.{key, index}
 use Rattle.sonic_pointer.specs.Paths.{HasNextNode}
 use Rattle.sonic_find.specs.Internal.Walk.{Container, IsChildOf}
-use Rattle.std.proofs.lemmas.Result.{err_from_is_err_and}
+use Rattle.std.proofs.lemmas.Result.{IfErr-weaker, err_from_is_err_and}
 use Rattle.sonic_text.specs.Values.{no_head, key_head}
 use Rattle.sonic_text.proofs.Values.{key-longer}
 use Rattle.sonic_find.specs.Internal.View.{container_at}
 use Rattle.sonic_find.proofs.walk.head.Goals as goal
+use Rattle.sonic_find.proofs.walk.head.Goals.{in-Err, in_default-found}
 
 -- of a key
 key_child : {t : List ℕ} {start end : ℕ} (a : Container) (o : Option ℕ) (b : List ℕ) → IsString strict t start end b
@@ -16,6 +18,12 @@ key_child : {t : List ℕ} {start end : ℕ} (a : Container) (o : Option ℕ) (b
     → IfNone o ((b : List ℕ) → IsString strict t start end b → ¬ HasNextNode a.point.paths a.point.prefix (key b)) → IsChildOf a o (key b)
 key_child a (Some c) b s some none = some b s
 key_child a None b s some none = none b s
+
+-- of an index
+index_child : (a : Container) (found : Result ℕ ℕ) (n : ℕ) → IfOk found (λ i. slice_get a.children i ≡ Some (index n))
+    → IfErr found (λ next. ¬ HasNextNode a.point.paths a.point.prefix (index n)) → IsChildOf a (result_ok found) (index n)
+index_child a (Ok c) n is absent = is
+index_child a (Err next) n is absent = absent
 
 -- no backslash is in a key that was found to have none
 plain_key : (t : List ℕ) (start end : ℕ) (escaped : Bool) → IsTrue escaped ↔ IsEscapedString t start end → escaped ≡ false → ¬ IsEscapedString t start end
@@ -34,7 +42,7 @@ returns-then-key-clause-item c =
     record {
       node = key x.0;
       head = rw c.in-Object.is record { label = Some x.0; head = key_head x.2; name = refl };
-      is = key_child (container_at c.args.walk.now.rule c.args.walk.now.text c.args.level.now) c.of_key.result x.0 x.1 some none;
+      is = key_child (container_at c.args.walk.now c.args.level.now) c.of_key.result x.0 x.1 some none;
     }
 
 pub returns-then-key-clause-later : goal.returns-then-key-clause-later
@@ -53,7 +61,7 @@ returns-clause-item c =
     record {
       node = key x.0;
       head = rw c.in-Object.is record { label = Some x.0; head = key_head x.2; name = refl };
-      is = key_child (container_at c.args.walk.now.rule c.args.walk.now.text c.args.level.now) c.of_plain_key.result x.0 x.1 some none;
+      is = key_child (container_at c.args.walk.now c.args.level.now) c.of_plain_key.result x.0 x.1 some none;
     }
 
 pub returns-clause-later : goal.returns-clause-later
@@ -66,19 +74,21 @@ returns-then-passed-next_child-clause-item c = record {
   is = c.requires.none c.args.passed (omega arith) c.if-passed-next_child.true;
 }
 
-pub returns-in-Ok-clause-item : goal.returns-in-Ok-clause-item
-returns-in-Ok-clause-item c = record {
-  node = index c.args.passed;
-  head = rw c.in_default.is record { label = None; head = no_head refl; name = refl };
-  is = c.in-Ok.ensures.ok;
-}
+pub returns-in_default-clause-item : goal.returns-in_default-clause-item
+returns-in_default-clause-item c =
+    let found = c.index_from-found.result in
+    let absent = IfErr-weaker found _ _ (λ next e. e.absent) c.index_from-found.ensures.err in
+    let same : c.match-found.found ≡ found = elim c.match-found.branch [ in-Err w ↦ w.found-is ∙ sym w.in-Err.is | in_default-found w ↦ w.found-is ] in
+    record {
+      node = index c.args.passed;
+      head = rw c.in_default.is record { label = None; head = no_head refl; name = refl };
+      is = rw (c.ok.ensures.value, same)
+          (index_child (container_at c.args.walk.now c.args.level.now) found c.args.passed c.index_from-found.ensures.ok absent);
+    }
 
-pub returns-in-Err-clause-item : goal.returns-in-Err-clause-item
-returns-in-Err-clause-item c = record {
-  node = index c.args.passed;
-  head = rw c.in_default.is record { label = None; head = no_head refl; name = refl };
-  is = c.in-Err.ensures.err.absent;
-}
-
-pub returns-in-Err-clause-none : goal.returns-in-Err-clause-none
-returns-in-Err-clause-none c = c.in-Err.ensures.err.none_before
+pub returns-in_default-clause-none : goal.returns-in_default-clause-none
+returns-in_default-clause-none c =
+    elim c.match-found.branch [
+      | in-Err w ↦ rw w.next_child-is (rw w.in-Err.is at c.index_from-found.ensures.err).none_before
+      | in_default-found w ↦ rw w.next_child-is c.requires.none
+    ]
