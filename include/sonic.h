@@ -249,7 +249,8 @@ uint32_t sonic_string_text(const uint8_t *json, size_t json_length, uint8_t *roo
                            size_t *wanted, sonic_error *error);
 
 /* How many elements an array has, or members an object, repeated keys counted each time. All of it is
-   looked at, once. Takes one byte of memory for each container that is open at once inside the items. */
+   looked at, once. Takes memory only where more than 64 containers are open at once inside an item, or one has a
+   fault: a byte for each. */
 uint32_t sonic_count(const uint8_t *json, size_t json_length, size_t *count, sonic_error *error);
 
 /* How far the items of an array or an object were gone through. Only the two calls below write to it. It may
@@ -276,8 +277,8 @@ uint32_t sonic_items_begin(const uint8_t *json, size_t json_length, sonic_items 
    After SONIC_END and after an error each further call is SONIC_END. After SONIC_NO_MEMORY the cursor is where
    it was, and the call may be made again. The text has to be the one that sonic_items_begin was given: of any
    other, and of a cursor that it didn't write, the call says something or other, reads within json_length and
-   writes only to what it is given. Takes one byte of memory for each container that is open at once inside the
-   item. */
+   writes only to what it is given. Takes memory only where more than 64 containers are open at once inside the
+   item, or one has a fault: a byte for each. */
 uint32_t sonic_items_next(const uint8_t *json, size_t json_length, sonic_items *items, sonic_item *item,
                           sonic_error *error);
 

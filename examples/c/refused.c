@@ -68,6 +68,16 @@ static const char path[] = "[\"key\", \"b\\n\", 0, 0, 0, 0, 0, 0, 0, 1, \"\\u007
 static const char paths[] =
     "[\"key\", \"b\\n\", 0, 0, 0, 0, 0, 0, 0, 1, \"\\u0078\"]\n[\"list\", 2, 0]\n[\"none\"]\n";
 
+/* Arrays in arrays, more than a call has room for in its frame, and two items in the innermost. */
+static const char *deep(void) {
+  enum { depth = 100 };
+  static char text[2 * depth + 4];
+  memset(text, '[', depth);
+  memcpy(text + depth, "1,2", 3);
+  memset(text + depth + 3, ']', depth);
+  return text;
+}
+
 static const uint8_t *bytes(const char *text) { return (const uint8_t *)text; }
 
 typedef size_t call(cells *told);
@@ -75,6 +85,12 @@ typedef size_t call(cells *told);
 static size_t validate(cells *told) { return sonic_validate(bytes(json), strlen(json), &told->error); }
 
 static size_t validate_cut(cells *told) { return sonic_validate(bytes(json), strlen(json) - 1, &told->error); }
+
+static size_t validate_deep(cells *told) { return sonic_validate(bytes(deep()), strlen(deep()), &told->error); }
+
+static size_t validate_deep_cut(cells *told) { return sonic_validate(bytes(deep()), strlen(deep()) - 1, &told->error); }
+
+static size_t validate_broken(cells *told) { return sonic_validate(bytes("[[tru]]"), 7, &told->error); }
 
 static size_t get(cells *told) {
   return sonic_get(bytes(json), strlen(json), bytes(path), strlen(path), told->spans, &told->error);
@@ -144,6 +160,8 @@ static size_t count(cells *told) { return sonic_count(bytes(json), strlen(json),
 
 static size_t count_cut(cells *told) { return sonic_count(bytes(json), strlen(json) - 1, &told->wanted, &told->error); }
 
+static size_t count_deep(cells *told) { return sonic_count(bytes(deep()), strlen(deep()), &told->wanted, &told->error); }
+
 static size_t items_next(cells *told) {
   return sonic_items_next(bytes(json), strlen(json), &told->items, &told->item, &told->error);
 }
@@ -154,6 +172,10 @@ static size_t minify(cells *told) {
 
 static size_t minify_cut(cells *told) {
   return sonic_minify(bytes(json), strlen(json) - 1, told->room, sizeof told->room, &told->wanted, &told->error);
+}
+
+static size_t minify_deep(cells *told) {
+  return sonic_minify(bytes(deep()), strlen(deep()), told->room, sizeof told->room, &told->wanted, &told->error);
 }
 
 static size_t indent(cells *told) {
@@ -269,6 +291,9 @@ static int refuse_each(const char *name, call *one, size_t no_memory) {
 int main(void) {
   int wrong = refuse_each("validate", validate, SONIC_NO_MEMORY);
   wrong |= refuse_each("validate, cut", validate_cut, SONIC_NO_MEMORY);
+  wrong |= refuse_each("validate, broken", validate_broken, SONIC_NO_MEMORY);
+  wrong |= refuse_each("validate, deep", validate_deep, SONIC_NO_MEMORY);
+  wrong |= refuse_each("validate, deep and cut", validate_deep_cut, SONIC_NO_MEMORY);
   wrong |= refuse_each("get", get, SONIC_NO_MEMORY);
   wrong |= refuse_each("get, cut", get_cut, SONIC_NO_MEMORY);
   wrong |= refuse_each("get_unchecked", get_unchecked, SONIC_NO_MEMORY);
@@ -285,9 +310,11 @@ int main(void) {
   wrong |= refuse_each("string_text, plain", plain_text, SONIC_NO_MEMORY);
   wrong |= refuse_each("count", count, SONIC_NO_MEMORY);
   wrong |= refuse_each("count, cut", count_cut, SONIC_NO_MEMORY);
+  wrong |= refuse_each("count, deep", count_deep, SONIC_NO_MEMORY);
   wrong |= refuse_each("items_next", items_next, SONIC_NO_MEMORY);
   wrong |= refuse_each("minify", minify, SONIC_NO_MEMORY);
   wrong |= refuse_each("minify, cut", minify_cut, SONIC_NO_MEMORY);
+  wrong |= refuse_each("minify, deep", minify_deep, SONIC_NO_MEMORY);
   wrong |= refuse_each("indent", indent, SONIC_NO_MEMORY);
   wrong |= refuse_each("patch", patch, SONIC_NO_MEMORY);
   wrong |= refuse_each("patch, that fails", patch_that_fails, SONIC_NO_MEMORY);

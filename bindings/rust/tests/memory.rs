@@ -32,23 +32,29 @@ fn refused<V>(call: impl FnOnce() -> V) -> V {
     found
 }
 
+/// More arrays in each other than a call has room for without memory.
+fn deep() -> String {
+    format!("{}7{}", "[".repeat(100), "]".repeat(100))
+}
+
 #[test]
 fn runs_out() {
-    const DEEP: &str = r#"{"a\n": [[[7]]]}"#;
+    const TEXT: &str = r#"{"a\n": [[[7]]]}"#;
+    let deep = deep();
     let (key, none) = (path!["a\n"], Error::NoMemory);
-    assert_eq!(refused(|| get(DEEP, &key)), Err(none));
-    assert_eq!(refused(|| validate(DEEP).map(|_| ())), Err(none));
-    assert_eq!(refused(|| count(DEEP)), Err(none));
+    assert_eq!(refused(|| get(TEXT, &key)), Err(none));
+    assert_eq!(refused(|| validate(&deep).map(|_| ())), Err(none));
+    assert_eq!(refused(|| count(&deep)), Err(none));
     assert_eq!(refused(|| as_str(r#""a\n""#)), Err(none));
-    assert_eq!(refused(|| index(DEEP)), Err(none));
+    assert_eq!(refused(|| index(TEXT)), Err(none));
     assert_eq!(refused(|| index("7")), Err(none));
-    assert_eq!(refused(|| minify(DEEP)), Err(none));
-    assert_eq!(refused(|| indent(DEEP, 2)), Err(none));
-    assert_eq!(refused(|| patch(DEEP, "[]")), Err(none));
-    assert_eq!(refused(|| edit(DEEP, r#"["take",[]]"#)), Err(none));
-    assert_eq!(refused(|| fill("{}", DEEP)), Err(none));
+    assert_eq!(refused(|| minify(TEXT)), Err(none));
+    assert_eq!(refused(|| indent(TEXT, 2)), Err(none));
+    assert_eq!(refused(|| patch(TEXT, "[]")), Err(none));
+    assert_eq!(refused(|| edit(TEXT, r#"["take",[]]"#)), Err(none));
+    assert_eq!(refused(|| fill("{}", TEXT)), Err(none));
     let paths = Paths::new([key]).unwrap();
-    assert_eq!(refused(|| rows(DEEP, &paths, 0)), Err(none));
+    assert_eq!(refused(|| rows(TEXT, &paths, 0)), Err(none));
     for keys in [Keys::First, Keys::Last, Keys::Refuse] {
         let made = refused(|| Finder::new(&paths, keys).map(|_| ()));
         assert_eq!(made, Err(none));
@@ -57,19 +63,23 @@ fn runs_out() {
 
 #[test]
 fn goes_on_where_it_was() {
-    let mut found = refused(|| elements("[1, [[2]]]")).unwrap();
+    let deep = deep();
+    let array = format!("[1, {deep}]");
+    let mut found = refused(|| elements(&array)).unwrap();
     assert_eq!(refused(|| found.next()), Some(Ok("1")));
     assert_eq!(refused(|| found.next()), Some(Err(Error::NoMemory)));
     assert_eq!(refused(|| found.next()), Some(Err(Error::NoMemory)));
-    assert_eq!(found.next(), Some(Ok("[[2]]")));
+    assert_eq!(found.next(), Some(Ok(deep.as_str())));
     assert_eq!(refused(|| found.next()), None);
-    let mut found = refused(|| members(r#"{"a": [[2]]}"#)).unwrap();
+    let object = format!(r#"{{"a": {deep}}}"#);
+    let mut found = refused(|| members(&object)).unwrap();
     assert_eq!(refused(|| found.next()), Some(Err(Error::NoMemory)));
-    assert_eq!(found.next(), Some(Ok((r#""a""#, "[[2]]"))));
+    assert_eq!(found.next(), Some(Ok((r#""a""#, deep.as_str()))));
     let paths = Paths::new([path!["a"], path!["b", 0]]).unwrap();
     let mut finder = Finder::new(&paths, Keys::First).unwrap();
-    let (few, more) = (r#"{"b": [7], "a": 1}"#, r#"{"a": [[[2]]], "b": [[]]}"#);
-    for (text, wanted) in [(few, ["1", "7"]), (more, ["[[[2]]]", "[]"])] {
+    let few = r#"{"b": [7], "a": 1}"#;
+    let more = format!(r#"{{"a": {deep}, "b": [[]]}}"#);
+    for (text, wanted) in [(few, ["1", "7"]), (&more, [&deep, "[]"])] {
         assert_eq!(
             refused(|| finder.find(text).map(|_| ())),
             Err(Error::NoMemory)
@@ -92,6 +102,8 @@ fn goes_on_where_it_was() {
 #[test]
 fn takes_none() {
     assert!(refused(|| type_of("[1, 2]")).is_ok());
+    assert!(refused(|| validate("[[[7]], {}]").is_ok()));
+    assert_eq!(refused(|| count("[[[7]], {}]")), Ok(2));
     assert_eq!(refused(|| as_u64(" 12 ")), Ok(12));
     assert_eq!(refused(|| as_i64("-12")), Ok(-12));
     assert!(refused(|| as_u64("[")).is_err());

@@ -24,6 +24,8 @@ pub use closing::closing_bit;
 pub use count::count_of;
 pub use elements::whole_elements;
 pub use lanes::get_nonspace_bits;
-pub use runs::{digits_end, first_backslash, first_of, plain_end, space_end};
+pub use runs::{
+    digits_end, first_backslash, first_of, near_digits_end, near_plain_end, plain_end, space_end,
+};
 pub use string_block::StringBlock;
 pub use tape::{Masks, Tape};

@@ -1,5 +1,5 @@
 // Where a run of bytes of one kind ends, and where the first byte of another kind is.
-ghost use Rattle.std.specs.Prelude.{◌≡◌, ◌+◌, ◌≤◌, length, drop, MatchOption};
+ghost use Rattle.std.specs.Prelude.{◌≡◌, ◌+◌, ◌<◌, ◌≤◌, ◌↔◌, IsTrue, length, drop, MatchOption, IfSome, IfNone};
 ghost use Rattle.std.specs.List.{prefix_len};
 ghost use Rattle.std.specs.Char.{is_ascii_digit};
 ghost use Rattle.sonic_blocks.specs.Bits.{is_space};
@@ -139,16 +139,79 @@ fn run_end<K: ByteKind>(kind: &K, text: &[u8], place: usize) -> usize
 {
     let mut at = place;
     while text.len() - at >= 16 {
-        let misses = kind.misses(u8x16::from_slice(&text[at..]));
-        if misses != 0 {
-            return at + misses.trailing_zeros() as usize;
+        if let Some(end) = near_end(kind, text, at) {
+            return end;
         }
         at += 16;
     }
     run_end_slowly(kind, text, at)
 }
 
-// The same, byte by byte.
+// The same, where a run may be long: 64 bytes a turn behind the first 256.
+#[inline(always)]
+fn long_run_end<K: ByteKind>(kind: &K, text: &[u8], place: usize) -> usize
+    requires { place ≤ length text.now }
+    ensures run { result ≡ place + prefix_len (K.test kind.now) (drop place text.now) }
+    ensures within { result ≤ length text.now }
+{
+    if text.len() - place <= 256 {
+        return run_end(kind, text, place);
+    }
+    let near = place + 256;
+    let mut at = place;
+    while near - at >= 16 {
+        if let Some(end) = near_end(kind, text, at) {
+            return end;
+        }
+        at += 16;
+    }
+    far_run_end(kind, text, at)
+}
+
+// The same, 64 bytes a turn.
+#[inline(never)]
+fn far_run_end<K: ByteKind>(kind: &K, text: &[u8], place: usize) -> usize
+    requires { place ≤ length text.now }
+    ensures run { result ≡ place + prefix_len (K.test kind.now) (drop place text.now) }
+    ensures within { result ≤ length text.now }
+{
+    let mut at = place;
+    while text.len() - at >= 64 && all_hold(kind, text, at) {
+        at += 64;
+    }
+    run_end(kind, text, at)
+}
+
+// Whether the 64 bytes at a place are all of the kind.
+#[inline(always)]
+fn all_hold<K: ByteKind>(kind: &K, text: &[u8], place: usize) -> bool
+    requires { place + 64 ≤ length text.now }
+    ensures { IsTrue result ↔ 64 ≤ prefix_len (K.test kind.now) (drop place text.now) }
+{
+    let a = kind.misses(u8x16::from_slice(&text[place..]));
+    let b = kind.misses(u8x16::from_slice(&text[place + 16..]));
+    let c = kind.misses(u8x16::from_slice(&text[place + 32..]));
+    let d = kind.misses(u8x16::from_slice(&text[place + 48..]));
+    a | b | c | d == 0
+}
+
+// The first place that holds no byte of the kind, where it is one of the 16 bytes at `place`.
+#[inline(always)]
+fn near_end<K: ByteKind>(kind: &K, text: &[u8], place: usize) -> Option<usize>
+    requires { place + 16 ≤ length text.now }
+    ensures some { IfSome result (λ end. end ≡ place + prefix_len (K.test kind.now) (drop place text.now)) }
+    ensures near { IfSome result (λ end. end < place + 16) }
+    ensures none { IfNone result (16 ≤ prefix_len (K.test kind.now) (drop place text.now)) }
+{
+    let misses = kind.misses(u8x16::from_slice(&text[place..]));
+    if misses == 0 {
+        None
+    } else {
+        Some(place + misses.trailing_zeros() as usize)
+    }
+}
+
+// The first place from `place` on that holds no byte of the kind, or the end, byte by byte.
 #[inline(never)]
 fn run_end_slowly<K: ByteKind>(kind: &K, text: &[u8], place: usize) -> usize
     requires { place ≤ length text.now }
@@ -174,6 +237,19 @@ pub fn digits_end(text: &[u8], place: usize) -> usize
     run_end(&Digits, text, place)
 }
 
+/// The first place from `place` on that holds no digit, where it is one of the 16 bytes there.
+///
+/// Of `120]` and twelve bytes more from 0 on it is 3.
+#[inline(always)]
+pub fn near_digits_end(text: &[u8], place: usize) -> Option<usize>
+    requires { place + 16 ≤ length text.now }
+    ensures some { IfSome result (λ end. end ≡ place + prefix_len is_ascii_digit (drop place text.now)) }
+    ensures near { IfSome result (λ end. end < place + 16) }
+    ensures none { IfNone result (16 ≤ prefix_len is_ascii_digit (drop place text.now)) }
+{
+    near_end(&Digits, text, place)
+}
+
 /// The first place from `place` on that holds no white space (RFC 8259, section 2), or the end.
 ///
 /// Of ` \n1` from 0 on it is 2.
@@ -196,7 +272,20 @@ pub fn plain_end(text: &[u8], place: usize) -> usize
     ensures run { result ≡ place + prefix_len is_plain (drop place text.now) }
     ensures within { result ≤ length text.now }
 {
-    run_end(&Plain, text, place)
+    long_run_end(&Plain, text, place)
+}
+
+/// The first quote, backslash or control byte from `place` on, where it is one of the 16 bytes there.
+///
+/// Of `ab"` and thirteen bytes more from 0 on it is 2.
+#[inline(always)]
+pub fn near_plain_end(text: &[u8], place: usize) -> Option<usize>
+    requires { place + 16 ≤ length text.now }
+    ensures some { IfSome result (λ end. end ≡ place + prefix_len is_plain (drop place text.now)) }
+    ensures near { IfSome result (λ end. end < place + 16) }
+    ensures none { IfNone result (16 ≤ prefix_len is_plain (drop place text.now)) }
+{
+    near_end(&Plain, text, place)
 }
 
 /// The first backslash from `place` on, or the end.
@@ -208,7 +297,7 @@ pub fn first_backslash(text: &[u8], place: usize) -> usize
     ensures run { result ≡ place + prefix_len is_no_backslash (drop place text.now) }
     ensures within { result ≤ length text.now }
 {
-    run_end(&NoBackslash, text, place)
+    long_run_end(&NoBackslash, text, place)
 }
 
 /// The first place from `place` on whose byte is one of three, or `None` where there is none.

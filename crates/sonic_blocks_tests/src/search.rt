@@ -1,10 +1,11 @@
 // What no clause says: that the calls answer the worked examples of their documents, at each place
 // of a block and after it.
-ghost use Rattle.std.specs.Prelude.{◌≤◌, length};
+ghost use Rattle.std.specs.Prelude.{◌+◌, ◌≤◌, length};
 
 use crate::same::{same, same_at};
 use sonic_blocks::{
-    StringBlock, count_of, digits_end, first_backslash, first_of, plain_end, space_end,
+    StringBlock, count_of, digits_end, first_backslash, first_of, near_digits_end, near_plain_end,
+    plain_end, space_end,
 };
 use std::process::Abort;
 
@@ -99,6 +100,26 @@ fn run_end(run: Run, text: &[u8], from: usize) -> usize
     }
 }
 
+// The same, where only the 16 bytes at the place are looked at.
+fn near_end(run: Run, text: &[u8], from: usize) -> Option<usize>
+    requires { from + 16 ≤ length text.now }
+{
+    match run {
+        Run::Digits => near_digits_end(text, from),
+        Run::Plain => near_plain_end(text, from),
+        Run::Spaces | Run::NoBackslash => near(run_end(run, text, from), from),
+    }
+}
+
+// A place that is one of 16 from another one on.
+fn near(end: usize, from: usize) -> Option<usize> {
+    if end.saturating_sub(from) < 16 {
+        Some(end)
+    } else {
+        None
+    }
+}
+
 // A run of a byte that ends at each place of three blocks, by another byte and by the end of the
 // text.
 fn check_runs(rt: &impl Abort, run: Run, inside: u8, other: u8) {
@@ -108,6 +129,14 @@ fn check_runs(rt: &impl Abort, run: Run, inside: u8, other: u8) {
         text[end] = other;
         for from in 0..=end {
             same_at(rt, run_end(run, &text, from), end, (inside, other, from));
+            if from <= 34 {
+                same_at(
+                    rt,
+                    near_end(run, &text, from),
+                    near(end, from),
+                    (inside, other, from),
+                );
+            }
             same_at(
                 rt,
                 run_end(run, &text[..end], from),
@@ -137,6 +166,25 @@ fn finds_the_ends_of_runs(rt: HostRuntime) {
     for plain in *b" !#[]~\x7f\xff" {
         for other in *b"\"\\\x1f\x00\n" {
             check_runs(&rt, Run::Plain, plain, other);
+        }
+    }
+}
+
+// The same, at each place of a text that is passed in longer turns.
+#[test]
+fn finds_the_ends_of_long_runs(rt: HostRuntime) {
+    for (run, other) in [(Run::Plain, b'"'), (Run::NoBackslash, b'\\')] {
+        let mut text = [b'x'; 700];
+        same_at(&rt, run_end(run, &text, 0), 700, other);
+        for end in 0..700 {
+            text[end] = other;
+            for from in [0, 1, 17, 300] {
+                if from <= end {
+                    same_at(&rt, run_end(run, &text, from), end, (other, from));
+                    same_at(&rt, run_end(run, &text[..end], from), end, (other, from));
+                }
+            }
+            text[end] = b'x';
         }
     }
 }

@@ -24,8 +24,8 @@ use std::alloc::Global;
 /// How many elements or members the array or the object has that the text is, with nothing but white
 /// space round it.
 ///
-/// All of it is looked at, once. A value of another type is `WRONG_TYPE`. Memory is one byte for each
-/// container that is open at once inside the items.
+/// All of it is looked at, once. A value of another type is `WRONG_TYPE`. Memory is taken only where more
+/// than 64 containers are open at once inside an item, or one has a fault: a byte for each.
 #[unsafe(no_mangle)]
 pub extern "C" fn sonic_count(
     alloc: Global,

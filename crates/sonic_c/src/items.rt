@@ -68,7 +68,8 @@ pub extern "C" fn sonic_items_begin(json: &[u8], items: &mut Items, error: &mut 
 ///
 /// After the last one it is `END`, where nothing but white space follows the container. An error of the
 /// text is told where it is met, and the cursor ends with it. A cursor that has ended is `END`. Memory is
-/// one byte for each container that is open at once inside the item; where it runs out, the cursor stays.
+/// taken only where more than 64 containers are open at once inside the item, or one has a fault: a byte
+/// for each. Where it runs out, the cursor stays.
 #[unsafe(no_mangle)]
 pub extern "C" fn sonic_items_next(
     alloc: Global,

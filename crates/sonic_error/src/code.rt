@@ -180,7 +180,7 @@ impl fmt::Display for ErrorCode {
     ghost output = { λ code. Some (code_text code) };
 
     fn fmt<W: fmt::Write>(&self, f: &mut fmt::Formatter<W>) -> fmt::Result {
-        let words = match self {
+        f.write_str(match self {
             Self::Message(note) => return write!(f, "{note}"),
             Self::Io(_) => "io error while serializing or deserializing",
             Self::EofWhileParsing => "EOF while parsing",
@@ -219,7 +219,6 @@ impl fmt::Display for ErrorCode {
                 "Expected the key to be string/bool/number when serializing map",
             Self::NoMemory => "out of memory",
             Self::DuplicateKey => "Duplicate key in the object",
-        };
-        f.write_str(words)
+        })
     }
 }

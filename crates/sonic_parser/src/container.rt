@@ -1,6 +1,6 @@
 // The syntax of containers: what comes before the first item, before a member's value, and after
 // an item.
-ghost use Rattle.std.specs.Prelude.{◌≡◌, ◌<◌, ◌≤◌, ◌↔◌, ℕ, List, length, IfOk, IfErr, IfSome, IsTrue};
+ghost use Rattle.std.specs.Prelude.{◌≡◌, ◌+◌, ◌<◌, ◌≤◌, ◌↔◌, ℕ, Bool, List, length, IfOk, IfErr, IfSome, IsTrue};
 ghost use Rattle.sonic_text.specs.Places.{byte};
 ghost use Rattle.sonic_text.specs.Strings.{IsString, IsEscapedString};
 ghost use Rattle.sonic_text.specs.Values.{opening, IsKey};
@@ -10,7 +10,13 @@ ghost use Rattle.sonic_parser.specs.Containers.{IsSeparatorFault};
 ghost use Rattle.sonic_parser.specs.Parts.{IsAfterValue};
 
 use sonic_error::ErrorCode;
-use sonic_text::{Kind, Stop, StringEnd, byte_at, skip_space, skip_string, stop_at, string_end};
+use sonic_text::{
+    Kind, Stop, StringEnd, byte_at, near_space, near_string, skip_space, skip_string, stop_at,
+    string_end,
+};
+
+// Where so many bytes are left, what is short is read without a look at the text's end.
+pub(crate) const NEAR: usize = 128;
 
 /// How a container goes on.
 #[derive(Clone, Copy, Debug, PartialEq, Eq)]
@@ -46,6 +52,13 @@ pub fn next_item(text: &[u8], end: usize, kind: Kind) -> Result<Next, Stop>
     ensures ok { IfOk result (λ next. IsAfterValue text.now kind end next) }
     ensures err { IfErr result (λ s. IsSeparatorFault text.now kind end s) }
 {
+    let byte = byte_at(text, end);
+    if byte == b',' {
+        return Ok(Next::Item(skip_space(text, end + 1)));
+    }
+    if byte == kind.closing() {
+        return Ok(Next::End(end + 1));
+    }
     let place = skip_space(text, end);
     let byte = byte_at(text, place);
     if byte == b',' {
@@ -88,14 +101,36 @@ pub(crate) fn key_end(text: &[u8], place: usize, lossy: bool) -> Result<KeyEnd, 
     Ok(KeyEnd { string, value })
 }
 
-// The same without the reason: the place where the value is expected of the member whose key is
-// expected at a place, or `None` where there is no key with a colon.
+// The same without the reason, where the key is short: `None` says nothing of the text.
+#[inline(always)]
+fn near_key(text: &[u8], place: usize) -> Option<usize>
+    requires { place + 36 ≤ length text.now }
+    ensures { (m : Bool) → IfSome result (λ value. (place < value) × (value ≤ length text.now)
+        × (b : List ℕ) × IsKey m text.now place value b) }
+{
+    if text[place] != b'"' {
+        return None;
+    }
+    let end = near_string(text, place)?;
+    if text[end] != b':' {
+        return None;
+    }
+    Some(near_space(text, end + 1))
+}
+
+// The place where the value is expected of the member whose key is expected at a place, or `None` where
+// there is no key with a colon.
 #[inline(always)]
 pub(crate) fn skip_key(text: &[u8], place: usize, lossy: bool) -> Option<usize>
     requires { place ≤ length text.now }
     ensures { IfSome result (λ value. (place < value) × (value ≤ length text.now)
         × (b : List ℕ) × IsKey lossy text.now place value b) }
 {
+    if text.len() - place >= NEAR
+        && let Some(value) = near_key(text, place)
+    {
+        return Some(value);
+    }
     if byte_at(text, place) != b'"' {
         return None;
     }

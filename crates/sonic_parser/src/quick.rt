@@ -9,16 +9,21 @@ ghost use Rattle.sonic_parser.specs.Internal.Skipping.{IsAhead, IsReached, IsOng
 ghost use Rattle.sonic_parser.specs.OpenContainers.{IsTop};
 ghost use Rattle.sonic_parser.specs.Parts.{IsAfterValue, IsItem, IsValueEnd};
 
-use crate::container::{Next, first_item, skip_key};
+use crate::container::{NEAR, Next, first_item, skip_key};
 use crate::series::Series;
 use crate::skip::{Extent, Reached, leave};
-use sonic_text::{Kind, byte_at, skip_digits, skip_literal, skip_number, skip_space, skip_string};
+use sonic_text::{
+    Kind, byte_at, near_number, near_space, near_string, skip_digits, skip_literal, skip_number,
+    skip_space, skip_string,
+};
 
 // What is at the place of a value.
 #[derive(Clone, Copy)]
 pub(crate) enum Ahead {
     // A value that ends here.
     Value(usize),
+    // A value, after which the next item is expected here.
+    Next(usize),
     // A container of this kind, whose first item is expected here.
     Inside(Kind, usize),
     // Something else.
@@ -73,6 +78,23 @@ pub(crate) fn digits_ahead(text: &[u8], place: usize) -> Option<usize>
     }
 }
 
+// The end of the literal at a place whose first byte this is.
+#[inline(always)]
+fn literal_ahead(text: &[u8], place: usize, first: u8) -> Option<usize>
+    requires within { place ≤ length text.now }
+    requires first { byte text.now place ≡ first }
+    ensures end { IfSome result (λ end. (m : Bool) → IsValueEnd m text.now place end) }
+    ensures near { IfSome result (λ end. end ≤ place + 5) }
+    ensures scalar { OnSome result ((first ≢ 91) × (first ≢ 123)) }
+{
+    match first {
+        b'n' => skip_literal(text, place, "null"),
+        b't' => skip_literal(text, place, "true"),
+        b'f' => skip_literal(text, place, "false"),
+        _ => None,
+    }
+}
+
 /// The end of the string, the number or the literal at a place (RFC 8259, sections 3, 6 and 7), by a
 /// quick look. `None` says nothing of the text: what is there, `value_at` says.
 ///
@@ -93,12 +115,53 @@ pub fn scalar_end(text: &[u8], place: usize, lossy: bool) -> Option<usize>
             None => skip_number(text, place),
         };
     }
-    match byte {
-        b'-' => skip_number(text, place),
-        b'n' => skip_literal(text, place, "null"),
-        b't' => skip_literal(text, place, "true"),
-        b'f' => skip_literal(text, place, "false"),
-        _ => None,
+    if byte == b'-' {
+        return skip_number(text, place);
+    }
+    literal_ahead(text, place, byte)
+}
+
+// The end of the string, the number or the literal at a place, where it is short.
+#[inline(always)]
+fn near_scalar(text: &[u8], place: usize) -> Option<usize>
+    requires { place + 64 ≤ length text.now }
+    ensures end { IfSome result (λ end. (m : Bool) → IsValueEnd m text.now place end) }
+    ensures near { IfSome result (λ end. end ≤ place + 50) }
+{
+    let byte = text[place];
+    if byte == b'"' {
+        return near_string(text, place);
+    }
+    if byte.is_ascii_digit() {
+        return near_number(text, place);
+    }
+    // Apart, so that the digits of most numbers are read before it is known that no sign is there.
+    if byte == b'-' {
+        return near_number(text, place);
+    }
+    literal_ahead(text, place, byte)
+}
+
+// What is at the place of a value, where it is near.
+#[inline(always)]
+fn near_look(text: &[u8], place: usize) -> Ahead
+    requires { place + 128 ≤ length text.now }
+    ensures { (m : Bool) → IsAhead m text.now place result }
+{
+    let byte = text[place];
+    if byte == b'{' && text[place + 1] == b'"' {
+        return Ahead::Inside(Kind::Object, place + 1);
+    }
+    if byte == b'[' && text[place + 1] > b' ' && text[place + 1] != b']' {
+        return Ahead::Inside(Kind::Array, place + 1);
+    }
+    let Some(end) = near_scalar(text, place) else {
+        return Ahead::Other;
+    };
+    if text[end] == b',' {
+        Ahead::Next(near_space(text, end + 1))
+    } else {
+        Ahead::Value(end)
     }
 }
 
@@ -108,27 +171,22 @@ fn look(text: &[u8], place: usize, lossy: bool) -> Ahead
     requires { place ≤ length text.now }
     ensures { IsAhead lossy text.now place result }
 {
+    if text.len() - place >= NEAR {
+        match near_look(text, place) {
+            Ahead::Other => {}
+            ahead => return ahead,
+        }
+    }
     if let Some(end) = scalar_end(text, place, lossy) {
-        return Ahead::Value(end);
+        return match after_comma(text, end) {
+            Some(next) => Ahead::Next(next),
+            None => Ahead::Value(end),
+        };
     }
     match Kind::opened_by(byte_at(text, place)) {
         Some(kind) => inside(text, place, kind),
         None => Ahead::Other,
     }
-}
-
-// Whether an array is the first item of the array that is open, and has an array for its own.
-#[inline(always)]
-fn is_nested(text: &[u8], kinds: &[Kind], depth: usize, place: usize) -> bool
-    requires some { 0 < depth }
-    requires room { depth ≤ length kinds.now }
-    ensures { result ≡ true → (depth < length kinds.now) × IsTop (take depth kinds.now) Kind.Array
-        × (byte text.now place ≡ opening Kind.Array) }
-{
-    depth < kinds.len()
-        && matches!(kinds[depth - 1], Kind::Array)
-        && byte_at(text, place) == b'['
-        && byte_at(text, place + 1) == b'['
 }
 
 // How many arrays begin at a place, one directly inside the other, each with an array for its first
@@ -164,7 +222,8 @@ fn open_nested(text: &[u8], kinds: &mut [Kind], depth: usize, place: usize) -> u
     count
 }
 
-// The same, where arrays begin so; else it opens none.
+// The same, where an array is the first item of the array that is open, and has an array for its own;
+// else it opens none.
 //
 // Brackets one after the other are the one thing of which a text can have as many as it has bytes,
 // so they are counted first, and their kinds written in one piece.
@@ -180,7 +239,11 @@ fn open_arrays(text: &[u8], kinds: &mut [Kind], depth: usize, place: usize) -> u
         → IsReached m text.now root (take depth kinds.old) (Reached.Expected place)
         → IsReached m text.now root (take (depth + result) kinds.new) (Reached.Expected (place + result)) }
 {
-    if is_nested(text, kinds, depth, place) {
+    if depth < kinds.len()
+        && matches!(kinds[depth - 1], Kind::Array)
+        && byte_at(text, place) == b'['
+        && byte_at(text, place + 1) == b'['
+    {
         open_nested(text, kinds, depth, place)
     } else {
         0
@@ -210,7 +273,13 @@ pub fn after_comma(text: &[u8], ended: usize) -> Option<usize>
 //
 // `kinds` begins with the kinds of the containers that are open, the outermost first; so many are.
 #[inline(never)]
-fn pass_items(text: &[u8], kinds: &mut [Kind], depth: usize, first: usize, lossy: bool) -> Extent
+pub(crate) fn pass_items(
+    text: &[u8],
+    kinds: &mut [Kind],
+    depth: usize,
+    first: usize,
+    lossy: bool,
+) -> Extent
     requires within { first ≤ length text.now }
     requires some { 0 < depth }
     requires room { depth ≤ length kinds.old }
@@ -226,12 +295,18 @@ fn pass_items(text: &[u8], kinds: &mut [Kind], depth: usize, first: usize, lossy
     let mut kind = kinds[depth - 1];
     let mut series = Series::new(first);
     let mut place = series.pass(text, first, kind);
-    'items: while depth < kinds.len() {
+    'items: loop {
         let Some(value) = value_place(text, place, kind, lossy) else {
             return Extent::new(Reached::Expected(place), depth);
         };
         let ahead = look(text, value, lossy);
-        if let Ahead::Inside(inner, first) = ahead {
+        if let Ahead::Next(next) = ahead {
+            place = next;
+            continue 'items;
+        }
+        if let Ahead::Inside(inner, first) = ahead
+            && depth < kinds.len()
+        {
             kinds[depth] = inner;
             depth += 1;
             let count = open_arrays(text, kinds, depth, first);
@@ -243,19 +318,14 @@ fn pass_items(text: &[u8], kinds: &mut [Kind], depth: usize, first: usize, lossy
         let Ahead::Value(ended) = ahead else {
             return Extent::new(Reached::Expected(place), depth);
         };
-        if let Some(item) = after_comma(text, ended) {
-            place = item;
-            continue 'items;
-        }
         let extent = leave(text, kinds, depth, ended);
         depth = extent.depth;
-        let Reached::Expected(next) = extent.reached else {
+        let Reached::Expected(after) = extent.reached else {
             return Extent::new(extent.reached, depth);
         };
-        place = next;
+        place = after;
         kind = kinds[depth - 1];
     }
-    Extent::new(Reached::Expected(place), depth)
 }
 
 // How far the items fit of the containers that are open, of the innermost of which the next one is
@@ -279,7 +349,9 @@ pub(crate) fn close_quickly(
     let mut place = first;
     'rooms: loop {
         let depth = opened.len();
-        if opened.resize(depth + room(depth), Kind::Array).is_err() {
+        // As many again, within limits.
+        let room = depth.max(64).min(65_536);
+        if opened.resize(depth + room, Kind::Array).is_err() {
             return Reached::Expected(place);
         }
         let extent = pass_items(text, opened.as_mut_slice(), depth, place, lossy);
@@ -289,12 +361,4 @@ pub(crate) fn close_quickly(
             reached => return reached,
         }
     }
-}
-
-// The room for the kinds of further containers, where so many are open: as many again, within
-// limits.
-fn room(depth: usize) -> usize
-    ensures { result ≤ 65_536 }
-{
-    depth.max(64).min(65_536)
 }

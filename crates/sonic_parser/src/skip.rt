@@ -147,7 +147,7 @@ fn close_slowly(
 }
 
 // Why nothing fits after the value of an item of the innermost container that ended at a place.
-fn separator_stop(text: &[u8], end: usize, opened: &[Kind]) -> Stop
+pub(crate) fn separator_stop(text: &[u8], end: usize, opened: &[Kind]) -> Stop
     requires within { end ≤ length text.now }
     requires some { 0 < length opened.now }
     ensures { (m : Bool) (root : ℕ) → IsReached m text.now root opened.now (Reached.Ended end)

@@ -149,3 +149,31 @@ fn skips_all_short_texts_as_the_plain_program_does(rt: HostRuntime) -> Result<()
     check_texts(&rt, alloc, 6, 1_000_000)?;
     check_texts(&rt, alloc, 7, 10_000_000)
 }
+
+// The same in containers, where so much follows that what is short is near.
+fn check_near(rt: &impl Abort, alloc: Global, length: u8, count: usize) -> Result<(), Fail> {
+    for bracket in *b"[{" {
+        for n in 0..count {
+            let mut text = Vec::new(alloc);
+            text.push(bracket)?;
+            text.extend_from_slice(&text_of_number(alloc, n, length)?)?;
+            text.extend_from_slice(&[b' '; 160])?;
+            same_at(
+                rt,
+                parser_answer(alloc, &text, false),
+                plain_answer(rt, alloc, &text, false),
+                text,
+            );
+        }
+    }
+    Ok(())
+}
+
+#[test]
+fn skips_what_is_near_as_the_plain_program_does(rt: HostRuntime) -> Result<(), Fail> {
+    let alloc = rt.alloc();
+    check_near(&rt, alloc, 3, 1_000)?;
+    check_near(&rt, alloc, 4, 10_000)?;
+    check_near(&rt, alloc, 5, 100_000)?;
+    check_near(&rt, alloc, 6, 1_000_000)
+}

@@ -39,7 +39,7 @@ impl<'p> Window<'p> {
 
     // The number at this position of the list.
     #[inline(always)]
-    pub(crate) fn get(&self, i: usize) -> usize
+    fn get(&self, i: usize) -> usize
         requires { IsInWindow self.now i }
         ensures { (list : List ℕ) → IsWindow list self.now → slice_get list i ≡ Some result }
     {
@@ -117,18 +117,19 @@ impl Pieces {
         }
     }
 
-    // A window with this position: the one that is near, if it has it.
+    // The number at this position: of the window that is near, if it has it, else of another, which is
+    // near then.
     #[inline(always)]
-    pub(crate) fn window_near<'p>(&'p self, i: usize, near: Window<'p>) -> Window<'p>
+    pub(crate) fn get_near<'p>(&'p self, i: usize, near: &mut Window<'p>) -> usize
         requires inside { i < length self.now }
-        requires near { IsWindow self.now near }
-        ensures window { IsWindow self.now result }
-        ensures here { IsInWindow result i }
+        requires window { IsWindow self.now near.old }
+        ensures number { slice_get self.now i ≡ Some result }
+        ensures window { IsWindow self.now near.new }
     {
-        if near.has(i) {
-            return near;
+        if !near.has(i) {
+            *near = self.window_at(i);
         }
-        self.window_at(i)
+        near.get(i)
     }
 
     // The numbers of the piece that has this position.

@@ -129,8 +129,8 @@ impl<'t> Trie<'t> {
         let mut high = children.len();
         while low < high {
             let middle = probe(low, high, near);
-            window = children.window_near(middle, window);
-            match target.compare(self.label(window.get(middle))) {
+            let child = children.get_near(middle, &mut window);
+            match target.compare(self.label(child)) {
                 Ordering::Less => high = middle,
                 Ordering::Equal => return Ok(middle),
                 Ordering::Greater => low = middle + 1,

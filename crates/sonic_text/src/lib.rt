@@ -13,6 +13,8 @@ mod kind;
 mod law;
 // The three literals.
 mod literal;
+// What is short and near, without a look at the text's end.
+mod near;
 // Numbers: where they end, and what whole ones are.
 mod number;
 // Strings as they are written.
@@ -45,6 +47,7 @@ pub use law::{
     value_has_one_outcome, value_means_one_tree,
 };
 pub use literal::{literal_end, skip_literal};
+pub use near::{near_number, near_space, near_string};
 pub use number::{number_end, skip_number, whole_i64, whole_u64};
 pub use quote::{QUOTE_TAB, format_string};
 pub use quoted::write_quoted;

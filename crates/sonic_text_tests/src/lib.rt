@@ -1,6 +1,9 @@
 //! What no clause of `sonic_text` says: that the calls answer the worked examples of their documents.
 #![tactic(auto)]
 
+// What is short and near.
+#[cfg(test)]
+mod near;
 // Numbers, literals, white space and brackets.
 #[cfg(test)]
 mod numbers;

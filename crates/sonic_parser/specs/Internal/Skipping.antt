@@ -10,11 +10,12 @@ use Rattle.sonic_parser.specs.declared.begin.Begun.{Begun}
 use Rattle.sonic_parser.specs.declared.begin.Begun.TheVariants.{Complete, Inside}
 use Rattle.sonic_parser.specs.declared.begin.Skipped.{Skipped}
 use Rattle.sonic_parser.specs.declared.quick.Ahead.{Ahead}
-use Rattle.sonic_parser.specs.declared.quick.Ahead.TheVariants.{Value, Inside as Within, Other}
+use Rattle.sonic_parser.specs.declared.container.Next.TheVariants.{Item}
+use Rattle.sonic_parser.specs.declared.quick.Ahead.TheVariants.{Value, Next, Inside as Within, Other}
 use Rattle.sonic_parser.specs.declared.skip.Reached.{Reached}
 use Rattle.sonic_parser.specs.declared.skip.Reached.TheVariants.{Expected, Ended, Closed}
 use Rattle.sonic_parser.specs.declared.status.ParseStatus.TheVariants.{HasEscaped}
-use Rattle.sonic_parser.specs.Parts.{IsValueEnd}
+use Rattle.sonic_parser.specs.Parts.{IsAfterValue, IsValueEnd}
 use Rattle.sonic_parser.specs.OpenContainers.{IsItemExpected, IsItemEnded, IsTop}
 
 -- the value at i was read, and this is its end and its status
@@ -57,8 +58,9 @@ place_of (Expected h) = h
 place_of (Ended e) = e
 place_of (Closed j) = j
 
--- what is at the place i of a value: a value, or a container whose first item is expected, or nothing is known
+-- what is at the place i of a value: a value, perhaps with the next item expected after it, or a container whose first item is expected, or nothing is known
 abbrev pub IsAhead : Bool → List ℕ → ℕ → Ahead → Type 0
 IsAhead m t i (Value e) = IsValueEnd m t i e
+IsAhead m t i (Next h) = (e : ℕ) × IsValueEnd m t i e × ((kind : Kind) → IsAfterValue t kind e (Item h))
 IsAhead m t i (Within kind h) = (i < h) × (h ≤ length t) × ItemsFit m t kind i 0 h
 IsAhead m t i Other = Unit {0}

@@ -5,17 +5,21 @@ ghost use Rattle.sonic_text.specs.Faults.{IsFault};
 ghost use Rattle.sonic_text.specs.Values.{IsValue, ItemsFit};
 ghost use Rattle.sonic_parser.specs.Faults.{IsStopFor};
 ghost use Rattle.sonic_parser.specs.Honest.{IsHonest};
+ghost use Rattle.sonic_parser.specs.Internal.Skipping.{IsReached};
 ghost use Rattle.sonic_parser.specs.Parsers.{moved, value_start, IsSkipped, IsUnskipped, IsFilledContainer, IsOutOfMemory, IsPassed};
 
 use super::Parser;
 use crate::begin::{Begun, Skipped, begin};
 use crate::fault::Fault;
-use crate::quick::{digits_ahead, scalar_end};
-use crate::skip::close;
+use crate::quick::{digits_ahead, pass_items, scalar_end};
+use crate::skip::{Extent, Reached, close, separator_stop};
 use crate::status::ParseStatus;
 use sonic_error::{Error, ErrorCode};
 use sonic_text::Kind;
 use std::alloc::Global;
+
+// So many containers are open at once without memory for their kinds.
+const FEW: usize = 64;
 
 impl<'de> Parser<'de> {
     // Passes the string, the number or the literal that begins at the cursor: whether one fits there. Else
@@ -38,8 +42,8 @@ impl<'de> Parser<'de> {
     /// Skips the value that begins at the cursor, however deep it is.
     ///
     /// The cursor moves past the value's last byte. After an error it is where it was. Only a
-    /// container with items takes memory, one byte for each that is open at once. What comes after
-    /// the value isn't read, and nothing is said of its UTF-8.
+    /// container with items takes memory, where it has a fault or more than 64 are open at once: one
+    /// byte for each. What comes after the value isn't read, and nothing is said of its UTF-8.
     #[inline(always)]
     pub fn skip_value(&mut self, alloc: Global) -> Result<ParseStatus, Fault>
         ensures ok { IfOk result (λ needs. IsPassed self.old self.new needs) }
@@ -85,9 +89,31 @@ impl<'de> Parser<'de> {
     }
 
     // The end of the container that begins at the cursor, whose first item is expected at a place.
+    //
+    // Without memory, as long as few are open.
     fn close(&mut self, alloc: Global, kind: Kind, first: usize) -> Result<usize, Fault>
         requires within { first ≤ length self.old.text }
         requires item { ItemsFit self.old.lossy self.old.text kind self.old.place 0 first }
+        ensures within { IfOk result (λ end. end ≤ length self.old.text) }
+        ensures ok { IfOk result (λ end. IsValue self.old.lossy self.old.text self.old.place end) }
+        ensures err { IfErr result (IsStopFor (λ s.
+            IsFault self.old.lossy self.old.text self.old.place s)) }
+        ensures kept { self.new ≡ self.old }
+    {
+        let text = self.read.as_u8_slice();
+        let mut kinds = [kind; FEW];
+        let Extent { reached, depth } = pass_items(text, &mut kinds, 1, first, self.lossy);
+        match reached {
+            Reached::Closed(end) => Ok(end),
+            Reached::Ended(end) => Err(Fault::At(separator_stop(text, end, &kinds[..depth]))),
+            Reached::Expected(place) => self.close_deep(alloc, &kinds[..depth], place),
+        }
+    }
+
+    // The same, where an item of the innermost of many open containers is expected.
+    #[inline(never)]
+    fn close_deep(&mut self, alloc: Global, kinds: &[Kind], place: usize) -> Result<usize, Fault>
+        requires { IsReached self.old.lossy self.old.text self.old.place kinds.now (Reached.Expected place) }
         ensures within { IfOk result (λ end. end ≤ length self.old.text) }
         ensures ok { IfOk result (λ end. IsValue self.old.lossy self.old.text self.old.place end) }
         ensures err { IfErr result (IsStopFor (λ s.
@@ -100,8 +126,8 @@ impl<'de> Parser<'de> {
         };
         let (text, start) = (self.read.as_u8_slice(), self.read.index());
         opened.clear();
-        let end = match opened.push(kind) {
-            Ok(()) => close(text, start, &mut opened, first, self.lossy),
+        let end = match opened.extend_from_slice(kinds) {
+            Ok(()) => close(text, start, &mut opened, place, self.lossy),
             Err(_) => Err(Fault::OutOfMemory),
         };
         self.opened = Some(opened);
@@ -111,7 +137,7 @@ impl<'de> Parser<'de> {
     /// Passes the value that is expected, however deep it is, and gives its text.
     ///
     /// The text begins with the value's first byte and ends with its last: of ` [1, 2] x` it is
-    /// `[1, 2]`. Only a container with items takes memory, one byte for each that is open at once.
+    /// `[1, 2]`. It takes memory as `skip_value` does.
     /// What follows the value isn't read, and nothing is said of its UTF-8. After an error
     /// the cursor is where the text's fault is, or, where memory ran out, where it was.
     #[tactic(auto, using(crate::proofs::RefusalLemmas::refusals))]

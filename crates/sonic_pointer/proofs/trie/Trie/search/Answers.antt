@@ -10,7 +10,7 @@ use Rattle.sonic_pointer.proofs.trie.Trie.search.Goals as goal
 
 pub label-requires-clause-step : goal.label-requires-clause-step
 label-requires-clause-step c =
-    (prefix_at (trie_spots c.args.self.now) c.args.at, kid_step c.args.self.now c.args.at _ _ c.get.result c.children-children.ensures (c.get.ensures c.children-children.result.now c.window_near-window.ensures.window))
+    (prefix_at (trie_spots c.args.self.now) c.args.at, kid_step c.args.self.now c.args.at _ _ c.get_near-child.result c.children-children.ensures c.get_near-child.ensures.number)
 
 pub loop-low-preserved-in-Less : goal.loop-low-preserved-in-Less
 loop-low-preserved-in-Less c =
@@ -20,10 +20,10 @@ loop-low-preserved-in-Less c =
     let probed = c.probe-middle.ensures in
     let kids = c.children-children.ensures in
     let many = kids.count in
-    let node = kid_node trie c.args.at _ _ c.get.result kids (c.get.ensures c.children-children.result.now c.window_near-window.ensures.window) in
+    let node = kid_node trie c.args.at _ _ c.get_near-child.result kids c.get_near-child.ensures.number in
     let sorted = (spot_here (trie_paths trie) (entries_of trie) c.requires.trie.tree c.args.at c.requires.inside).sorted in
     record {
-      window = c.window_near-window.ensures.window;
+      window = c.get_near-child.ensures.window;
       order = omega arith;
       end = omega arith;
       before = i.before;
@@ -40,7 +40,7 @@ returns-in-Equal-clause-found c = λ n s.
     let many = kids.count in
     let same : n ≡ node_of c.label.result = node_cmp_same n (node_of c.label.result) (sym (c.in-Equal.ensures n s)) in
     slice_get-get_or (trie_labels c.args.self.now c.args.at) middle n (omega arith)
-    ∙ ap Some (kid_node c.args.self.now c.args.at _ _ c.get.result kids (c.get.ensures c.children-children.result.now c.window_near-window.ensures.window) n ∙ (sym c.label.ensures ∙ sym same))
+    ∙ ap Some (kid_node c.args.self.now c.args.at _ _ c.get_near-child.result kids c.get_near-child.ensures.number n ∙ (sym c.label.ensures ∙ sym same))
 
 pub loop-low-preserved : goal.loop-low-preserved
 loop-low-preserved c =
@@ -50,10 +50,10 @@ loop-low-preserved c =
     let probed = c.probe-middle.ensures in
     let kids = c.children-children.ensures in
     let many = kids.count in
-    let node = kid_node trie c.args.at _ _ c.get.result kids (c.get.ensures c.children-children.result.now c.window_near-window.ensures.window) in
+    let node = kid_node trie c.args.at _ _ c.get_near-child.result kids c.get_near-child.ensures.number in
     let sorted = (spot_here (trie_paths trie) (entries_of trie) c.requires.trie.tree c.args.at c.requires.inside).sorted in
     record {
-      window = c.window_near-window.ensures.window;
+      window = c.get_near-child.ensures.window;
       order = omega arith;
       end = i.end;
       before = λ n s. after_middle (trie_labels trie c.args.at) n (node_of c.label.result) middle sorted (omega arith)
