@@ -1,10 +1,7 @@
 // The answer of a list of paths.
 ghost use Rattle.std.specs.Prelude.{◌≡◌, ◌≢◌, ◌⊎◌, ◌<◌, ◌≤◌, ℕ, List, [], None, true, false, length, option_map, replicate, take, IfOk, IfErr, IfSome, OnOk, OnErr};
 ghost use Rattle.std.specs.Option.{IsSomeAnd};
-ghost use Rattle.std.specs.Str.{IsUtf8};
-ghost use Rattle.sonic_error.specs.declared.code.ErrorCode.TheVariants.{InvalidUTF8};
 ghost use Rattle.sonic_error.specs.Errors.{IsPlainError};
-ghost use Rattle.sonic_error.specs.Texts.{valid_up_to};
 ghost use Rattle.sonic_text.specs.Strings.{strict};
 ghost use Rattle.sonic_parser.specs.Faults.{IsErrorOf, IsStopFor};
 ghost use Rattle.sonic_parser.specs.Honest.{IsHonest};
@@ -15,13 +12,14 @@ ghost use Rattle.sonic_find.specs.Internal.Walk.{root_point, IsStop, IsError, Is
 
 use crate::located::Located;
 use crate::state::Walk;
+use crate::utf8::check;
 use crate::walk::follow;
 use sonic_error::{Error, ErrorCode};
 use sonic_input::{JsonInput, Read};
 use sonic_parser::Fault;
 use sonic_pointer::{KeyRule, PointerTree};
-use sonic_text::{Kind, Stop};
-use std::alloc::{AllocError, Global};
+use sonic_text::Kind;
+use std::alloc::Global;
 
 // What a walk takes of memory, and the next one uses again.
 #[derive(Drop)]
@@ -118,7 +116,8 @@ fn answer<'de, I: JsonInput<'de>>(
         I.JsonInput.is_bytes tree.now)) }
 {
     let text = json.to_u8_slice();
-    empty_slots(&mut memory.found, tree.size())?;
+    memory.found.clear();
+    memory.found.resize(tree.size(), None)?;
     if tree.size() == 0 {
         return Ok(());
     }
@@ -127,15 +126,6 @@ fn answer<'de, I: JsonInput<'de>>(
     if json.need_utf8_valid() {
         check(text, reach)?;
     }
-    Ok(())
-}
-
-// Makes a slot for each path, in which nothing is found yet.
-fn empty_slots(found: &mut Vec<Option<Located>>, size: usize) -> Result<(), AllocError>
-    ensures { OnOk result (found.new.items ≡ replicate size None) }
-{
-    found.clear();
-    found.resize(size, None)?;
     Ok(())
 }
 
@@ -194,27 +184,5 @@ fn further(reach: usize, value: Option<Located>) -> usize
     match value {
         Some(Located { end, .. }) if reach < end => end,
         _ => reach,
-    }
-}
-
-/// Looks at the first `reach` bytes of a text, whether they are UTF-8.
-///
-/// Else the stop is `ErrorCode::InvalidUTF8` at the first byte that isn't. Walks look at no more
-/// than an answer needs, and so they do it last. In `b"[1]\xFF"` the first 3 bytes are UTF-8, and of
-/// 4 the stop is at 3.
-pub fn check(text: &[u8], reach: usize) -> Result<(), Stop>
-    requires { reach ≤ length text.now }
-    ensures ok { OnOk result (IsUtf8 (take reach text.now)) }
-    ensures err { IfErr result (λ s. (IsUtf8 (take reach text.now) → ⊥)
-        × (s ≡ record { place = valid_up_to (take reach text.now); code = InvalidUTF8 })
-        × (s.place ≤ length text.now)) }
-{
-    match simdutf8::compat::from_utf8(&text[..reach]) {
-        Ok(_) => Ok(()),
-        Err(error) => {
-            let place = error.valid_up_to();
-            let code = ErrorCode::InvalidUTF8;
-            Err(Stop { place, code })
-        }
     }
 }

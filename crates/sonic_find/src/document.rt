@@ -10,8 +10,8 @@ ghost use Rattle.sonic_find.specs.Documents.{IsAlone, IsValidDocument, IsInvalid
 ghost use Rattle.sonic_find.specs.Internal.Located.{IsStatus};
 ghost use Rattle.sonic_find.specs.Internal.Roots.{IsRoot};
 
-use crate::answer::check;
 use crate::located::Located;
+use crate::utf8::check;
 use sonic_error::{Error, ErrorCode};
 use sonic_input::{JsonInput, Read};
 use sonic_parser::{Fault, Parser};

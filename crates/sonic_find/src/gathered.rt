@@ -324,7 +324,7 @@ fn code_of_no_items(first: u8, kind: Kind) -> ErrorCode
 }
 
 // The nearer of two stops, if there is one.
-fn nearer(one: Option<Stop>, other: Option<Stop>) -> Option<Stop>
+pub(crate) fn nearer(one: Option<Stop>, other: Option<Stop>) -> Option<Stop>
     ensures one { (q : ℕ) → IsNoted one q → IsNoted result q }
     ensures other { (q : ℕ) → IsNoted other q → IsNoted result q }
     ensures either { (result ≡ one) ⊎ (result ≡ other) }

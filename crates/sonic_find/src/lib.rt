@@ -28,12 +28,14 @@ mod span;
 mod state;
 // The steps of a walk through a text.
 mod steps;
+// Whether the bytes of a text are UTF-8.
+mod utf8;
 // Which children of a prefix of the tree were visited.
 mod visited;
 // One walk that finds what all paths of a tree lead to.
 mod walk;
 
-pub use answer::{check, locate_many};
+pub use answer::locate_many;
 pub use document::{pass_alone, validate};
 pub use finding::{find, find_many, find_unchecked};
 pub use law::{
@@ -48,3 +50,4 @@ pub use path::{locate, locate_from};
 pub use room::{Room, fill_room, find_many_by, find_many_in};
 pub use span::Span;
 pub use steps::Steps;
+pub use utf8::check;

@@ -1,5 +1,5 @@
 // What many paths find in an input that is known to begin with a value in UTF-8.
-ghost use Rattle.std.specs.Prelude.{◌≡◌, ◌⊎◌, ◌<◌, ℕ, Bool, Some, None, length, replicate, slice_get, IfOk, IfErr, IfSome, IfNone, OnOk, OnErr, IsOk};
+ghost use Rattle.std.specs.Prelude.{◌≡◌, ◌<◌, ℕ, Bool, Some, None, length, replicate, slice_get, IfOk, IfErr, IfSome, IfNone, OnOk, OnErr, IsOk};
 ghost use Rattle.std.specs.List.{Contains};
 ghost use Rattle.sonic_text.specs.Documents.{StartsWithUtf8Value};
 ghost use Rattle.sonic_text.specs.Paths.{Node};
@@ -10,7 +10,7 @@ ghost use Rattle.sonic_pointer.specs.Nodes.{node_of};
 ghost use Rattle.sonic_pointer.specs.Paths.{IsChildren};
 ghost use Rattle.sonic_find.specs.Answers.{IsAnswer, Answer};
 ghost use Rattle.sonic_find.specs.Causes.{IsAnswerable, IsAnswerError};
-ghost use Rattle.sonic_find.specs.Internal.Fill.{filling_at, origin_at, IsNoted, IsFuller, AllSlots, NodeSlots, IsFillBegun};
+ghost use Rattle.sonic_find.specs.Internal.Fill.{filling_at, origin_at, IsFuller, AllSlots, NodeSlots, IsFillBegun};
 ghost use Rattle.sonic_find.specs.Internal.Follow.{IsDeadNode, LacksNode};
 ghost use Rattle.sonic_find.specs.Internal.Located.{IsStatus};
 ghost use Rattle.sonic_find.specs.Internal.Steps.{HasWhole};
@@ -19,6 +19,7 @@ ghost use Rattle.sonic_find.specs.Paths.{LeadsOn};
 ghost use Rattle.sonic_find.specs.Spans.{pairs_of};
 ghost use Rattle.sonic_pointer.specs.declared.rule.KeyRule.TheVariants.{First};
 
+use crate::gathered::nearer;
 use crate::located::Located;
 use crate::path::lead_on;
 use crate::span::Span;
@@ -97,18 +98,6 @@ impl<'de> Origin<'de> {
     }
 }
 
-// Notes the nearer of a stop and the one before.
-fn note(nearest: &mut Option<Stop>, stop: Stop)
-    ensures noted { IsNoted nearest.new stop.place }
-    ensures nearer { (q : ℕ) → IsNoted nearest.old q → IsNoted nearest.new q }
-    ensures one { (nearest.new ≡ nearest.old) ⊎ (nearest.new ≡ Some stop) }
-{
-    match *nearest {
-        Some(known) if known.place <= stop.place => {}
-        _ => *nearest = Some(stop),
-    }
-}
-
 // Fills the slots of the paths of these numbers.
 fn keep(slots: &mut [Option<Span>], orders: &[usize], span: Span)
     requires { (k : ℕ) → Contains orders.now k → k < length slots.old }
@@ -164,7 +153,7 @@ fn fill_child(
     match origin.child(&node) {
         Ok(Some(child)) => fill(child, &below, slots, nearest),
         Ok(None) => {}
-        Err(stop) => note(nearest, stop),
+        Err(stop) => *nearest = nearer(*nearest, Some(stop)),
     }
 }
 

@@ -14,7 +14,6 @@ ghost use Rattle.sonic_find.specs.Internal.Walk.{IsPathStop};
 ghost use Rattle.sonic_find.specs.Paths.{found, lacks, kind_of, Evaluates, LeadsOn};
 ghost use Rattle.sonic_pointer.specs.declared.rule.KeyRule.TheVariants.{First};
 
-use crate::answer::check;
 use crate::located::Located;
 use crate::steps::Steps;
 use sonic_error::ErrorCode;
@@ -74,10 +73,10 @@ pub fn locate_from(
     ensures err { IfErr result (IsStopFor (λ s.
         IsGetAnswer read.entry.text is_bytes (path_of path.now) (Answer.error s))) }
 {
-    let mut steps = Steps::checked(alloc, read);
+    let mut steps = Steps::new(read, Some(alloc), is_bytes);
     let found = locate(&mut steps, path)?;
     if is_bytes {
-        check(steps.text(), found.end)?;
+        steps.check_utf8(found.end)?;
     }
     Ok(found)
 }

@@ -1,5 +1,8 @@
 // The steps of a walk through a text.
-ghost use Rattle.std.specs.Prelude.{◌≡◌, ◌≢◌, ◌+◌, ◌<◌, ◌≤◌, ◌^◌, ◌↔◌, ℕ, List, true, false, length, IfOk, IfErr, IsErrOf, IsTrue, OnOk, is_some};
+ghost use Rattle.std.specs.Prelude.{◌≡◌, ◌≢◌, ◌+◌, ◌<◌, ◌≤◌, ◌^◌, ◌↔◌, ℕ, List, true, false, length, take, IfOk, IfErr, IsErrOf, IsTrue, OnOk, is_some};
+ghost use Rattle.std.specs.Str.{IsUtf8};
+ghost use Rattle.sonic_error.specs.declared.code.ErrorCode.TheVariants.{InvalidUTF8};
+ghost use Rattle.sonic_error.specs.Texts.{valid_up_to};
 ghost use Rattle.sonic_text.specs.Places.{byte, after_space};
 ghost use Rattle.sonic_text.specs.Strings.{IsString, IsEscapedString, strict};
 ghost use Rattle.sonic_text.specs.Values.{opening, IsKey, IsValue, ItemsFit};
@@ -11,12 +14,16 @@ ghost use Rattle.sonic_find.specs.Internal.Steps.{IsAfterItem, IsAtKey, IsSkippa
 ghost use Rattle.sonic_find.specs.Internal.Walk.{IsNoEntry};
 ghost use Rattle.sonic_find.specs.Paths.{empty_code, wanted_of};
 
+use crate::utf8::check_from;
 use sonic_error::{ErrorCode, Note, Wanted};
 use sonic_input::Read;
 use sonic_parser::{Fault, ParseStatus, Parser};
 use sonic_text::{Kind, Stop, StringEnd, byte_at, skip_space, type_of};
 use std::alloc::Global;
 use std::marker::Model;
+
+// After so many bytes the UTF-8 of a piece is looked at, while a cache still has it.
+const PIECE: usize = 1 << 16;
 
 /// A parser at the place that a walk has come to, by which the crates above go through a text as
 /// paths do.
@@ -28,6 +35,10 @@ pub struct Steps<'de> {
     parser: Parser<'de>,
     // Where the memory comes from for looking at what is skipped.
     memory: Option<Global>,
+    // How many bytes of the text were looked at, and are UTF-8.
+    utf8: usize,
+    // The place where the next piece ends, or `usize::MAX` where none is looked at.
+    look_at: usize,
 }
 
 impl<'de> Model for Steps<'de> {
@@ -51,7 +62,7 @@ impl<'de> Steps<'de> {
           checks = true;
         } }
     {
-        Steps::new(read, Some(alloc))
+        Steps::new(read, Some(alloc), false)
     }
 
     /// Steps that take each value for whole, from the reader's place on, after white space.
@@ -62,11 +73,14 @@ impl<'de> Steps<'de> {
           checks = false;
         } }
     {
-        Steps::new(read, None)
+        Steps::new(read, None, false)
     }
 
+    // The same, with memory or without. Where `check_utf8` is asked at the end, what is passed is
+    // looked at `in_pieces`, up to the first that is broken.
+    //
     // White space is passed before there is a parser, as one that was used would have to be copied.
-    fn new(read: Read<'de>, memory: Option<Global>) -> Steps<'de>
+    pub(crate) fn new(read: Read<'de>, memory: Option<Global>, in_pieces: bool) -> Steps<'de>
         ensures { result ≡ record {
           text = read.entry.text;
           place = after_space read.entry.text read.entry.place;
@@ -76,7 +90,13 @@ impl<'de> Steps<'de> {
         let mut read = read;
         read.set_index(skip_space(read.as_u8_slice(), read.index()));
         let parser = Parser::new(read);
-        Steps { parser, memory }
+        let look_at = if in_pieces { PIECE } else { usize::MAX };
+        Steps {
+            parser,
+            memory,
+            utf8: 0,
+            look_at,
+        }
     }
 
     // Exchanges the memory in which values are skipped with that of another walk.
@@ -112,10 +132,33 @@ impl<'de> Steps<'de> {
         ensures err { IfErr result (IsStopFor (λ s. IsFault strict self.old.text self.old.place s)) }
         ensures memory { IsErrOf result Fault.OutOfMemory → self.old.checks ≡ true }
     {
-        match self.memory {
+        let skipped = match self.memory {
             Some(alloc) => self.parser.skip_value(alloc),
             None => Ok(self.parser.skip_value_unchecked()),
+        };
+        let place = self.parser.offset();
+        if place >= self.look_at && self.check_utf8(place).is_err() {
+            self.look_at = usize::MAX;
         }
+        skipped
+    }
+
+    // Whether the text up to `reach` is UTF-8, as `check` says it, without a second look at the pieces
+    // that were passed.
+    #[inline(never)]
+    pub(crate) fn check_utf8(&mut self, reach: usize) -> Result<(), Stop>
+        requires { reach ≤ length self.old.text }
+        ensures ok { OnOk result (IsUtf8 (take reach self.old.text)) }
+        ensures err { IfErr result (λ s. (IsUtf8 (take reach self.old.text) → ⊥)
+            × (s ≡ record { place = valid_up_to (take reach self.old.text); code = InvalidUTF8 })
+            × (s.place ≤ length self.old.text)) }
+        ensures moved { self.new ≡ self.old }
+    {
+        let known = if self.utf8 <= reach { self.utf8 } else { 0 };
+        check_from(self.parser.text(), known, reach)?;
+        self.utf8 = reach;
+        self.look_at = reach.saturating_add(PIECE);
+        Ok(())
     }
 
     // Enters the container of this kind at the cursor, up to its first item.

@@ -15,7 +15,7 @@ use sonic_lazy::{
 };
 use sonic_pointer::PointerNode;
 use sonic_pointer::PointerNode::{Index, Key};
-use std::alloc::Global;
+use std::alloc::{AllocError, Global};
 use std::process::Abort;
 use std::test::Fail;
 
@@ -289,6 +289,58 @@ fn looks_at_utf8_up_to_the_end_of_the_value(rt: HostRuntime) -> Result<(), Fail>
         let shared = Bytes::copy_from_slice(alloc, bytes)?;
         check(&rt, alloc, bytes, path, wanted);
         check(&rt, alloc, &shared, path, wanted);
+    }
+    Ok(())
+}
+
+// How many strings a long array has, and how many characters of two bytes each of them.
+const STRINGS: usize = 300;
+
+const CHARACTERS: usize = 500;
+
+// A long array of strings, the one of this number with a byte in front that is no UTF-8, and where that is.
+fn long_array(alloc: Global, broken: usize) -> Result<(Vec<u8>, usize), AllocError> {
+    let mut bytes = Vec::new(alloc);
+    let mut place = 0;
+    bytes.push(b'[')?;
+    for number in 0..STRINGS {
+        if number > 0 {
+            bytes.push(b',')?;
+        }
+        bytes.push(b'"')?;
+        if number == broken {
+            place = bytes.len();
+            bytes.push(0xFF)?;
+        }
+        for _ in 0..CHARACTERS {
+            bytes.extend_from_slice(b"\xC3\xA9")?;
+        }
+        bytes.push(b'"')?;
+    }
+    bytes.push(b']')?;
+    Ok((bytes, place))
+}
+
+#[test]
+fn looks_at_the_utf8_of_a_long_text_up_to_the_end_of_the_value(
+    rt: HostRuntime,
+) -> Result<(), Fail> {
+    let alloc = rt.alloc();
+    for broken in [0, 64, 65, 66, 130, 298, 299, 300] {
+        let (bytes, place) = long_array(alloc, broken)?;
+        for number in [0, 64, 65, 66, 131, 299] {
+            match get(alloc, &bytes[..], &[Index(number)]) {
+                Ok(value) => {
+                    same_at(&rt, number < broken, true, place);
+                    same_at(&rt, value.as_raw_str().len(), 1002, place);
+                }
+                Err(error) => {
+                    same_at(&rt, number < broken, false, place);
+                    same_at(&rt, error.code(), ErrorCode::InvalidUTF8, place);
+                    same_at(&rt, error.offset(), place, number);
+                }
+            }
+        }
     }
     Ok(())
 }

@@ -11,7 +11,7 @@ ghost use Rattle.sonic_parser.specs.Parts.{IsAfterValue};
 
 use sonic_error::ErrorCode;
 use sonic_text::{
-    Kind, Stop, StringEnd, byte_at, near_space, near_string, skip_space, skip_string, stop_at,
+    Kind, Stop, StringEnd, byte_at, near_space, near_stop, skip_space, skip_string, stop_at,
     string_end,
 };
 
@@ -111,11 +111,12 @@ fn near_key(text: &[u8], place: usize) -> Option<usize>
     if text[place] != b'"' {
         return None;
     }
-    let end = near_string(text, place)?;
-    if text[end] != b':' {
+    // Not by `near_string`, whose `Option` a compiler makes of the quote: the colon's place would wait for it.
+    let stop = near_stop(text, place)?;
+    if text[stop] != b'"' || text[stop + 1] != b':' {
         return None;
     }
-    Some(near_space(text, end + 1))
+    Some(near_space(text, stop + 2))
 }
 
 // The place where the value is expected of the member whose key is expected at a place, or `None` where

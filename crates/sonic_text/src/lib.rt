@@ -47,7 +47,7 @@ pub use law::{
     value_has_one_outcome, value_means_one_tree,
 };
 pub use literal::{literal_end, skip_literal};
-pub use near::{near_number, near_space, near_string};
+pub use near::{near_number, near_space, near_stop, near_string};
 pub use number::{number_end, skip_number, whole_i64, whole_u64};
 pub use quote::{QUOTE_TAB, format_string};
 pub use quoted::write_quoted;

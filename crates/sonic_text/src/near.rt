@@ -29,6 +29,26 @@ pub fn near_space(text: &[u8], start: usize) -> usize
     space_end(text, start)
 }
 
+/// The first quote, backslash or control byte after the quote at `start`, where fewer than 32 bytes are
+/// before it: if it is a quote, the string ends behind it (RFC 8259, section 7). `None` says nothing of
+/// the text.
+///
+/// Of `"ab"` and thirty bytes more from 0 on it is 3.
+#[inline(always)]
+pub fn near_stop(text: &[u8], start: usize) -> Option<usize>
+    requires near { start + 33 ≤ length text.now }
+    requires quote { byte text.now start ≡ 34 }
+    ensures near { IfSome result (λ stop. (start < stop) × (stop < start + 33)) }
+    ensures string { IfSome result (λ stop. byte text.now stop ≡ 34
+        → (m : Bool) → (b : List ℕ) × IsString m text.now start (stop + 1) b) }
+{
+    let stop = match near_plain_end(text, start + 1) {
+        Some(stop) => stop,
+        None => near_plain_end(text, start + 17)?,
+    };
+    Some(stop)
+}
+
 /// The place after the string that begins at `start` (RFC 8259, section 7), where fewer than 32 bytes
 /// are between its quotes and none of them is a backslash. `None` says nothing of the text.
 ///
@@ -40,12 +60,9 @@ pub fn near_string(text: &[u8], start: usize) -> Option<usize>
     ensures { IfSome result (λ end. (start < end) × (end ≤ start + 33)
         × ((m : Bool) → (b : List ℕ) × IsString m text.now start end b)) }
 {
-    let end = match near_plain_end(text, start + 1) {
-        Some(end) => end,
-        None => near_plain_end(text, start + 17)?,
-    };
-    if text[end] == b'"' {
-        Some(end + 1)
+    let stop = near_stop(text, start)?;
+    if text[stop] == b'"' {
+        Some(stop + 1)
     } else {
         None
     }

@@ -1,6 +1,8 @@
 // What no clause says: how long what is near may be, and that it ends where the other readers end it.
 use crate::same::same_at;
-use sonic_text::{near_number, near_space, near_string, skip_number, skip_space, skip_string};
+use sonic_text::{
+    near_number, near_space, near_stop, near_string, skip_number, skip_space, skip_string,
+};
 use std::process::Abort;
 
 // A text, and the filler after it.
@@ -86,6 +88,15 @@ fn near_end(text: &[u8]) -> Option<usize> {
     }
 }
 
+// The first byte there that isn't itself in a string, where it is near.
+fn near_special(text: &[u8]) -> Option<usize> {
+    if text.len() >= 33 && text[0] == b'"' {
+        near_stop(text, 0)
+    } else {
+        None
+    }
+}
+
 // What the reader of all strings answers there.
 fn quick_end(text: &[u8]) -> Option<usize> {
     if !text.is_empty() && text[0] == b'"' {
@@ -101,7 +112,9 @@ fn ends_near_strings(rt: HostRuntime) {
         for count in 0..40 {
             let bytes = quoted(inside, count, b'"');
             let end = if count < 32 { Some(count + 2) } else { None };
+            let stop = if count < 32 { Some(count + 1) } else { None };
             same_at(&rt, near_end(&bytes), end, (inside, count));
+            same_at(&rt, near_special(&bytes), stop, (inside, count));
             same_at(&rt, quick_end(&bytes), Some(count + 2), (inside, count));
         }
     }
@@ -112,7 +125,9 @@ fn says_nothing_of_other_strings(rt: HostRuntime) {
     for other in *b"\\\n\x00\x1f" {
         for count in 0..40 {
             let bytes = quoted(b'a', count, other);
+            let stop = if count < 32 { Some(count + 1) } else { None };
             same_at(&rt, near_end(&bytes), None, (other, count));
+            same_at(&rt, near_special(&bytes), stop, (other, count));
         }
     }
 }

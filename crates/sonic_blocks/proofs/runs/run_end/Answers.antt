@@ -1,5 +1,5 @@
 use Rattle.std.proofs.Common.{◌∙◌, sym, arith}
-use Rattle.sonic_blocks.proofs.RunLemmas.{goes_past, run_within}
+use Rattle.sonic_blocks.proofs.RunLemmas.{goes_past}
 use Rattle.sonic_blocks.proofs.runs.run_end.Goals as goal
 
 pub returns-in-Some-clause-run : goal.returns-in-Some-clause-run

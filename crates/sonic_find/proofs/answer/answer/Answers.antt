@@ -10,7 +10,7 @@ pub returns-then-size-eq0-clause-ok : goal.returns-then-size-eq0-clause-ok
 returns-then-size-eq0-clause-ok g c =
     let none = none_counted c.args.tree.now (sym c.size-2.ensures ∙ c.if-size-eq0.true) in
     let no_slot : c.size.result ≡ 0 = c.size.ensures ∙ (sym c.size-2.ensures ∙ c.if-size-eq0.true) in
-    rw (c.in_ok-empty_slots.ensures, no_slot) (no_paths c.args.rule _ _ c.args.tree.now none)
+    rw (c.in_ok-resize.ensures.items, no_slot, c.clear.ensures.len) (no_paths c.args.rule _ _ c.args.tree.now none)
 
 pub returns-in_err-reach-clause-err : goal.returns-in_err-reach-clause-err
 returns-in_err-reach-clause-err g c =

@@ -65,9 +65,9 @@ fill_child-returns-in-Ok-None-clause-all t c = λ node is.
 
 pub fill_child-returns-in-Err-clause-fuller : goal.fill_child-returns-in-Err-clause-fuller
 fill_child-returns-in-Err-clause-fuller t c =
-    noted_fuller c.args.i c.requires.begun c.requires.children c.child-below.ensures.node c.in-Err.ensures.err c.note.ensures.one c.note.ensures.nearer
+    noted_fuller c.args.i c.requires.begun c.requires.children c.child-below.ensures.node c.in-Err.ensures.err c.nearer.ensures.either c.nearer.ensures.one
 
 pub fill_child-returns-in-Err-clause-all : goal.fill_child-returns-in-Err-clause-all
 fill_child-returns-in-Err-clause-all t c = λ node is.
     let same : node_of c.child-below.result.0 ≡ node = cc (c.child-below.ensures.node, is) in
-    rw (← same) (dead_slots c.requires.begun c.in-Err.ensures.err c.note.ensures.noted)
+    rw (← same) (dead_slots c.requires.begun c.in-Err.ensures.err (c.nearer.ensures.other c.in-Err.stop.place (omega arith)))
