@@ -100,7 +100,7 @@ module _ {opens closes depth : ℕ} where
       ]
 
       pub closes_here : depth + ones (bit_and opens (rest - 1)) ≡ closed + 1 → IsClosingBit opens closes depth next
-      closes_here e = record { within = within; level = closed_to ∙ sym e ∙ sym opened_to; before = until }
+      closes_here e = record { within = within; is_closing = marked.0; level = closed_to ∙ sym e ∙ sym opened_to; before = until }
 
       pub scanned_on : (depth + ones (bit_and opens (rest - 1)) ≢ closed + 1) → IsScanned opens closes depth (bit_and rest (rest - 1)) (closed + 1) (suc next)
       scanned_on other = record {

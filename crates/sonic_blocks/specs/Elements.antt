@@ -34,7 +34,8 @@ fits_after bytes k =
     || (is_at bytes 46 k && passes_before (is_digit_at bytes) false k) && not (is_behind_fraction bytes k))
     || is_digit_at bytes k && not (passes_before (is_first_zero bytes) false k)
 
--- the first n of 64 bytes fit, and the last of them is a comma: so they are whole elements (RFC 8259, sections 5 and 6)
+-- the first n of 64 bytes fit, and the last of them is a comma. This is a test of bytes alone: that they are whole elements of an
+-- array (RFC 8259, sections 5 and 6) is proved in `sonic_parser`, where they are passed
 pub record AreWholeElements (bytes : ℕ → ℕ) (n : ℕ) : Type 0 where
   pub within : n ≤ 64
   pub fit : (k : ℕ) → k < n → fits_after bytes k ≡ true

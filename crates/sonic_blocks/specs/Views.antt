@@ -1,12 +1,7 @@
--- A text that is seen by blocks, and the masks of one block.
+-- The masks of a block of 64 bytes.
 use Rattle.std.specs.Prelude.{◌≡◌, ℕ, ◌+◌, ◌<◌, ◌==◌, ◌&&◌, not, List, length, nat_lt, slice_index}
 use Rattle.sonic_blocks.specs.Bits.{is_set, is_space}
 use Rattle.sonic_blocks.specs.declared.tape.Masks.{Masks}
-
--- a text that is seen by its masks alone, and how many of them were seen
-pub record Viewed : Type 0 where
-  pub text : List ℕ
-  pub views : ℕ
 
 -- of the 64 places from p on, a bit is set for those that hold the byte b
 abbrev pub IsMask : List ℕ → ℕ → ℕ → ℕ → Type 0

@@ -14,9 +14,11 @@ mod elements;
 mod lanes;
 // Where a run of bytes of one kind ends, and where the first byte of another kind is.
 mod runs;
+// A counter of steps that takes no bytes at run time.
+mod steps;
 // The backslashes, the quotes and the control bytes among 32 bytes.
 mod string_block;
-// A text that is seen by blocks of 64 bytes alone, and how many views of it were taken.
+// A text that is seen by blocks of 64 bytes alone, each view of it a counted step.
 mod tape;
 
 pub use bits::{get_escaped, get_string_bits, next_bit, prefix_xor};
@@ -27,5 +29,6 @@ pub use lanes::get_nonspace_bits;
 pub use runs::{
     digits_end, first_backslash, first_of, near_digits_end, near_plain_end, plain_end, space_end,
 };
+pub use steps::Steps;
 pub use string_block::StringBlock;
 pub use tape::{Masks, Tape};

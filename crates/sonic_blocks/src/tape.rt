@@ -4,9 +4,10 @@ ghost use Rattle.sonic_blocks.specs.Bits.{is_set};
 ghost use Rattle.sonic_blocks.specs.Views.{AreMasks};
 
 use crate::lanes::{equal_to, spaces};
+use crate::steps::Steps;
 use std::marker::Model;
 use std::simd::prelude::*;
-use std::sync::ledger::{Blank, Book, Ledger, Share};
+use std::sync::ledger::Ledger;
 
 /// Which of 64 bytes are these, one bit for each byte.
 #[derive(Clone, Copy, Drop)]
@@ -22,64 +23,53 @@ pub struct Masks {
     pub nonspace: u64,
 }
 
-/// A text that is seen by [`Masks`] alone, and that counts its views.
+/// A text that is seen by [`Masks`] alone, each view of it one step of a counter.
 ///
 /// Nothing else shows the text, so that a caller who holds a tape can't look at it uncounted.
 ///
 /// ```text
-/// let mut tape = Tape::<Brand>::new(b"[1]", Blank::new(1));
-/// assert_eq!(rt; tape.masks_at(0).close_bracket, 4);
+/// let tape = Tape::new(b"[1]");
+/// assert_eq!(rt; tape.masks_at(0, &mut steps).close_bracket, 4);
 /// ```
 #[derive(Drop)]
-pub struct Tape<'a, L: Ledger> {
+pub struct Tape<'a> {
     text: &'a [u8],
-    // The views, which the ledger alone counts.
-    book: Book<L>,
-    share: Share<L>,
 }
 
-impl<'a, L: Ledger> Model for Tape<'a, L> {
-    ghost use Rattle.sonic_blocks.specs.Views.{Viewed};
+impl<'a> Model for Tape<'a> {
+    ghost use Rattle.std.specs.Prelude.{ℕ, List};
 
-    ghost Value = { Viewed };
+    ghost Value = { List ℕ };
 
-    ghost use Rattle.std.specs.Prelude.{◌<◌};
-
-    ghost view = { λ tape. record { text = tape.text.now; views = tape.book.total } };
-
-    ghost invariant = { λ tape. 0 < tape.share.parts };
+    ghost view = { λ tape. tape.text.now };
 }
 
-impl<'a, L: Ledger> Tape<'a, L> {
-    /// The tape of a text, of which nothing was seen.
-    pub fn new(text: &'a [u8], blank: Blank) -> Tape<'a, L>
-        requires name { blank.name ≡ L.name }
-        requires parts { blank.parts ≡ L.parts }
-        requires some { 0 < L.parts }
-        ensures { result ≡ record { text = text.now; views = 0 } }
+impl<'a> Tape<'a> {
+    /// The tape of a text.
+    pub fn new(text: &'a [u8]) -> Tape<'a>
+        ensures { result ≡ text.now }
     {
-        let (book, share) = blank.open();
-        Tape { text, book, share }
+        Tape { text }
     }
 
     /// How many bytes the text has.
     pub fn len(&self) -> usize
-        ensures value { result ≡ length self.now.text }
+        ensures value { result ≡ length self.now }
         ensures small { result < 2 ^ 63 }
     {
         self.text.len()
     }
 
-    /// The masks of the 64 bytes from `place` on. A bit past the text's end is clear. It is one view.
+    /// The masks of the 64 bytes from `place` on. A bit past the text's end is clear. It is one step.
     ///
     /// Of `{"a":1}` the quotes from 0 on are 10, the bits 1 and 3.
     #[inline(always)]
-    pub fn masks_at(&mut self, place: usize) -> Masks
-        requires { place ≤ length self.old.text }
-        ensures masks { AreMasks self.old.text place result }
-        ensures view { self.new ≡ record self.old { views = self.old.views + 1 } }
+    pub fn masks_at<L: Ledger>(&self, place: usize, steps: &mut Steps<L>) -> Masks
+        requires { place ≤ length self.now }
+        ensures masks { AreMasks self.now place result }
+        ensures step { steps.new ≡ steps.old + 1 }
     {
-        self.book.add(&mut self.share, 1);
+        steps.tick();
         masks_of(self.text, place)
     }
 }

@@ -3,7 +3,7 @@
 ghost use Rattle.std.specs.Prelude.{◌≡◌, ◌+◌, ◌<◌, ◌≤◌, length};
 
 use crate::same::{same, same_at};
-use sonic_blocks::{Masks, Tape, closing_bit};
+use sonic_blocks::{Masks, Steps, Tape, closing_bit};
 use std::marker::Brand;
 use std::process::Abort;
 use std::sync::ledger::{Blank, Ledger};
@@ -54,10 +54,11 @@ fn check_tape<L: Ledger>(rt: &impl Abort, text: &[u8], blank: Blank)
     requires parts { blank.parts ≡ L.parts }
     requires some { 0 < L.parts }
 {
-    let mut tape = Tape::<L>::new(text, blank);
+    let mut steps = Steps::<L>::new(blank);
+    let tape = Tape::new(text);
     same(rt, tape.len(), text.len());
     for place in 0..text.len() + 1 {
-        check_masks(rt, text, place, &tape.masks_at(place));
+        check_masks(rt, text, place, &tape.masks_at(place, &mut steps));
     }
 }
 

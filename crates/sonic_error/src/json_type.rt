@@ -33,6 +33,15 @@ impl JsonType {
             _ => None,
         }
     }
+
+    /// The number of the kind, from 0 for `Null` to 5 for `Array`, which `from_u8` takes.
+    ///
+    /// `JsonType::Object.as_u8()` is 4, as `JsonType::Object as u8` is.
+    pub fn as_u8(self) -> u8
+        ensures { result ≡ number_of self }
+    {
+        self as u8
+    }
 }
 
 /// What a caller wanted where it found a value of another kind.

@@ -6,13 +6,19 @@ use std::test::Fail;
 
 #[test]
 fn numbers_the_kinds(rt: HostRuntime) {
-    same(&rt, JsonType::from_u8(0), Some(JsonType::Null));
-    same(&rt, JsonType::from_u8(3), Some(JsonType::String));
-    same(
-        &rt,
-        JsonType::from_u8(JsonType::Array as u8),
-        Some(JsonType::Array),
-    );
+    let table = [
+        (0, JsonType::Null),
+        (1, JsonType::Boolean),
+        (2, JsonType::Number),
+        (3, JsonType::String),
+        (4, JsonType::Object),
+        (5, JsonType::Array),
+    ];
+    for &(number, kind) in &table {
+        same(&rt, JsonType::from_u8(number), Some(kind));
+        same_at(&rt, kind as u8, number, kind);
+        same_at(&rt, kind.as_u8(), number, kind);
+    }
     same(&rt, JsonType::from_u8(6), None);
 }
 

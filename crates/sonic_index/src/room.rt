@@ -2,7 +2,7 @@
 ghost use Rattle.std.specs.Prelude.{◌≡◌, ◌<◌, []};
 
 use crate::cell::Cell;
-use sonic_blocks::{Tape, get_string_bits};
+use sonic_blocks::{Steps, Tape, get_string_bits};
 use std::alloc::Global;
 use std::marker::Brand;
 use std::sync::ledger::{Blank, Ledger};
@@ -13,11 +13,12 @@ fn most_over<L: Ledger>(text: &[u8], blank: Blank) -> usize
     requires parts { blank.parts ≡ L.parts }
     requires some { 0 < L.parts }
 {
-    let mut tape = Tape::<L>::new(text, blank);
+    let tape = Tape::new(text);
+    let mut steps = Steps::<L>::new(blank);
     let (mut in_string, mut in_escape) = (0, 0);
     let (mut place, mut count) = (0, 1usize);
     while place < text.len() {
-        let masks = tape.masks_at(place);
+        let masks = tape.masks_at(place, &mut steps);
         let inside = get_string_bits(masks.backslash, masks.quote, &mut in_string, &mut in_escape);
         let found = masks.comma | masks.open_brace | masks.open_bracket;
         count = count.saturating_add((found & !inside).count_ones() as usize);

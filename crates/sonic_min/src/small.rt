@@ -8,7 +8,7 @@ ghost use Rattle.sonic_min.specs.Internal.Kept.{kept};
 ghost use Rattle.sonic_min.specs.Texts.{IsSmallText};
 
 use crate::keep::keep;
-use sonic_blocks::{Tape, get_string_bits};
+use sonic_blocks::{Steps, Tape, get_string_bits};
 use sonic_error::{ErrorCode, Result};
 use sonic_find::validate;
 use sonic_input::JsonInput;
@@ -27,13 +27,14 @@ fn kept_over<L: Ledger>(
     requires some { 0 < L.parts }
     ensures { IfOk result (λ bytes. bytes.items ≡ kept text.now (length text.now)) }
 {
-    let mut tape = Tape::<L>::new(text, blank);
+    let tape = Tape::new(text);
+    let mut steps = Steps::<L>::new(blank);
     let mut bytes = vec![in alloc; 0u8; text.len()]?;
     let room = bytes.as_mut_slice();
     let (mut in_string, mut in_escape) = (0, 0);
     let (mut place, mut at) = (0, 0);
     while place < text.len() {
-        let masks = tape.masks_at(place);
+        let masks = tape.masks_at(place, &mut steps);
         let inside = get_string_bits(masks.backslash, masks.quote, &mut in_string, &mut in_escape);
         let rest = &text[place..];
         let count = rest.len().min(64);

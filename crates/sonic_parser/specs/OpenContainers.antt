@@ -28,6 +28,6 @@ pub record IsItemEnded (m : Bool) (t : List ℕ) (i : ℕ) (kinds : List Kind) (
   pub head : ItemHead m t item.kind h v label
   pub value : IsValue m t v e
 
--- the last of the kinds is this one
+-- the last of the kinds is this one; without a last one, any kind is
 abbrev pub IsTop : List Kind → Kind → Type 0
 IsTop kinds kind = get_or kinds (length kinds - 1) kind ≡ kind

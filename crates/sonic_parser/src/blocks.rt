@@ -7,7 +7,7 @@ ghost use Rattle.sonic_text.specs.Values.{opening, closing, IsValue};
 ghost use Rattle.sonic_parser.specs.Internal.Blocks.{AreKnown};
 ghost use Rattle.sonic_parser.specs.Internal.Unchecked.{IsInsideString, IsOpenString};
 
-use sonic_blocks::{Masks, Tape, closing_bit, get_string_bits};
+use sonic_blocks::{Masks, Steps, Tape, closing_bit, get_string_bits};
 use sonic_text::Kind;
 use std::marker::Brand;
 use std::sync::ledger::{Blank, Ledger};
@@ -56,22 +56,22 @@ fn brackets_of(masks: &Masks, kind: Kind) -> (u64, u64)
 //
 // `tape` and `start` are for the contract alone.
 #[inline(always)]
-fn end_in<L: Ledger>(
-    tape: &Tape<'_, L>,
+fn end_in(
+    tape: &Tape<'_>,
     start: usize,
     block: &Block,
     kind: Kind,
     known: &mut Known,
 ) -> Option<usize>
-    requires masks { AreMasks tape.now.text block.now.place block.now.masks }
-    requires known { AreKnown kind tape.now.text start block.now.place known.old }
-    requires begins { byte tape.now.text start ≡ opening kind }
-    requires closes { (j : ℕ) × Closes kind tape.now.text start j × (block.now.place < j) }
+    requires masks { AreMasks tape.now block.now.place block.now.masks }
+    requires known { AreKnown kind tape.now start block.now.place known.old }
+    requires begins { byte tape.now start ≡ opening kind }
+    requires closes { (j : ℕ) × Closes kind tape.now start j × (block.now.place < j) }
     requires room { block.now.place < 2 ^ 63 }
     ensures { MatchOption result
-        (AreKnown kind tape.now.text start (block.now.place + 64) known.new
-        × ((j : ℕ) → Closes kind tape.now.text start j → block.now.place < j → block.now.place + 64 < j))
-        (λ end. (j : ℕ) → Closes kind tape.now.text start j → block.now.place < j → end ≡ j) }
+        (AreKnown kind tape.now start (block.now.place + 64) known.new
+        × ((j : ℕ) → Closes kind tape.now start j → block.now.place < j → block.now.place + 64 < j))
+        (λ end. (j : ℕ) → Closes kind tape.now start j → block.now.place < j → end ≡ j) }
 {
     let inside = get_string_bits(
         block.masks.backslash,
@@ -91,13 +91,18 @@ fn end_in<L: Ledger>(
 // The end of the container of this kind that begins with a block. It is inlined for each kind, so
 // that only two brackets are looked for.
 #[inline(always)]
-fn end_of_kind<L: Ledger>(tape: &mut Tape<'_, L>, start: usize, masks: Masks, kind: Kind) -> usize
-    requires masks { AreMasks tape.old.text start masks }
-    requires begins { byte tape.old.text start ≡ opening kind }
-    requires container { (lossy : Bool) × (j : ℕ) × IsValue lossy tape.old.text start j }
-    ensures end { (lossy : Bool) (j : ℕ) → IsValue lossy tape.old.text start j → result ≡ j }
-    ensures text { tape.new.text ≡ tape.old.text }
-    ensures cost { tape.new.views ≤ tape.old.views + (result - start) / 64 }
+fn end_of_kind<L: Ledger>(
+    tape: &Tape<'_>,
+    start: usize,
+    masks: Masks,
+    kind: Kind,
+    steps: &mut Steps<L>,
+) -> usize
+    requires masks { AreMasks tape.now start masks }
+    requires begins { byte tape.now start ≡ opening kind }
+    requires container { (lossy : Bool) × (j : ℕ) × IsValue lossy tape.now start j }
+    ensures end { (lossy : Bool) (j : ℕ) → IsValue lossy tape.now start j → result ≡ j }
+    ensures cost { steps.new ≤ steps.old + (result - start) / 64 }
 {
     let len = tape.len();
     let mut known = Known {
@@ -114,7 +119,7 @@ fn end_of_kind<L: Ledger>(tape: &mut Tape<'_, L>, start: usize, masks: Masks, ki
             return end;
         }
         block.place += 64;
-        block.masks = tape.masks_at(block.place);
+        block.masks = tape.masks_at(block.place, steps);
     }
     unreachable!()
 }
@@ -122,34 +127,33 @@ fn end_of_kind<L: Ledger>(tape: &mut Tape<'_, L>, start: usize, masks: Masks, ki
 /// The end of the container at `start`, which is known to be whole: from `{` of `{"a":"}"},1` to
 /// the place of the comma.
 ///
-/// The text is seen by [`Masks`] alone, one view for 64 bytes, which the tape counts. Only the
-/// brackets of the container's own kind are counted, and those in strings aren't: what else is
+/// The text is seen by [`Masks`] alone, and each view is a step: one for 64 bytes, and one more. Only
+/// the brackets of the container's own kind are counted, and those in strings aren't: what else is
 /// between them isn't looked at (the law is `value_balances`).
-pub fn container_end<L: Ledger>(tape: &mut Tape<'_, L>, start: usize) -> usize
-    requires { (lossy : Bool) × (kind : Kind) × (j : ℕ) × IsValue lossy tape.old.text start j
-        × (byte tape.old.text start ≡ opening kind) }
-    ensures end { (lossy : Bool) (j : ℕ) → IsValue lossy tape.old.text start j → result ≡ j }
-    ensures text { tape.new.text ≡ tape.old.text }
-    ensures cost { tape.new.views ≤ tape.old.views + (result - start) / 64 + 1 }
+pub fn container_end<L: Ledger>(tape: &Tape<'_>, start: usize, steps: &mut Steps<L>) -> usize
+    requires { (lossy : Bool) × (kind : Kind) × (j : ℕ) × IsValue lossy tape.now start j
+        × (byte tape.now start ≡ opening kind) }
+    ensures end { (lossy : Bool) (j : ℕ) → IsValue lossy tape.now start j → result ≡ j }
+    ensures cost { steps.new ≤ steps.old + (result - start) / 64 + 1 }
 {
-    let masks = tape.masks_at(start);
+    let masks = tape.masks_at(start, steps);
     match first_kind(&masks) {
-        Kind::Array => end_of_kind(tape, start, masks, Kind::Array),
-        Kind::Object => end_of_kind(tape, start, masks, Kind::Object),
+        Kind::Array => end_of_kind(tape, start, masks, Kind::Array, steps),
+        Kind::Object => end_of_kind(tape, start, masks, Kind::Object, steps),
     }
 }
 
 // The end of the string inside of which `start` is, and isn't escaped: after the next quote that no
 // backslash escapes.
-fn string_end<L: Ledger>(tape: &mut Tape<'_, L>, start: usize) -> usize
-    requires { IsOpenString tape.old.text start }
-    ensures { (s : ℕ) → IsInsideString tape.old.text s start → LeavesString tape.old.text s start result }
+fn string_end<L: Ledger>(tape: &Tape<'_>, start: usize, steps: &mut Steps<L>) -> usize
+    requires { IsOpenString tape.now start }
+    ensures { (s : ℕ) → IsInsideString tape.now s start → LeavesString tape.now s start result }
 {
     let len = tape.len();
     let (mut in_string, mut in_escape) = (u64::MAX, 0);
     let mut place = start;
     while place < len {
-        let masks = tape.masks_at(place);
+        let masks = tape.masks_at(place, steps);
         let inside = get_string_bits(masks.backslash, masks.quote, &mut in_string, &mut in_escape);
         if inside != u64::MAX {
             return place + inside.trailing_ones() as usize + 1;
@@ -168,7 +172,7 @@ fn end_over<L: Ledger>(text: &[u8], start: usize, blank: Blank) -> usize
         × (byte text.now start ≡ opening kind) }
     ensures { (lossy : Bool) (j : ℕ) → IsValue lossy text.now start j → result ≡ j }
 {
-    container_end(&mut Tape::<L>::new(text, blank), start)
+    container_end(&Tape::new(text), start, &mut Steps::<L>::new(blank))
 }
 
 // The end of the container at a place.
@@ -188,7 +192,7 @@ fn string_end_over<L: Ledger>(text: &[u8], start: usize, blank: Blank) -> usize
     requires string { IsOpenString text.now start }
     ensures { (s : ℕ) → IsInsideString text.now s start → LeavesString text.now s start result }
 {
-    string_end(&mut Tape::<L>::new(text, blank), start)
+    string_end(&Tape::new(text), start, &mut Steps::<L>::new(blank))
 }
 
 // The end of the string inside of which a place is.

@@ -29,6 +29,9 @@ mod reference;
 // Assertions as calls.
 #[cfg(test)]
 mod same;
+// The calls as a caller writes them.
+#[cfg(test)]
+mod signatures;
 // White space by blocks.
 #[cfg(test)]
 mod space;

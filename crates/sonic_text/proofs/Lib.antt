@@ -3,6 +3,7 @@ pub mod BracketLemmas
 mod CodepointLemmas
 pub mod Completions
 pub mod Decimals
+pub mod EndLemmas
 mod EscapeFaultLemmas
 mod EscapeLemmas
 mod FirstByteLemmas

@@ -1,7 +1,7 @@
-ghost use Rattle.std.specs.Prelude.{◌≡◌, ◌≢◌, ◌↔◌, ℕ, ◌≤◌, Bool, List, length};
+ghost use Rattle.std.specs.Prelude.{◌≡◌, ◌≢◌, ◌↔◌, ℕ, ◌-◌, ◌≤◌, Bool, List, false, length};
 ghost use Rattle.sonic_error.specs.declared.code.ErrorCode.TheVariants.{EofWhileParsing};
 ghost use Rattle.sonic_text.specs.declared.stop.Stop.{Stop};
-ghost use Rattle.sonic_text.specs.Places.{after_space};
+ghost use Rattle.sonic_text.specs.Places.{after_space, byte, is_space};
 ghost use Rattle.sonic_text.specs.Faults.{IsFault};
 ghost use Rattle.sonic_text.specs.Laws.{HasOneOutcome, IsFinal, MayGoOn};
 ghost use Rattle.sonic_text.specs.Literals.{IsLiteral, IsLiteralFault};
@@ -46,6 +46,13 @@ pub fn value_means_one_tree()
     ensures means { (t : List ℕ) (i j : ℕ) → IsValue strict t i j ↔ ((x : Tree) × Means t i j x) }
     ensures one_tree { (t : List ℕ) (i j k : ℕ) (x y : Tree) → Means t i j x → Means t i k y
         → x ≡ y }
+{}
+
+/// The law of a value's ends, for both ways of reading and every text: a value begins and ends with a
+/// byte that is no white space (RFC 8259, section 2). So from ` 1 ` comes `1`, with neither blank.
+pub fn value_has_no_space_at_its_ends()
+    ensures { (m : Bool) (t : List ℕ) (i j : ℕ) → IsValue m t i j
+        → (is_space (byte t i) ≡ false) × (is_space (byte t (j - 1)) ≡ false) }
 {}
 
 /// The law of types, for every text: where a value means a tree, the type that its first byte says is

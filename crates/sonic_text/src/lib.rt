@@ -44,7 +44,7 @@ pub use key::{compare_key, same_key};
 pub use kind::Kind;
 pub use law::{
     end_is_honest, first_byte_says_the_type, literal_has_one_outcome, number_has_one_outcome,
-    value_has_one_outcome, value_means_one_tree,
+    value_has_no_space_at_its_ends, value_has_one_outcome, value_means_one_tree,
 };
 pub use literal::{literal_end, skip_literal};
 pub use near::{near_number, near_space, near_stop, near_string};

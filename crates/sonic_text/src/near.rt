@@ -2,7 +2,9 @@
 //
 // Each call asks for so many bytes after its place that it never meets the end, and says nothing where
 // what it looks for is longer than it looks.
-ghost use Rattle.std.specs.Prelude.{◌≡◌, ◌+◌, ◌<◌, ◌≤◌, Bool, ℕ, List, length, IfSome};
+ghost use Rattle.std.specs.Prelude.{◌≡◌, ◌+◌, ◌<◌, ◌≤◌, Bool, ℕ, List, drop, length, IfSome};
+ghost use Rattle.std.specs.List.{prefix_len};
+ghost use Rattle.sonic_blocks.specs.Runs.{is_plain};
 ghost use Rattle.sonic_text.specs.Places.{byte, after_space};
 ghost use Rattle.sonic_text.specs.Strings.{IsString};
 ghost use Rattle.sonic_text.specs.Numbers.{IsInt, IsFraction, IsExponent, IsNumber};
@@ -39,6 +41,7 @@ pub fn near_stop(text: &[u8], start: usize) -> Option<usize>
     requires near { start + 33 ≤ length text.now }
     requires quote { byte text.now start ≡ 34 }
     ensures near { IfSome result (λ stop. (start < stop) × (stop < start + 33)) }
+    ensures first { IfSome result (λ stop. stop ≡ start + 1 + prefix_len is_plain (drop (start + 1) text.now)) }
     ensures string { IfSome result (λ stop. byte text.now stop ≡ 34
         → (m : Bool) → (b : List ℕ) × IsString m text.now start (stop + 1) b) }
 {

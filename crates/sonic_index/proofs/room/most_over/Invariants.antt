@@ -3,7 +3,7 @@ use Rattle.sonic_index.proofs.room.most_over.Given as goal
 
 abbrev pub invariant-loop-place : goal.invariant-loop-place
 invariant-loop-place g l = record {
-  text : l.tape.text ≡ l.text;
+  tape : l.tape ≡ l.text;
   string : (l.in_string ≡ 0) ⊎ (l.in_string ≡ 18446744073709551615);
   escape : l.in_escape < 2;
 }

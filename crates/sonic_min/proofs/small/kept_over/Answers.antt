@@ -11,7 +11,7 @@ use Rattle.sonic_min.proofs.small.kept_over.Goals as goal
 
 pub loop-place-init : goal.loop-place-init
 loop-place-init g c = record {
-  text = ap (λ t. t.text) c.new-tape.ensures;
+  tape = c.new-tape.ensures;
   carried = λ l. carried_start c.args.text.now 0;
   bytes = sym (picked_none (is_kept c.args.text.now) c.args.text.now);
   few = omega arith;
@@ -25,14 +25,14 @@ loop-place-preserved g c =
     let t = c.args.text.now in
     let p = c.loop-place.place in
     let n = c.min-count.result in
-    let masks = subst (λ t. AreMasks t p c.masks_at-masks.result) v.text c.masks_at-masks.ensures.masks in
+    let masks = subst (λ t. AreMasks t p c.masks_at-masks.result) v.tape c.masks_at-masks.ensures.masks in
     let block = block_of (v.carried c.loop-place-test.true) masks (omega arith) c.get_string_bits-inside.ensures.bits in
     let long = part_length t p (length t) v.within (omega arith) in
     let near : n ≤ 64 = omega (arith, c.min-count.ensures) in
     let within : p + n ≤ length t = omega (arith, c.min-count.ensures, long) in
     let on = carried_on block c.get_string_bits-inside.ensures.escaped c.get_string_bits-inside.ensures.instring in
     record {
-      text = ap (λ t. t.text) c.masks_at-masks.ensures.view ∙ v.text;
+      tape = v.tape;
       carried = λ l. (let whole : n ≡ 64 = omega (arith, c.min-count.ensures, long) in rw whole on);
       bytes = c.keep-at.ensures.bytes ∙ ap (λ x. x ++ picked (is_set (bit_or c.masks_at-masks.result.nonspace c.get_string_bits-inside.result)) (slice_range t p (length t)) n) v.bytes
           ∙ sym (block_kept n block masks near within);

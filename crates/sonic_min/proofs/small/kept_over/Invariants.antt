@@ -5,7 +5,7 @@ use Rattle.sonic_min.proofs.small.kept_over.Given as goal
 
 abbrev pub invariant-loop-place : goal.invariant-loop-place
 invariant-loop-place g l = record {
-  text : l.tape.text ≡ l.text;
+  tape : l.tape ≡ l.text;
   carried : l.place < length l.text → AreCarried l.text 0 l.place l.in_escape l.in_string;
   bytes : take l.at l.room ≡ kept l.text l.place;
   few : l.at ≤ l.place;

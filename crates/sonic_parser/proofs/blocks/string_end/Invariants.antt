@@ -6,9 +6,8 @@ use Rattle.sonic_parser.proofs.blocks.string_end.Given as goal
 
 abbrev pub invariant-loop-place : goal.invariant-loop-place
 invariant-loop-place g l = record {
-  text : l.tape.text ≡ l.fn.tape.text;
-  carried : (s : ℕ) → IsInsideString l.fn.tape.text s l.start → AreCarried l.fn.tape.text s l.place l.in_escape l.in_string;
-  inside : (s : ℕ) → IsInsideString l.fn.tape.text s l.start → (k : ℕ) → l.start ≤ k → k ≤ l.place → is_inside_at l.fn.tape.text s k ≡ true;
+  carried : (s : ℕ) → IsInsideString l.tape s l.start → AreCarried l.tape s l.place l.in_escape l.in_string;
+  inside : (s : ℕ) → IsInsideString l.tape s l.start → (k : ℕ) → l.start ≤ k → k ≤ l.place → is_inside_at l.tape s k ≡ true;
   later : l.start ≤ l.place;
 }
 
