@@ -19,8 +19,9 @@ use std::marker::Model;
 
 /// UTF-8 text over shared bytes.
 ///
-/// A clone and a slice copy no byte: they own the same bytes as the text that they were made
-/// from. Texts are equal, ordered and hashed as `&str` is, and a clause sees the bytes.
+/// A clone and a slice are made to own the bytes of the text that they come from, without a copy.
+/// No clause says so, as a clause sees the bytes alone. Texts are equal, ordered and hashed as
+/// `&str` is.
 ///
 /// ```text
 /// let text = FastStr::new(alloc, "é1")?;

@@ -54,7 +54,7 @@ impl StringSpan {
         Ok(unsafe { String::from_utf8_unchecked(bytes) })
     }
 
-    /// The bytes that the string denotes, which are UTF-8 where the text is.
+    /// The bytes that the string denotes.
     ///
     /// The only error is that memory ran out. Of `"\u00e9"` they are c3 a9.
     pub fn bytes(self, alloc: Global, text: &[u8]) -> Result<Vec<u8>, AllocError>

@@ -44,6 +44,18 @@ fn closing_over<L: Ledger>(text: &[u8], blank: Blank) -> u64
     masks.close_bracket & masks.nonspace
 }
 
+// The same for a caller that hands on no ledger.
+fn end_of(text: &[u8], start: usize) -> usize
+    requires container { (lossy : Bool) × (kind : Kind) × (j : ℕ) × IsValue lossy text.now start j
+        × (byte text.now start ≡ opening kind) }
+{
+    end_over::<Brand>(text, start, Blank::new(1))
+}
+
+fn closing_in(text: &[u8]) -> u64 {
+    closing_over::<Brand>(text, Blank::new(1))
+}
+
 #[test]
 fn compiles_calls_of_blocks(rt: HostRuntime) {
     let text = b"[\"]\"],\"\\\"\" \x01                                                      ";
@@ -58,7 +70,7 @@ fn compiles_calls_of_blocks(rt: HostRuntime) {
         3,
     );
     same(&rt, first_of(text, 1, b']', b'}', b','), Some(2));
-    same(&rt, closing_over::<Brand>(text, Blank::new(1)), 0b10100);
+    same(&rt, closing_in(text), 0b10100);
     let block = StringBlock::new(&[b'"'; 32]);
     let firsts: (bool, bool, bool) = (
         block.has_unescaped(),
@@ -75,11 +87,7 @@ fn compiles_calls_of_blocks(rt: HostRuntime) {
     let alloc = rt.alloc();
     let mut parser = Parser::new(Read::from(&text[..]));
     match parser.skip_value(alloc) {
-        Ok(_) => same(
-            &rt,
-            end_over::<Brand>(text, 0, Blank::new(1)),
-            parser.offset(),
-        ),
+        Ok(_) => same(&rt, end_of(text, 0), parser.offset()),
         Err(_) => panic!(rt; "the array is whole"),
     }
 }
@@ -98,18 +106,25 @@ fn compiles_calls_of_a_parser(rt: HostRuntime) -> Result<(), Fail> {
             _ => panic!(rt; "the string has an escape"),
         }
     }
-    if parser.skip_space() == Some(b'1') {
-        same(&rt, parser.skip_number(b'1'), Ok("12"));
-    }
-    if parser.skip_space() == Some(b'n') {
-        same(&rt, parser.parse_literal("ull"), Ok(()));
-    }
-    if parser.skip_space() == Some(b't') {
-        let error: Error = parser.peek_invalid_type(alloc, b't', Wanted::Object);
-        same(&rt, error.offset(), parser.offset() - 1);
-    }
     same(&rt, parser.text().len(), parser.offset());
     let lossy: Parser<'_> = Parser::new(Read::from("1")).utf8_lossy();
     same(&rt, lossy.offset(), 0);
     Ok(())
+}
+
+#[test]
+fn compiles_calls_behind_a_first_byte(rt: HostRuntime) {
+    let mut number = Parser::new(Read::from("12"));
+    if number.skip_space() == Some(b'1') {
+        same(&rt, number.skip_number(b'1'), Ok("12"));
+    }
+    let mut literal = Parser::new(Read::from("null"));
+    if literal.skip_space() == Some(b'n') {
+        same(&rt, literal.parse_literal("ull"), Ok(()));
+    }
+    let mut truth = Parser::new(Read::from("true"));
+    if truth.skip_space() == Some(b't') {
+        let error: Error = truth.peek_invalid_type(rt.alloc(), b't', Wanted::Object);
+        same(&rt, error.is_unmatched_type(), true);
+    }
 }
