@@ -3,7 +3,7 @@ ghost use Rattle.std.specs.Prelude.{◌≡◌, ◌≢◌, ◌⊎◌, ◌<◌, �
 ghost use Rattle.std.specs.Option.{IsSomeAnd};
 ghost use Rattle.sonic_error.specs.Errors.{IsPlainError};
 ghost use Rattle.sonic_text.specs.Strings.{strict};
-ghost use Rattle.sonic_parser.specs.Faults.{IsErrorOf, IsStopFor};
+ghost use Rattle.sonic_parser.specs.Faults.{IsStopFor};
 ghost use Rattle.sonic_parser.specs.Honest.{IsHonest};
 ghost use Rattle.sonic_find.specs.Answers.{IsAnswerBy, Answer};
 ghost use Rattle.sonic_find.specs.Causes.{IsAnswerableBy, IsRefusalBy};
@@ -67,8 +67,7 @@ pub fn locate_many<'de, I: JsonInput<'de>>(
     }
 }
 
-// The same in memory that is used again, in which nothing is found after a fault. The error would be the
-// one that reports the fault.
+// The same in memory that is used again, in which nothing is found after a fault.
 #[inline(always)]
 pub(crate) fn locate_in<'de, I: JsonInput<'de>>(
     alloc: Global,
@@ -81,8 +80,8 @@ pub(crate) fn locate_in<'de, I: JsonInput<'de>>(
         tree.now (Answer.spans (spans_of memory.new.found.items))) }
     ensures statuses { OnOk result (HaveStatuses (I.JsonInput.content json) memory.new.found.items) }
     ensures parts { OnOk result (AreParts (I.JsonInput.content json) memory.new.found.items) }
-    ensures err { IfErr result (λ fault. (error : Error) → IsErrorOf (I.JsonInput.content json) fault error
-        → IsRefusalBy rule (I.JsonInput.content json) I.JsonInput.is_bytes tree.now error) }
+    ensures err { IfErr result (IsStopFor (λ s. IsAnswerBy rule (I.JsonInput.content json)
+        I.JsonInput.is_bytes tree.now (Answer.error s))) }
     ensures within { IfErr result (IsStopFor (λ s. s.place ≤ length (I.JsonInput.content json))) }
     ensures cleared { OnErr result (memory.new.found.items ≡ []) }
     ensures complete { IsAnswerableBy rule (I.JsonInput.content json) I.JsonInput.is_bytes tree.now

@@ -25,8 +25,8 @@ use std::alloc::Global;
 
 /// Where the value is to which a path leads from the value at the cursor of the steps.
 ///
-/// Else the stop is where it leads nowhere, or the fault of the text before that. Steps that look at
-/// nothing take no memory, and give no `Fault::OutOfMemory`. Over `[5,{"a":7}]` the path `[1, "a"]`
+/// The steps are then after that value. Else the stop is where it leads nowhere, or the fault of the
+/// text before that. Steps that look at nothing take no memory, and give no `Fault::OutOfMemory`. Over `[5,{"a":7}]` the path `[1, "a"]`
 /// leads to the `7`, from 8 to 9.
 pub fn locate(steps: &mut Steps<'_>, path: &[PointerNode<'_>]) -> Result<Located, Fault>
     requires { IsSkippable steps.old }
@@ -34,7 +34,8 @@ pub fn locate(steps: &mut Steps<'_>, path: &[PointerNode<'_>]) -> Result<Located
         Evaluates steps.old.text steps.old.place (path_of path.now) (found x.start x.end)) }
     ensures value { IfOk result (λ x. IsValue strict steps.old.text x.start x.end) }
     ensures status { IfOk result (λ x. IsStatus steps.old.text x.start x.end x.status) }
-    ensures text { OnOk result (steps.new.text ≡ steps.old.text) }
+    ensures end { IfOk result (λ x. steps.new.place ≡ x.end) }
+    ensures moved { steps.new ≡ record steps.old { place = steps.new.place } }
     ensures err { IfErr result (IsStopFor (IsDeadEnd First steps.old.text steps.old.place
         (path_of path.now))) }
     ensures memory { IsErrOf result Fault.OutOfMemory → steps.old.checks ≡ true }
@@ -90,7 +91,7 @@ fn follow(steps: &mut Steps<'_>, path: &[PointerNode<'_>]) -> Result<bool, Fault
     ensures skippable { IfOk result (λ on. on ≡ true → IsSkippable steps.new) }
     ensures lacks { IfOk result (λ on. on ≡ false → (0 < steps.new.place)
         × Evaluates steps.old.text steps.old.place (path_of path.now) (lacks (steps.new.place - 1))) }
-    ensures moved { OnOk result (steps.new ≡ record steps.old { place = steps.new.place }) }
+    ensures moved { steps.new ≡ record steps.old { place = steps.new.place } }
     ensures err { IfErr result (IsStopFor (IsPathStop First steps.old.text steps.old.place
         (path_of path.now))) }
     ensures memory { IsErrOf result Fault.OutOfMemory → steps.old.checks ≡ true }
@@ -111,7 +112,7 @@ pub(crate) fn lead_on(steps: &mut Steps<'_>, node: &PointerNode<'_>) -> Result<b
         → LeadsOn steps.old.text steps.old.place (node_of node.now) steps.new.place) }
     ensures lacks { IfOk result (λ on. on ≡ false → (0 < steps.new.place)
         × LacksNode First steps.old.text steps.old.place (node_of node.now) (steps.new.place - 1)) }
-    ensures moved { OnOk result (steps.new ≡ record steps.old { place = steps.new.place }) }
+    ensures moved { steps.new ≡ record steps.old { place = steps.new.place } }
     ensures err { IfErr result (IsStopFor (IsDeadNode First steps.old.text steps.old.place
         (node_of node.now))) }
     ensures memory { IsErrOf result Fault.OutOfMemory → steps.old.checks ≡ true }
@@ -154,7 +155,7 @@ fn try_item(steps: &mut Steps<'_>, node: &PointerNode<'_>, passed: usize) -> Res
     requires { kind_of (node_of node.now) ≡ Kind.Object → IsAtKey steps.old }
     ensures item { IfOk result (IsTried steps.old.text (node_of node.now) passed steps.old.place
         steps.new.place) }
-    ensures moved { OnOk result (steps.new ≡ record steps.old { place = steps.new.place }) }
+    ensures moved { steps.new ≡ record steps.old { place = steps.new.place } }
     ensures later { OnOk result (steps.old.place ≤ steps.new.place) }
     ensures err { IfErr result (λ s. (kind_of (node_of node.now) ≡ Kind.Object)
         × IsKeyFault strict steps.old.text steps.old.place s) }

@@ -2,7 +2,7 @@
 ghost use Rattle.std.specs.Prelude.{◌≡◌, ◌<◌, ◌≤◌, [], Some, length, option_map, slice_get, IfErr, OnOk, OnErr};
 ghost use Rattle.sonic_error.specs.Errors.{IsPlainError};
 ghost use Rattle.sonic_text.specs.Strings.{strict};
-ghost use Rattle.sonic_parser.specs.Faults.{IsErrorOf, IsStopFor};
+ghost use Rattle.sonic_parser.specs.Faults.{IsStopFor};
 ghost use Rattle.sonic_parser.specs.Honest.{IsHonest};
 ghost use Rattle.sonic_find.specs.Answers.{IsAnswer, IsAnswerBy, Answer};
 ghost use Rattle.sonic_find.specs.Causes.{IsAnswerable, IsAnswerableBy, IsRefusal, IsRefusalBy};
@@ -142,8 +142,8 @@ pub fn fill_room<'de, I: JsonInput<'de>>(
     ensures ok { OnOk result (IsAnswer (I.JsonInput.content json) I.JsonInput.is_bytes tree.now
         (Answer.spans (pairs_of room.new))) }
     ensures parts { OnOk result (AreSpans (I.JsonInput.content json) room.new) }
-    ensures err { IfErr result (λ fault. (error : Error) → IsErrorOf (I.JsonInput.content json) fault error
-        → IsRefusal (I.JsonInput.content json) I.JsonInput.is_bytes tree.now error) }
+    ensures err { IfErr result (IsStopFor (λ s. IsAnswer (I.JsonInput.content json) I.JsonInput.is_bytes
+        tree.now (Answer.error s))) }
     ensures within { IfErr result (IsStopFor (λ s. s.place ≤ length (I.JsonInput.content json))) }
     ensures cleared { OnErr result (room.new ≡ []) }
     ensures complete { IsAnswerable (I.JsonInput.content json) I.JsonInput.is_bytes tree.now
@@ -164,8 +164,8 @@ fn fill_by<'de, I: JsonInput<'de>>(
     ensures ok { OnOk result (IsAnswerBy rule (I.JsonInput.content json) I.JsonInput.is_bytes tree.now
         (Answer.spans (pairs_of room.new))) }
     ensures parts { OnOk result (AreSpans (I.JsonInput.content json) room.new) }
-    ensures err { IfErr result (λ fault. (error : Error) → IsErrorOf (I.JsonInput.content json) fault error
-        → IsRefusalBy rule (I.JsonInput.content json) I.JsonInput.is_bytes tree.now error) }
+    ensures err { IfErr result (IsStopFor (λ s. IsAnswerBy rule (I.JsonInput.content json)
+        I.JsonInput.is_bytes tree.now (Answer.error s))) }
     ensures within { IfErr result (IsStopFor (λ s. s.place ≤ length (I.JsonInput.content json))) }
     ensures cleared { OnErr result (room.new ≡ []) }
     ensures complete { IsAnswerableBy rule (I.JsonInput.content json) I.JsonInput.is_bytes tree.now

@@ -9,6 +9,7 @@ ghost use Rattle.sonic_text.specs.Values.{opening, IsKey, IsValue, ItemsFit};
 ghost use Rattle.sonic_text.specs.Faults.{IsFault, IsKeyFault};
 ghost use Rattle.sonic_parser.specs.Containers.{IsEnd, IsSeparated, IsSeparatorFault};
 ghost use Rattle.sonic_parser.specs.Faults.{IsStopFor};
+ghost use Rattle.sonic_parser.specs.Parsers.{IsFilledContainer};
 ghost use Rattle.sonic_find.specs.Internal.Located.{IsStatus};
 ghost use Rattle.sonic_find.specs.Internal.Steps.{IsAfterItem, IsAtKey, IsSkippable};
 ghost use Rattle.sonic_find.specs.Internal.Walk.{IsNoEntry};
@@ -121,7 +122,7 @@ impl<'de> Steps<'de> {
         self.parser.text()
     }
 
-    /// Skips the value at the cursor.
+    /// Skips the value at the cursor. Memory runs out only at a container that has items.
     #[inline(always)]
     pub fn skip(&mut self) -> Result<ParseStatus, Fault>
         requires { IsSkippable self.old }
@@ -131,6 +132,8 @@ impl<'de> Steps<'de> {
         ensures moved { self.new ≡ record self.old { place = self.new.place } }
         ensures err { IfErr result (IsStopFor (λ s. IsFault strict self.old.text self.old.place s)) }
         ensures memory { IsErrOf result Fault.OutOfMemory → self.old.checks ≡ true }
+        ensures filled { IsErrOf result Fault.OutOfMemory
+            → IsFilledContainer self.old.text self.old.place }
     {
         let skipped = match self.memory {
             Some(alloc) => self.parser.skip_value(alloc),

@@ -89,11 +89,12 @@ never_refused {t} {is_bytes} {paths} {s} {rule = rule} can x =
     let clash : Answer.spans y.0 ≡ Answer.error s = (answer_by_one rule t is_bytes paths).one (Answer.spans y.0) (Answer.error s) y.1 x in
     absurd cc
 
--- what stops a walk is a refusal
-pub refusal_of : {t : List ℕ} {is_bytes : Bool} {paths : List Path} {e : Error} {rule : KeyRule} (fault : Fault) → IsStopFor (IsError rule t is_bytes paths) fault → IsErrorOf t fault e
+-- a stop that is the answer is reported as a refusal
+pub refusal_of : {t : List ℕ} {is_bytes : Bool} {paths : List Path} {e : Error} {rule : KeyRule} (fault : Fault)
+    → IsStopFor (λ s. IsAnswerBy rule t is_bytes paths (Answer.error s)) fault → IsErrorOf t fault e
     → IsRefusalBy rule t is_bytes paths e
 refusal_of OutOfMemory h e = out_of_memory e
-refusal_of (At s) h e = answered s h.answer e
+refusal_of (At s) h e = answered s h e
 
 -- and where there is an answer of spans, memory ran out
 pub only_out : {t : List ℕ} {is_bytes : Bool} {paths : List Path} {rule : KeyRule} (fault : Fault) → IsAnswerableBy rule t is_bytes paths

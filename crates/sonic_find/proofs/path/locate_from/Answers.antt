@@ -20,20 +20,20 @@ returns-in_err-found-clause-within c =
     rw (p.1, p.2) (stop_weaker c.in_err-found.field-0.0 (λ s f. dead_within _ f) dead)
 
 pub check_utf8-requires : goal.check_utf8-requires
-check_utf8-requires c = rw c.in_ok-found.ensures.text (value_within c.in_ok-found.ensures.value)
+check_utf8-requires c = rw c.locate.ensures.moved (value_within c.in_ok-found.ensures.value)
 
 pub returns-in_err-check_utf8-clause-err : goal.returns-in_err-check_utf8-clause-err
 returns-in_err-check_utf8-clause-err c =
     let p = err_from_is_err_and c.from_residual-in_err-check_utf8.result c.from_residual-in_err-check_utf8.ensures.1 in
     let leads = rw (c.new-steps.ensures, c.requires) at c.in_ok-found.ensures.ok in
-    let text : c.locate.new.steps.text ≡ c.args.read.text = c.in_ok-found.ensures.text ∙ ap (λ (s : Stepping). s.text) c.new-steps.ensures in
+    let text : c.locate.new.steps.text ≡ c.args.read.text = ap (λ (s : Stepping). s.text) c.locate.ensures.moved ∙ ap (λ (s : Stepping). s.text) c.new-steps.ensures in
     let e = rw text at c.in_err-check_utf8.ensures.err in
     rw (p.1, p.2) (broken_alone leads c.if-is_bytes.true e.0 e.1)
 
 pub returns-clause-ok : goal.returns-clause-ok
 returns-clause-ok c =
     let leads = rw (c.new-steps.ensures, c.requires) at c.in_ok-found.ensures.ok in
-    let text : c.locate.new.steps.text ≡ c.args.read.text = c.in_ok-found.ensures.text ∙ ap (λ (s : Stepping). s.text) c.new-steps.ensures in
+    let text : c.locate.new.steps.text ≡ c.args.read.text = ap (λ (s : Stepping). s.text) c.locate.ensures.moved ∙ ap (λ (s : Stepping). s.text) c.new-steps.ensures in
     found_alone leads (λ b. elim c.if-is_bytes.branch [
       | then-is_bytes+in_ok-check_utf8 w ↦ rw text at w.in_ok-check_utf8.ensures.ok
       | else-is_bytes w ↦ (let clash : true ≡ false = sym b ∙ w.if-is_bytes.false in absurd cc)
