@@ -1,1 +1,2 @@
+mod NextLemmas
 mod StreamLemmas

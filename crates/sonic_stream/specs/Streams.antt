@@ -75,7 +75,7 @@ MayBecomeOne s = MayGoOnFrom strict s.held s.next ⊎ IsValue strict s.held (sta
 pub data IsNextRecord (s now : Stream) : Next → Type 0 where
   whole : {end : ℕ} → IsRecord s.held s.is_ended s.next end → now ≡ record s { next = end } → IsNextRecord s now (Record (start_of s) end)
   needs_more : s.is_ended ≡ false → HasNoRecord s → MayBecomeOne s → now ≡ s → IsNextRecord s now NeedsMore
-  wrong : {stop : Stop} → IsWrong s stop → IsNeverOne s stop → IsPastLine s stop.place now → IsNextRecord s now (Wrong (s.before + stop.place) stop.code)
+  wrong : {stop : Stop} → stop.place < length s.held → IsWrong s stop → IsNeverOne s stop → IsPastLine s stop.place now → IsNextRecord s now (Wrong (s.before + stop.place) stop.code)
   cut : s.is_ended ≡ true → HasNoRecord s → MayGoOnFrom strict s.held s.next → start_of s < length s.held → now ≡ record s { next = length s.held } → IsNextRecord s now Cut
   end : s.is_ended ≡ true → start_of s ≡ length s.held → now ≡ s → IsNextRecord s now End
 

@@ -4,6 +4,7 @@ ghost use Rattle.sonic_text.specs.Faults.{IsFault};
 ghost use Rattle.sonic_text.specs.Strings.{strict};
 ghost use Rattle.sonic_text.specs.Values.{IsValue};
 ghost use Rattle.sonic_parser.specs.Honest.{MayGoOnFrom};
+ghost use Rattle.sonic_parser.specs.Parsers.{IsFilledContainer};
 ghost use Rattle.sonic_stream.specs.Streams.{IsLineFeed, IsSettled, NoLineFeed};
 
 use memchr::memchr;
@@ -269,6 +270,8 @@ impl RecordStream {
         ensures fault { IfErr result (λ stop. stop.code ≢ ErrorCode.EofWhileParsing
             → stop.code ≢ ErrorCode.NoMemory
             → IsFault strict self.now.held (start_of self.now) stop) }
+        ensures memory { IfErr result (λ stop. stop.code ≡ ErrorCode.NoMemory
+            → IsFilledContainer self.now.held (start_of self.now)) }
     {
         let mut parser = self.parser();
         match parser.skip_one(alloc) {
@@ -286,10 +289,11 @@ impl RecordStream {
     /// The next record, or why there is none. Of `[1] 2` it is `[1]`, from 0 to 3, and then `NeedsMore`.
     ///
     /// What is dropped as `Wrong` would be no record however the stream went on. On an error memory ran
-    /// out, and nothing has changed.
+    /// out, and nothing has changed. Only a record that is an array or an object with items takes memory.
     pub fn next(&mut self, alloc: Global) -> Result<Next, AllocError>
         ensures ok { IfOk result (IsNextRecord self.old self.new) }
         ensures err { OnErr result (self.new ≡ self.old) }
+        ensures memory { OnErr result (IsFilledContainer self.old.held (start_of self.old)) }
     {
         match self.find_record(alloc) {
             Ok((start, end)) => Ok(self.whole(start, end)),

@@ -1,6 +1,7 @@
 use Rattle.std.proofs.Common.{inl, inr}
 use Rattle.sonic_text.specs.Strings.{strict}
 use Rattle.sonic_text.specs.Values.{IsValue}
+use Rattle.sonic_text.proofs.Stops.{fault_not}
 use Rattle.sonic_text.proofs.Values.{value_never_both}
 use Rattle.sonic_stream.specs.Streams.{start_of}
 use Rattle.sonic_stream.proofs.StreamLemmas.{skipped_from, fault_shown}
@@ -33,4 +34,13 @@ returns-clause-fault c = λ n m.
     elim c.in-Err.ensures.err [
       | inl x ↦ rw (c.offset.ensures, code) (rw (is.text, is.place, is.strict) at (fault_shown x.fault x.error (rw code at n)))
       | inr x ↦ (let none = x.error.code in absurd (m cc))
+    ]
+
+pub returns-clause-memory : goal.returns-clause-memory
+returns-clause-memory c = λ m.
+    let is = c.parser-parser.ensures in
+    let code = c.code.ensures in
+    elim c.in-Err.ensures.err [
+      | inl x ↦ absurd (fault_not x.fault (let shown = x.error.code in cc))
+      | inr x ↦ rw (is.text, is.place) at x.container
     ]

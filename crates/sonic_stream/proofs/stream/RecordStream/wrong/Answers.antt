@@ -5,4 +5,4 @@ use Rattle.sonic_stream.proofs.stream.RecordStream.wrong.Goals as goal
 pub returns : goal.returns
 returns c =
     let before : c.self.inside.before ≡ c.args.self.now.before = rw (← c.self.view_is) refl in
-    rw before (wrong c.requires.wrong c.requires.never c.pass_line.ensures)
+    rw before (wrong c.requires.within c.requires.wrong c.requires.never c.pass_line.ensures)
