@@ -4,8 +4,7 @@ use Rattle.std.proofs.lemmas.Bool.{cases_lt, cases_eq}
 use Rattle.std.proofs.lemmas.List.{get_or_push, take-append-drop, take_more, length-take-le, take_all, drop_more}
 use Rattle.std.proofs.lemmas.List.Elements.{All-weaker, All-nil, All-cons}
 use Rattle.sonic_text.specs.Paths.{Node, index, Path}
-use Rattle.sonic_pointer.specs.Internal.Prefixes.{HasPrefix}
-use Rattle.sonic_pointer.specs.Paths.{HasNextNode}
+use Rattle.sonic_pointer.specs.Paths.{HasNextNode, HasPrefix}
 use Rattle.sonic_pointer.specs.Internal.Tries.{Spot, spot_at, prefix_at, label_at, last_node, labels, IsChildVertex, IsBefore, IsSpot, IsTrie}
 use Rattle.sonic_pointer.proofs.PathLemmas.{longer, same, shorter, fork, next_of_prefix, next_cases, orders_old, orders_none, orders_push}
 use Rattle.sonic_pointer.proofs.TrieLemmas.{Grows, IsSound, grows_of, step_more, labels_more, spot_old, append_other, first_same}

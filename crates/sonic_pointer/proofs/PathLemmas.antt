@@ -4,8 +4,7 @@ use Rattle.std.proofs.lemmas.List.Elements.{Contains-append_left, Contains-push,
 use Rattle.std.proofs.lemmas.List.{get_or_push, length_push, get_or_append_left}
 use Rattle.std.proofs.lemmas.Option.{slice_get_within, get_or_from_slice_get}
 use Rattle.sonic_text.specs.Paths.{Node, Path}
-use Rattle.sonic_pointer.specs.Internal.Prefixes.{HasPrefix}
-use Rattle.sonic_pointer.specs.Paths.{HasNextNode, IsOrders}
+use Rattle.sonic_pointer.specs.Paths.{HasNextNode, HasPrefix, IsOrders}
 
 -- one path with two prefixes, each followed by a node: one prefix is longer, or they are equal
 pub data Fork (g : Path) (n : Node) (f : Path) (m : Node) : Type 0 where

@@ -5,8 +5,7 @@ use Rattle.std.proofs.lemmas.List.{length-set, get_or-set_same, get_or-set_other
 use Rattle.std.proofs.lemmas.List.Elements.{All-push, Contains-append_left, Contains-push}
 use Rattle.sonic_text.specs.Paths.{Node, index, Path}
 use Rattle.sonic_pointer.specs.Nodes.{is_key}
-use Rattle.sonic_pointer.specs.Paths.{HasNextNode, IsMixed, IsUnmixed, IsShort}
-use Rattle.sonic_pointer.specs.Internal.Prefixes.{HasPrefix}
+use Rattle.sonic_pointer.specs.Paths.{HasNextNode, HasPrefix, IsMixed, IsUnmixed, IsShort}
 use Rattle.sonic_pointer.specs.Internal.Tries.{Entry, Spot, entry_at, prefix_of, spots_of, spot_at, prefix_at, labels, parent_of, AreBelow, IsGap, IsSpot, IsTree, IsChain, with_order, with_child}
 use Rattle.sonic_pointer.proofs.PathLemmas.{next_cases, next_of_prefix}
 use Rattle.sonic_pointer.proofs.WayLemmas.{Holds, prefix_step, prefix_same, spot_at-of, length-spots_of}

@@ -3,8 +3,7 @@ use Rattle.std.proofs.Common.{◌≡◌, ℕ, ◌<◌, List, [], ◌∷◌, ◌+
 use Rattle.std.proofs.lemmas.List.{length-map, get_or-map}
 use Rattle.sonic_text.specs.Paths.{Node, Path}
 use Rattle.sonic_pointer.specs.Nodes.{is_key}
-use Rattle.sonic_pointer.specs.Internal.Prefixes.{HasPrefix}
-use Rattle.sonic_pointer.specs.Paths.{HasNextNode, IsMixed}
+use Rattle.sonic_pointer.specs.Paths.{HasNextNode, HasPrefix, IsMixed}
 use Rattle.sonic_pointer.specs.Internal.Tries.{Entry, Spot, entry_at, spots_of, spot_at, prefix_at, label_at, labels, IsChildVertex, IsSpot, IsTree}
 use Rattle.sonic_pointer.proofs.PathLemmas.{longer, same, shorter, fork, next_of_prefix}
 use Rattle.sonic_pointer.proofs.WayLemmas.{spot_at-of, length-spots_of}

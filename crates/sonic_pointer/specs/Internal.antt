@@ -3,7 +3,6 @@ pub mod Fields
 pub mod Nodes
 pub mod Owned
 pub mod Pieces
-pub mod Prefixes
 pub mod Targets
 pub mod Trees
 pub mod TrieFields

@@ -9,6 +9,11 @@ use Rattle.sonic_pointer.specs.Nodes.{is_key}
 abbrev pub IsShort : Path → Type 0
 IsShort path = length path ≤ 255
 
+-- some path begins with the nodes of the prefix
+pub record HasPrefix (paths : List Path) (prefix : Path) : Type 0 where
+  pub rest : Path
+  pub path : Contains paths (prefix ++ rest)
+
 -- in some path this node follows the prefix
 pub record HasNextNode (paths : List Path) (prefix : Path) (node : Node) : Type 0 where
   pub rest : Path

@@ -1,9 +1,10 @@
 // Vertices of a tree.
-ghost use Rattle.std.specs.Prelude.{◌≡◌, ◌<◌, ◌∷◌, ◌++◌, ℕ, List, [], Some, IfOk, IfErr, IfSome, IfNone, length, slice_get};
+ghost use Rattle.std.specs.Prelude.{◌≡◌, ◌<◌, ◌∷◌, ◌++◌, ◌↔◌, ◌⊎◌, ℕ, List, [], Some, IfOk, IfErr, IfSome, IfNone, length, slice_get};
 ghost use Rattle.sonic_text.specs.Strings.{IsEscapedString, IsString, strict};
-ghost use Rattle.sonic_text.specs.Paths.{Node, key, index};
+ghost use Rattle.std.specs.List.{Contains};
+ghost use Rattle.sonic_text.specs.Paths.{Node, Path, key, index};
 ghost use Rattle.sonic_pointer.specs.Nodes.{node_of};
-ghost use Rattle.sonic_pointer.specs.Paths.{HasNextNode, IsOrders, IsChildren};
+ghost use Rattle.sonic_pointer.specs.Paths.{HasNextNode, HasPrefix, IsOrders, IsChildren};
 ghost use Rattle.sonic_pointer.specs.Views.{HaveOneNumber, IsBranch, IsNextIndex};
 
 use crate::branch::Branch;
@@ -87,6 +88,8 @@ impl<'t> TreeView<'t> {
     pub fn prefixes(&self) -> usize
         ensures count { result ≡ length self.now.prefixes }
         ensures one { HaveOneNumber self.now.prefixes }
+        ensures all { (p : Path) → Contains self.now.prefixes p
+            ↔ ((p ≡ []) ⊎ HasPrefix self.now.paths p) }
     {
         self.trie.vertices.len() + 1
     }

@@ -18,7 +18,7 @@ use Rattle.sonic_find.specs.Internal.Walk.{Findings, root_point, AllSettled, IsK
 use Rattle.sonic_find.specs.Paths.{Outcome, found, lacks, fails, cut, kind_of, EvaluatesBy, LeadsUnder}
 use Rattle.sonic_find.specs.Paths.EvaluatesBy.{found_here, goes_on, leads_nowhere}
 use Rattle.sonic_find.specs.declared.located.Located.{Located}
-use Rattle.sonic_pointer.specs.Internal.Prefixes.{HasPrefix}
+use Rattle.sonic_pointer.specs.Paths.{HasPrefix}
 use Rattle.sonic_text.proofs.Outcomes.{value_some_outcome}
 use Rattle.sonic_text.proofs.Stops.{fault_within}
 use Rattle.sonic_text.proofs.Values.{value-longer, value_fault_one}

@@ -13,7 +13,7 @@ use Rattle.sonic_find.proofs.WalkLemmas.Step.{OpenStopped, open_nearest, open_ca
 use Rattle.sonic_find.specs.Internal.Walk.{Findings, child_point, ComesTo, IsLater, AllSettled, IsCause, path_stops, value_stops, IsStop, Container, Progress, SomeOpen, IsUnvisited, IsWanted, IsContainer, IsFollowed, IsItemPassed, IsChildItem}
 use Rattle.sonic_find.specs.Paths.{fails, cut, kind_of, IsNamed, LeadsBy, EvaluatesBy}
 use Rattle.sonic_find.specs.Paths.EvaluatesBy.{cut_before}
-use Rattle.sonic_pointer.specs.Internal.Prefixes.{HasPrefix}
+use Rattle.sonic_pointer.specs.Paths.{HasPrefix}
 use Rattle.sonic_text.specs.Paths.{Node, Path}
 use Rattle.sonic_text.specs.Strings.{strict}
 use Rattle.sonic_text.specs.Values.{IsValue}

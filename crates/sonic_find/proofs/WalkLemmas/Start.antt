@@ -11,8 +11,7 @@ use Rattle.sonic_find.proofs.WalkLemmas.Path.{held, child_at, path_of_child, sto
 use Rattle.sonic_find.specs.Internal.Walk.{fails_so, cut_so, Findings, Point, Container, IsPath, AreFindings, BelowSettled, IsCause, path_stops, IsStop, IsNoEntry, IsContainer, SomeOpen, IsFollowed}
 use Rattle.sonic_find.specs.Paths.{fails, EvaluatesBy, kind_of, empty_code, wanted_of, nowhere}
 use Rattle.sonic_find.specs.Paths.EvaluatesBy.{cut_here, leads_nowhere}
-use Rattle.sonic_pointer.specs.Internal.Prefixes.{HasPrefix}
-use Rattle.sonic_pointer.specs.Paths.{IsChildren}
+use Rattle.sonic_pointer.specs.Paths.{HasPrefix, IsChildren}
 use Rattle.sonic_text.specs.Faults.{IsFault}
 use Rattle.sonic_text.specs.Paths.{Node, Path}
 use Rattle.sonic_text.specs.Places.{byte, after_space}

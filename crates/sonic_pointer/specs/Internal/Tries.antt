@@ -4,8 +4,7 @@ use Rattle.std.specs.List.{All, AllPairs, Contains, insert, range_with_len}
 use Rattle.std.specs.declared.cmp.Ordering.TheVariants.{Less}
 use Rattle.sonic_text.specs.Paths.{Node, index, Path}
 use Rattle.sonic_pointer.specs.Internal.Nodes.{node_cmp}
-use Rattle.sonic_pointer.specs.Internal.Prefixes.{HasPrefix}
-use Rattle.sonic_pointer.specs.Paths.{HasNextNode, IsOrders, IsShort, IsUnmixed}
+use Rattle.sonic_pointer.specs.Paths.{HasNextNode, HasPrefix, IsOrders, IsShort, IsUnmixed}
 
 -- a kept vertex: the number of its parent, the node by which it follows it, and the numbers of the paths that end here and of its children
 pub record Entry : Type 0 where
