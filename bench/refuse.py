@@ -45,8 +45,8 @@ FastStr::new FastStr::clone FastStr::slice RawNumber::from_str validate get get_
 find_many find_many_in find_many_by fill_room append_rows Rows::feed Rows::finish
 LazyValue::as_str LazyValue::as_raw_faststr ObjectJsonIter::next ArrayJsonIter::next skip_one
 Descent::value JsonIndex::build minify indent OwnedLazyValue::from_str OwnedLazyValue::from_lazy
-OwnedLazyValue::clone OwnedLazyValue::to_string load get_mut pointer_mut as_object_mut with_mut edit
-LazyArray::with_capacity push LazyObject::with_capacity append_pair add_path Value::from_str Value::clone Value::to_string
+OwnedLazyValue::clone OwnedLazyValue::to_string OwnedLazyValue::fmt LazyArray::fmt LazyObject::fmt load get_mut pointer_mut as_object_mut with_mut edit
+LazyArray::with_capacity push LazyObject::with_capacity append_pair add_path Value::from_str Value::clone Value::to_string Value::fmt
 get_by_schema parse_by_schema path_of_line read_paths edit_of_line read_edits edit_all
 read_patch same apply
 read_all MemorySink::new

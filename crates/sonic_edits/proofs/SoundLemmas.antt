@@ -11,8 +11,7 @@ use Rattle.sonic_find.proofs.DocumentLemmas.{alone_part}
 use Rattle.sonic_find.proofs.Utf8Lemmas.{utf8_of_span}
 use Rattle.sonic_lazy.specs.Items.{Item, IsItemAt}
 use Rattle.sonic_find.specs.Answers.{span_text}
-use Rattle.sonic_owned.specs.Edits.{IsSoundChange}
-use Rattle.sonic_owned.specs.Internal.SoundEdits.{AreSoundEdits}
+use Rattle.sonic_owned.specs.Edits.{IsSoundChange, AreSoundEdits}
 use Rattle.sonic_owned.specs.Forms.{Form, raw, IsSound, raw_sound}
 use Rattle.sonic_owned.specs.TreeEdits.{Edit}
 use Rattle.sonic_paths.specs.Heads.{AreSaid, no_more_lines, next_line}

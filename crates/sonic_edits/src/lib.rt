@@ -9,7 +9,7 @@ mod change;
 mod edit;
 // The elements of the array that a line is.
 mod elements;
-// The law of heads.
+// The laws of heads.
 mod law;
 // One edit line.
 mod line;
@@ -18,6 +18,6 @@ mod lines;
 
 pub use all::edit_all;
 pub use edit::Edit;
-pub use law::head_says_edits_or_a_bad_line;
+pub use law::{head_says_edits_or_a_bad_line, head_says_sound_edits};
 pub use line::edit_of_line;
 pub use lines::{EditHead, read_edits};

@@ -10,8 +10,7 @@ use Rattle.sonic_owned.proofs.OpeningLemmas.{opened_means}
 use Rattle.sonic_owned.proofs.PutLawLemmas.{put_one, put_some, put_sound}
 use Rattle.sonic_owned.proofs.PutLemmas.{put_part}
 use Rattle.sonic_owned.proofs.ValueLemmas.{sound_means}
-use Rattle.sonic_owned.specs.Edits.{append_member, insert_member, members_without_at, members_without_of, members_without, IsChange, is_set, is_pushed, is_paired, is_taken, is_inserted, is_removed, IsEdit, IsRefused, AreEdits, no_edit, one_more_edit, IsFirstRefused, refused_here, refused_later, IsSoundChange, ChangeMeans, set_means, push_means, pair_means, take_means, insert_means, remove_means, EditMeans, EditsMean, no_edit_means, edit_means}
-use Rattle.sonic_owned.specs.Internal.SoundEdits.{AreSoundEdits}
+use Rattle.sonic_owned.specs.Edits.{append_member, insert_member, members_without_at, members_without_of, members_without, IsChange, is_set, is_pushed, is_paired, is_taken, is_inserted, is_removed, IsEdit, IsRefused, AreEdits, no_edit, one_more_edit, IsFirstRefused, refused_here, refused_later, IsSoundChange, ChangeMeans, set_means, push_means, pair_means, take_means, insert_means, remove_means, EditMeans, EditsMean, no_edit_means, edit_means, AreSoundEdits}
 use Rattle.sonic_owned.specs.Forms.{Form, level, Members, member, IsLabel, IsSound, raw_sound, level_sound, AreSound, none_sound, item_sound, FormMeans, raw_means, level_means, MembersMean, no_member_means, member_means}
 use Rattle.sonic_owned.specs.Opened.{IsOpened}
 use Rattle.sonic_owned.specs.TreeEdits.{Change, set, push, pair, take, insert, remove, Edit, append_item, insert_item, without_at, without_of, change_tree, edit_tree, edit_tree_all}

@@ -53,6 +53,15 @@ module _ {W : Type 0} {took : W → List ℕ → W → Type 0} where
     whole = append_assoc x.done y.done (rest ++ others) ∙ ap (λ l. x.done ++ l) (sym (append_assoc y.done rest others) ∙ ap (λ l. l ++ others) y.whole) ∙ x.whole;
   }
 
+  -- where a part of what is left is written, what follows it is left
+  pub up_to_past : {f g h : Formatter W} {all : List ℕ} (part rest others : List ℕ) → IsWrittenUpTo took f all ((part ++ rest) ++ others) g → HasWritten took g part h
+      → IsWrittenUpTo took f all (rest ++ others) h
+  up_to_past part rest others x y = record {
+    done = x.done ++ part;
+    has = has_written_append _ _ _ _ _ _ x.has y;
+    whole = append_assoc x.done part (rest ++ others) ∙ ap (λ l. x.done ++ l) (sym (append_assoc part rest others)) ∙ x.whole;
+  }
+
   -- or all of it
   pub up_to_end : {f g h : Formatter W} {all rest : List ℕ} → IsWrittenUpTo took f all rest g → HasWritten took g rest h → HasWritten took f all h
   up_to_end x y = has_written_of_eq _ _ _ _ _ x.whole (has_written_append _ _ _ _ _ _ x.has y)

@@ -1,6 +1,7 @@
 -- What edits make of a form.
 use Rattle.std.specs.Prelude.{◌≡◌, ◌+◌, ℕ, zero, suc, nat_eq, if◌then◌else◌, List, [], ◌∷◌, Option, Some, None, option_map, codes, ⊤}
 use Rattle.std.specs.Cmp.Lexicographic.{pointwise}
+use Rattle.std.specs.List.{All}
 use Rattle.std.specs.Str.{IsUtf8}
 use Rattle.sonic_owned.specs.Forms.{Form, raw, level, Members, no_member, member, IsSound, FormMeans}
 use Rattle.sonic_owned.specs.Opened.{IsOpened}
@@ -79,6 +80,10 @@ IsSoundChange (pair k w) = IsUtf8 k × IsSound w
 IsSoundChange take = ⊤
 IsSoundChange (insert n w) = IsSound w
 IsSoundChange (remove node) = ⊤
+
+-- what each edit of a list puts is sound
+abbrev pub AreSoundEdits : List (Edit Form) → Type 0
+AreSoundEdits es = All (λ (e : Edit Form). IsSoundChange e.change) es
 
 -- the change of a form means the change of a tree: what it puts means what is put there
 pub data ChangeMeans : Change Form → Change Tree → Type 0 where

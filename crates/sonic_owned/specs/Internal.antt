@@ -6,5 +6,4 @@ pub mod Lends
 pub mod Levels
 pub mod Naturals
 pub mod Seen
-pub mod SoundEdits
 pub mod Unwritten

@@ -2,7 +2,7 @@
 ghost use Rattle.std.specs.Prelude.{◌≡◌, ◌↔◌, ◌⊎◌, ℕ, List, ◌∷◌, length, Some, None};
 ghost use Rattle.sonic_find.specs.Documents.{IsValidDocument};
 ghost use Rattle.sonic_lazy.specs.Scalars.{scalar_of_tree};
-ghost use Rattle.sonic_owned.specs.Edits.{IsSoundChange, IsEdit, IsRefused, AreEdits, IsFirstRefused, EditMeans, EditsMean};
+ghost use Rattle.sonic_owned.specs.Edits.{IsSoundChange, IsEdit, IsRefused, AreEdits, IsFirstRefused, EditMeans, EditsMean, AreSoundEdits};
 ghost use Rattle.sonic_owned.specs.Forms.{Form, raw, IsSound, FormMeans, scalar_of_form, text};
 ghost use Rattle.sonic_owned.specs.Leading.{LeadsTo, StandsIn};
 ghost use Rattle.sonic_owned.specs.Opened.{IsOpened};
@@ -107,7 +107,8 @@ pub fn putting_means_the_tree()
 
 /// The law of edits: what an edit makes of a value means the edited tree and is determined, and the
 /// edit is refused exactly where the tree has no such part, or one of another kind. What is sound
-/// stays so. Edits in order make what they make of the tree in order, or one of them is refused.
+/// stays so. Edits in order make what they make of the tree in order, or one of them is refused, and
+/// where each puts what is sound, what they make of a sound value is sound.
 ///
 /// So `4` appended where `["a"]` leads makes `{"a":[1,2],"a":3}` mean what `{"a":[1,2,4],"a":3}`
 /// does, and where `["b"]` leads it is refused.
@@ -128,4 +129,6 @@ pub fn edit_means_the_edited_tree()
     ensures some { (es : List (Edit Form)) (ds : List (Edit Tree)) (f : Form) (x : Tree)
         → EditsMean es ds → FormMeans f x
         → ((h : Form) × AreEdits es f h) ⊎ ((n : ℕ) × IsFirstRefused es f n) }
+    ensures all_sound { (es : List (Edit Form)) (f h : Form) → AreEdits es f h → AreSoundEdits es
+        → IsSound f → IsSound h }
 {}

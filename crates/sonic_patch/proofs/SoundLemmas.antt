@@ -9,14 +9,18 @@ use Rattle.sonic_find.proofs.DocumentLemmas.{alone_part}
 use Rattle.sonic_find.proofs.Utf8Lemmas.{utf8_of_span}
 use Rattle.sonic_find.specs.Answers.{span_text}
 use Rattle.sonic_lazy.specs.Items.{Item, AreItems, no_items, one_more_item}
-use Rattle.sonic_owned.proofs.ValueLemmas.{sound_means}
+use Rattle.sonic_owned.proofs.ValueLemmas.{sound_means, value_sound}
 use Rattle.sonic_owned.specs.Forms.{Form, raw, IsSound, raw_sound}
 use Rattle.sonic_patch.proofs.KeyLemmas.{pointer_utf8}
 use Rattle.sonic_patch.specs.Operations as operations
 use Rattle.sonic_patch.specs.Operations.{Operation, add, replace, move, copy, test}
-use Rattle.sonic_patch.specs.Patches.{AreKeys, IsSoundOperation, AreSoundOperations, OperationMeans, add_means, remove_means, replace_means, move_means, copy_means, test_means, OperationsMean, none_mean, one_more_means}
+use Rattle.sonic_patch.specs.Patches.{AreKeys, HasFewTokens, IsSoundOperation, AreSoundOperations, OperationMeans, add_means, remove_means, replace_means, move_means, copy_means, test_means, OperationsMean, none_mean, one_more_means}
 use Rattle.sonic_patch.specs.Pointers.{Token, SaysFewTokens}
 use Rattle.sonic_patch.specs.Reading.{HasMember, SaysPointer, IsOperation, is_add, is_remove, is_replace, is_move, is_copy, is_test, AreOperations, no_operation, one_more_operation, AreItemTexts, SaysPatch}
+use Rattle.sonic_patch.specs.Views.{operation_of, operations_of}
+use Rattle.sonic_patch.specs.declared.operation.Operation.{Operation as Kept}
+use Rattle.sonic_patch.specs.declared.operation.Operation.TheVariants.{Add, Remove, Replace, Move, Copy, Test}
+use Rattle.sonic_patch.specs.declared.read.Patch.{Patch}
 use Rattle.sonic_text.proofs.StringTexts.{string_utf8}
 use Rattle.sonic_text.proofs.ValueParts.{value_of_part}
 use Rattle.sonic_text.proofs.Within.{value_within}
@@ -92,3 +96,27 @@ operations_mean (op ∷ ops) sound =
     let o = operation_means op (All-head IsSoundOperation op ops sound) in
     let os = operations_mean ops (All-tail IsSoundOperation op ops sound) in
     (o.0 ∷ os.0, one_more_means o.1 os.1)
+
+-- what an operation of the program is is sound, and its pointers have few tokens
+kept_sound : (op : Kept) → IsSoundOperation (operation_of op)
+kept_sound (Add path value) = (path.keys, value_sound value)
+kept_sound (Remove path) = tt
+kept_sound (Replace path value) = value_sound value
+kept_sound (Move from path) = path.keys
+kept_sound (Copy from path) = path.keys
+kept_sound (Test path value) = value_sound value
+
+kept_few : (op : Kept) → HasFewTokens (operation_of op)
+kept_few (Add path value) = path.few
+kept_few (Remove path) = path.few
+kept_few (Replace path value) = path.few
+kept_few (Move from path) = (from.few, path.few)
+kept_few (Copy from path) = (from.few, path.few)
+kept_few (Test path value) = path.few
+
+-- and so are those of a patch
+pub patch_of_sound : (patch : Patch) → AreSoundOperations (operations_of patch)
+patch_of_sound patch = All-map IsSoundOperation operation_of patch.operations.items (λ n op inside. kept_sound _)
+
+pub patch_of_few : (patch : Patch) → All HasFewTokens (operations_of patch)
+patch_of_few patch = All-map HasFewTokens operation_of patch.operations.items (λ n op inside. kept_few _)

@@ -1,5 +1,5 @@
 -- What operations make of a form: the edits that they are in its tree.
-use Rattle.std.specs.Prelude.{◌≡◌, ℕ, false, true, List, [], ◌∷◌, Option, Some, ⊤}
+use Rattle.std.specs.Prelude.{◌≡◌, ◌≤◌, ℕ, false, true, List, [], ◌∷◌, length, Option, Some, ⊤}
 use Rattle.std.specs.List.{All}
 use Rattle.std.specs.Str.{IsUtf8}
 use Rattle.sonic_owned.specs.Edits.{IsEdit}
@@ -91,6 +91,15 @@ IsSoundOperation (test ts w) = IsSound w
 
 abbrev pub AreSoundOperations : List (Operation Form) → Type 0
 AreSoundOperations ops = All IsSoundOperation ops
+
+-- no pointer of the operation has more than 255 tokens
+abbrev pub HasFewTokens : Operation Form → Type 0
+HasFewTokens (add ts w) = length ts ≤ 255
+HasFewTokens (operations.remove ts) = length ts ≤ 255
+HasFewTokens (replace ts w) = length ts ≤ 255
+HasFewTokens (move from ts) = (length from ≤ 255) × (length ts ≤ 255)
+HasFewTokens (copy from ts) = (length from ≤ 255) × (length ts ≤ 255)
+HasFewTokens (test ts w) = length ts ≤ 255
 
 -- sound operations and a sound form, and what they mean
 pub record MeansPatch (ops : List (Operation Form)) (f : Form) (trees : List (Operation Tree)) (tree : Tree) : Type 0 where

@@ -48,4 +48,4 @@ pub use patching_law::{
 };
 pub use pointer::Pointer;
 pub use read::{Patch, read_patch};
-pub use read_law::{patch_says_one_thing, patch_says_sound_operations};
+pub use read_law::{patch_has_sound_operations, patch_says_one_thing, patch_says_sound_operations};

@@ -1,5 +1,8 @@
 // Pointers (RFC 6901).
 ghost use Rattle.std.specs.Prelude.{◌≡◌, ◌<◌, ◌≤◌, ◌^◌, ℕ, List, IfOk, IfSome, None, length, string_bytes, true, false};
+ghost use Rattle.std.proofs.Props.{props};
+ghost use Rattle.std.specs.List.{All};
+ghost use Rattle.std.specs.Str.{IsUtf8};
 ghost use Rattle.sonic_patch.specs.Pointers.{pieces, Token, SaysToken, AreTokens, SaysTokens, SaysFewTokens};
 ghost use Rattle.sonic_patch.specs.Internal.Pieces.{IsTokenText, IsReadBy, SayTokens};
 ghost use Rattle.sonic_patch.specs.Internal.Judged.{IsBeginning, IsFirstPiece, IsFit};
@@ -172,6 +175,7 @@ fn tokens_said(alloc: Global, text: &str) -> Result<Vec<FastStr>, AllocError>
 pub struct Pointer {
     pub(crate) tokens: Vec<FastStr>,
     ghost few: { length tokens.items ≤ 255 },
+    ghost keys: { All IsUtf8 tokens.items } by { Prim.hlevel props },
 }
 
 impl Pointer {

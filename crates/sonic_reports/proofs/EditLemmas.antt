@@ -10,7 +10,7 @@ use Rattle.sonic_find.specs.Laws.{HoldsOrHasOneReason}
 use Rattle.sonic_owned.proofs.DocumentLemmas.{raw_document_one, raw_document_some}
 use Rattle.sonic_owned.proofs.EditLemmas.{edits_one, refused_one, edits_not_refused, edits_or_refused, edits_mean}
 use Rattle.sonic_owned.proofs.ValueLemmas.{sound_means}
-use Rattle.sonic_owned.specs.Internal.SoundEdits.{AreSoundEdits}
+use Rattle.sonic_owned.specs.Edits.{AreSoundEdits}
 use Rattle.sonic_owned.specs.Forms.{Form, IsSound}
 use Rattle.sonic_owned.specs.TreeEdits.{Edit}
 use Rattle.sonic_text.specs.declared.stop.Stop.{Stop}

@@ -37,7 +37,7 @@ patched_report_one sound value (made a q z) (unmade y p w) = absurd (made_never_
 patched_report_one sound value (made a q z) (made b p w) = (p ∙ rw (made_one sound value b a) (sym q), w ∙ sym z)
 
 -- the value of a document is sound
-document_sound : {document : List ℕ} {f : Form} → IsValidDocument document → IsRawDocument document f → IsSound f
+pub document_sound : {document : List ℕ} {f : Form} → IsValidDocument document → IsRawDocument document f → IsSound f
 document_sound v d = let some = raw_document_some v in rw (raw_document_one d some.1) some.2
 
 -- so operations on a document have one report
@@ -116,7 +116,7 @@ pub report_invalid : {document : List ℕ} {ops : List (Operation Form)} {error 
 report_invalid is r = let (s, i, t, e) = invalid_reply is r in invalid s i t e
 
 -- a value that a document is means what its form means
-raw_means_text : {b : List ℕ} {f : Form} {v : Tree} → FormMeans f v → f ≡ raw b → Means b 0 (length b) v
+pub raw_means_text : {b : List ℕ} {f : Form} {v : Tree} → FormMeans f v → f ≡ raw b → Means b 0 (length b) v
 raw_means_text {b} (raw_means {b = c} m) e = let same : c ≡ b = cc in rw same at m
 raw_means_text (level_means m) e = absurd cc
 

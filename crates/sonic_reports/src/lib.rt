@@ -21,7 +21,7 @@ mod sure;
 mod text_line;
 
 pub use commands::{Command, MOST, MOST_BLANKS};
-pub use law::{input_has_one_report, patch_writes_the_patched_tree};
+pub use law::{edit_writes_the_edited_tree, input_has_one_report, patch_writes_the_patched_tree};
 pub use runs::run;
 pub use status::Status;
 pub use sure::run_surely;

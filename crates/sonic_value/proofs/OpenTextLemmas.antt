@@ -105,11 +105,6 @@ pub sizes_more : (ls : List Showing) (l : Showing) → shown_sizes (ls ++ l ∷ 
 sizes_more [] l = omega arith
 sizes_more (o ∷ ls) l = let more = sizes_more ls l in omega (arith, more)
 
--- at first none waits
-pub none_waits : (o : Option Showing) → all_shown o [] ≡ begun_text o
-none_waits None = refl
-none_waits (Some l) = append-nil (shown_text l)
-
 -- with one fewer, which is in hand
 pub texts_fewer : (ls left : List Showing) (o : Option Showing) → ls ≡ left ++ option_to_list o → (o ≡ None → length ls ≡ 0) → shown_texts ls ≡ all_shown o left
 texts_fewer ls left (Some l) items none = ap shown_texts items ∙ texts_more left l

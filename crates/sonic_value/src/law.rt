@@ -4,6 +4,7 @@ ghost use Rattle.std.specs.Str.{IsUtf8};
 ghost use Rattle.sonic_find.specs.Documents.{IsValidDocument};
 ghost use Rattle.sonic_text.specs.Trees.{Tree, Means};
 ghost use Rattle.sonic_value.specs.CompactTexts.{HasNumbers, compact};
+ghost use Rattle.sonic_value.specs.Filling.{fill};
 ghost use Rattle.sonic_value.specs.Laws.{HasOneTreeOrReason};
 ghost use Rattle.sonic_value.specs.Reading.{IsRead, IsUnread};
 ghost use Rattle.sonic_value.specs.Schemas.{IsFilledAt, IsUnfilled};
@@ -32,6 +33,15 @@ pub fn compact_text_is_a_document()
 /// So what is read is written as a document.
 pub fn what_is_read_has_numbers()
     ensures { (t : List ℕ) (i j : ℕ) (x : Tree) → Means t i j x → HasNumbers x }
+{}
+
+/// The law of filled numbers: where each number of a schema has the text of one number, and each of the
+/// data too, so has each of the filled schema.
+///
+/// So what is filled is written as a document.
+pub fn what_is_filled_has_numbers()
+    ensures { (schema values : Tree) → HasNumbers schema → HasNumbers values
+        → HasNumbers (fill schema values) }
 {}
 
 /// The law of levels: the array or the object that `as_array` or `as_object` gives has the items of

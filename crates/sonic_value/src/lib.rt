@@ -22,7 +22,7 @@ pub use depth_law::{filling_too_deep_comes_before_the_fault, too_deep_comes_befo
 pub use index::Index;
 pub use law::{
     compact_text_is_a_document, level_is_that_of_the_tree, schema_is_filled_or_has_one_reason,
-    text_is_read_or_has_one_reason, what_is_read_has_numbers,
+    text_is_read_or_has_one_reason, what_is_filled_has_numbers, what_is_read_has_numbers,
 };
 pub use schema::{get_by_schema, parse_by_schema};
 pub use value::Value;

@@ -20,8 +20,7 @@ impl OwnedLazyValue {
     /// The text of the value: what was never opened as it is, and a level that was opened without
     /// white space.
     ///
-    /// A value may be opened as deep as memory lasts, as no level needs stack. The only error is
-    /// `ErrorCode::NoMemory`. Of `{"\/" : 1}` it is `{"\/" : 1}`, and after
+    /// The only error is `ErrorCode::NoMemory`. Of `{"\/" : 1}` it is `{"\/" : 1}`, and after
     /// the value was opened `{"/":1}`.
     pub fn to_string(&self, alloc: Global) -> Result<String>
         ensures ok { IfOk result (λ made. string_bytes made ≡ text (form self.now)) }
@@ -56,8 +55,8 @@ impl<'a> OwnedView<'a> {
 
 /// The text of the value, as [`OwnedLazyValue::to_string`] writes it.
 ///
-/// Levels that are open wait in memory of where the value's own came from, and where that runs out it
-/// is an error of the formatter.
+/// It fails only where the writer fails. Levels that are begun wait in memory of where the value's own
+/// came from. Where that runs out each level more is one call more.
 impl fmt::Display for OwnedLazyValue {
     ghost use Rattle.std.specs.Prelude.{Some};
     ghost use Rattle.sonic_owned.specs.Forms.{text};
@@ -86,7 +85,7 @@ impl fmt::Debug for OwnedLazyValue {
     }
 }
 
-/// The text of the array.
+/// The text of the array. It fails only where the writer fails.
 impl fmt::Debug for LazyArray {
     ghost use Rattle.std.specs.Prelude.{Some};
     ghost use Rattle.sonic_owned.specs.Forms.{level, text, unnamed};
@@ -102,7 +101,7 @@ impl fmt::Debug for LazyArray {
     }
 }
 
-/// The text of the object.
+/// The text of the object. It fails only where the writer fails.
 impl fmt::Debug for LazyObject {
     ghost use Rattle.std.specs.Prelude.{Some};
     ghost use Rattle.sonic_owned.specs.Forms.{level, named, text};

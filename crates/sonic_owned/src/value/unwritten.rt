@@ -15,7 +15,7 @@ use std::fmt::Write;
 
 // The items of a level that are still to be written, whether some were, and where the memory of the
 // level came from.
-#[derive(Drop)]
+#[derive(Clone, Copy)]
 pub(super) enum Unwritten<'a> {
     Elements(&'a [OwnedLazyValue], bool, Global),
     Members(&'a [(MadeText, OwnedLazyValue)], bool, Global),
@@ -117,13 +117,14 @@ pub(super) fn begin<'a, W: Write>(
     Ok(None)
 }
 
-// Writes what is left of a level. The levels that are open wait in a vector, so that none is too deep.
+// Writes what is left of a level. The levels that are open wait in a vector, so that none is too deep
+// while there is memory for it. It calls itself only where memory runs out.
 pub(super) fn show_left<W: Write>(left: Unwritten<'_>, f: &mut fmt::Formatter<W>) -> fmt::Result
     ensures { WritesOnOk W.Write.write_str_gives f.old result (left_text left.entry) f.new }
 {
-    let alloc = match &left {
-        Unwritten::Elements(_, _, alloc) => *alloc,
-        Unwritten::Members(_, _, alloc) => *alloc,
+    let alloc = match left {
+        Unwritten::Elements(_, _, alloc) => alloc,
+        Unwritten::Members(_, _, alloc) => alloc,
     };
     let mut opened = Vec::new(alloc);
     let mut level = Some(left);
@@ -132,10 +133,12 @@ pub(super) fn show_left<W: Write>(left: Unwritten<'_>, f: &mut fmt::Formatter<W>
             level = opened.pop();
             continue;
         };
-        let Ok(()) = opened.push(left) else {
-            return Err(fmt::Error);
-        };
-        level = Some(inner);
+        if opened.push(left).is_ok() {
+            level = Some(inner);
+        } else {
+            show_left(inner, f)?;
+            level = Some(left);
+        }
     }
     Ok(())
 }

@@ -1,6 +1,7 @@
 // The text of a value, written piece by piece.
 //
-// One loop goes from container to container, and those around the one in hand wait in a vector.
+// One loop goes from container to container, and those around the one in hand wait in a vector. Where it
+// can't grow the loop goes on by a call.
 ghost use Rattle.std.specs.Prelude.{◌≡◌, ◌<◌, ◌*◌, string_bytes, IfOk, IfErr};
 ghost use Rattle.std.specs.Fmt.{WritesOnOk};
 ghost use Rattle.sonic_error.specs.Errors.{IsPlainError};
@@ -20,8 +21,7 @@ use std::fmt::Write;
 impl Value {
     /// The text of the value, without white space.
     ///
-    /// A value may be as deep as memory lasts, as no level needs stack. The only error is
-    /// `ErrorCode::NoMemory`. Of an array of `1` and `"a"` it is `[1,"a"]`.
+    /// The only error is `ErrorCode::NoMemory`. Of an array of `1` and `"a"` it is `[1,"a"]`.
     pub fn to_string(&self, alloc: Global) -> Result<String>
         ensures ok { IfOk result (λ made. string_bytes made ≡ compact (tree self.now)) }
         ensures err { IfErr result (λ error. IsPlainError error ErrorCode.NoMemory) }
@@ -35,9 +35,8 @@ impl Value {
 
 /// The text of the value, as [`Value::to_string`] writes it.
 ///
-/// A value may be as deep as memory lasts, as no level needs stack. The memory comes from where the
-/// value's own came, and only a container inside another one needs some: where it runs out it is an error
-/// of the formatter.
+/// It fails only where the writer fails. Containers that are begun wait in memory of where the value's own
+/// came from. Where that runs out each level more is one call more.
 impl fmt::Display for Value {
     ghost use Rattle.std.specs.Prelude.{Some};
     ghost use Rattle.sonic_value.specs.CompactTexts.{compact};
@@ -70,25 +69,37 @@ enum Showing<'a> {
     Object(&'a Vec<(String, Value)>, usize),
 }
 
-// Writes the text of a value. The containers around the one in hand wait in a vector.
+// Writes the text of a value.
 fn show<W: Write>(value: &Value, f: &mut fmt::Formatter<W>) -> fmt::Result
     ensures { WritesOnOk W.Write.write_str_gives f.old result (compact (tree value.now)) f.new }
 {
-    let mut next = begin(value, f)?;
-    let alloc = match next {
-        Some(Showing::Array(elements, _)) => *elements.allocator(),
-        Some(Showing::Object(members, _)) => *members.allocator(),
-        None => return Ok(()),
+    match begin(value, f)? {
+        Some(level) => show_level(level, f),
+        None => Ok(()),
+    }
+}
+
+// Writes what is left of a container. Those around the one in hand wait in a vector. It calls itself only
+// where memory runs out.
+fn show_level<W: Write>(level: Showing<'_>, f: &mut fmt::Formatter<W>) -> fmt::Result
+    ensures { WritesOnOk W.Write.write_str_gives f.old result (shown_text level.entry) f.new }
+{
+    let alloc = match level {
+        Showing::Array(elements, _) => *elements.allocator(),
+        Showing::Object(members, _) => *members.allocator(),
     };
     let mut opened = Vec::new(alloc);
+    let mut next = Some(level);
     'levels: while let Some(level) = next {
         let Some((inner, outer)) = level.next(f)? else {
             next = opened.pop();
             continue;
         };
-        match opened.push(outer) {
-            Ok(()) => next = Some(inner),
-            Err(_) => return Err(fmt::Error),
+        if opened.push(outer).is_ok() {
+            next = Some(inner);
+        } else {
+            show_level(inner, f)?;
+            next = Some(outer);
         }
     }
     Ok(())

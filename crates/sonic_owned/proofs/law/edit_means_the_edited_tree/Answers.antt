@@ -1,4 +1,4 @@
-use Rattle.sonic_owned.proofs.EditLemmas.{edit_one, edit_makes, refused_alike, edit_sound, edits_make, edits_refused, edits_or_refused}
+use Rattle.sonic_owned.proofs.EditLemmas.{edit_one, edit_makes, refused_alike, edit_sound, edits_make, edits_refused, edits_or_refused, edits_sound}
 use Rattle.sonic_owned.proofs.law.edit_means_the_edited_tree.Goals as goal
 
 pub returns-clause-means : goal.returns-clause-means
@@ -21,3 +21,6 @@ returns-clause-none c = λ es ds f n x. edits_refused
 
 pub returns-clause-some : goal.returns-clause-some
 returns-clause-some c = λ es ds f x. edits_or_refused
+
+pub returns-clause-all_sound : goal.returns-clause-all_sound
+returns-clause-all_sound c = λ es f h x sound. edits_sound sound x
