@@ -83,3 +83,11 @@ node_text other = None
 
 abbrev pub made_text : OwnedLazyValue → Option (List ℕ)
 made_text v = node_text (out-Node (out-OwnedLazyValue v).node)
+
+-- the text that it is kept as, if it was read and isn't opened
+abbrev pub node_read : Node-F Node LazyArray LazyObject OwnedLazyValue → Option (List ℕ)
+node_read (Node-F.Raw r) = Some r.text
+node_read other = None
+
+abbrev pub read_text : OwnedLazyValue → Option (List ℕ)
+read_text v = node_read (out-Node (out-OwnedLazyValue v).node)

@@ -182,18 +182,21 @@ fn lends_no_level_of_other_kinds(rt: HostRuntime) -> Result<(), Fail> {
 #[test]
 fn lends_by_paths_of_255_nodes(rt: HostRuntime) -> Result<(), Fail> {
     let alloc = rt.alloc();
-    let mut value = OwnedLazyValue::from(true);
     let long = [Index(0); 256];
-    match value.pointer_mut(alloc, &long) {
-        Err(error) => {
-            same(&rt, error.code(), ErrorCode::RecursionLimitExceeded);
-            same(&rt, error.line(), 0);
+    for &json in &["true", r#"{"c": [0, 1, 2]}"#] {
+        let mut value = read(&rt, alloc, json);
+        match value.pointer_mut(alloc, &long) {
+            Err(error) => {
+                same(&rt, error.code(), ErrorCode::RecursionLimitExceeded);
+                same(&rt, error.line(), 0);
+            }
+            Ok(_) => panic!(rt; "the path is too long"),
         }
-        Ok(_) => panic!(rt; "the path is too long"),
-    }
-    match value.pointer_mut(alloc, &long[1..]) {
-        Ok(None) => {}
-        _ => panic!(rt; "the value has no item"),
+        match value.pointer_mut(alloc, &long[1..]) {
+            Ok(None) => {}
+            _ => panic!(rt; "{json} has no element"),
+        }
+        check_text(&rt, alloc, &value, json);
     }
     Ok(())
 }

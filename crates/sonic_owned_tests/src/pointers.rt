@@ -90,6 +90,19 @@ fn looks_on_from_what_it_found(rt: HostRuntime) -> Result<(), Fail> {
     Ok(())
 }
 
+#[test]
+fn denotes_the_text_of_a_string(rt: HostRuntime) -> Result<(), Fail> {
+    let alloc = rt.alloc();
+    let Ok(value) = OwnedLazyValue::from_str(alloc, r#"{"a":"x"}"#) else {
+        panic!(rt; "it is a document");
+    };
+    match value.get(Key("a")) {
+        Some(text) => check_view(&rt, alloc, &text, Some("x")),
+        None => panic!(rt; "the key is there"),
+    }
+    Ok(())
+}
+
 // What paths lead to in one document: its type, which truth value it is, and which integer.
 fn views() -> [(PointerNode<'static>, JsonType, Option<bool>, Option<i64>); 6] {
     [

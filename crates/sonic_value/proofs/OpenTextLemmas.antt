@@ -16,7 +16,7 @@ use Rattle.sonic_owned.specs.Internal.Unwritten.{IsWrittenUpTo}
 use Rattle.sonic_text.specs.Trees.{Items, Tree}
 use Rattle.sonic_text.specs.Trees.Items.{item, no_item}
 use Rattle.sonic_value.specs.CompactTexts.{compact, items_text}
-use Rattle.sonic_value.specs.Internal.OpenTexts.{all_shown, all_shown_size, array_size, array_text, before_item, begun_text, object_size, object_text, shown_size, shown_sizes, shown_text, shown_texts}
+use Rattle.sonic_value.specs.Internal.OpenTexts.{all_shown, all_shown_size, array_size, array_text, before_item, object_size, object_text, shown_size, shown_sizes, shown_text, shown_texts}
 use Rattle.sonic_value.specs.Internal.ValueCounts.{value_count, items_value_count}
 use Rattle.sonic_value.specs.Views.{tree, key_and_tree, elements_of, members_of}
 use Rattle.sonic_value.specs.declared.value.Value.{Value}

@@ -2,6 +2,7 @@
 use crate::same::{same, same_at};
 use sonic_error::{ErrorCode, Result as Answer};
 use sonic_lazy::validate;
+use sonic_pointer::PointerNode;
 use sonic_value::Value;
 use std::alloc::Global;
 use std::process::Abort;
@@ -88,6 +89,25 @@ fn reads_containers(rt: HostRuntime) -> Result<(), Fail> {
             }
         }
         other => panic!(rt; "{} is no array", first_text(other)),
+    }
+    Ok(())
+}
+
+#[test]
+fn keeps_equal_keys(rt: HostRuntime) -> Result<(), Fail> {
+    let alloc = rt.alloc();
+    let json = "{\"a\":1,\"a\":2}";
+    let value = read(&rt, alloc, json);
+    match (value.to_string(alloc), value.clone(alloc)) {
+        (Ok(text), Ok(copy)) => {
+            same(&rt, &text[..], json);
+            assert!(rt; value == copy);
+        }
+        _ => panic!(rt; "memory is ample"),
+    }
+    match value.get(PointerNode::Key("a")) {
+        Some(first) => same(&rt, first_text(first), "1"),
+        None => panic!(rt; "the key is there"),
     }
     Ok(())
 }

@@ -1,10 +1,10 @@
 // The text of a value, written piece by piece.
-ghost use Rattle.std.specs.Prelude.{◌≡◌, ◌++◌, ◌∷◌, [], string_bytes, IfOk, IfErr};
-ghost use Rattle.std.specs.Cow.{cow_str_bytes};
+ghost use Rattle.std.specs.Prelude.{◌≡◌, ◌↔◌, ◌++◌, ◌∷◌, [], None, string_bytes, IfOk, IfErr, IsSome, OnErr};
+ghost use Rattle.std.specs.Cow.{cow_str_bytes, IsBorrowedStr};
 ghost use Rattle.std.specs.Fmt.{WritesOnOk};
 ghost use Rattle.sonic_error.specs.Errors.{IsPlainError};
 ghost use Rattle.sonic_owned.specs.Forms.{text, members_text, unnamed, named};
-ghost use Rattle.sonic_owned.specs.Seen.{view_form};
+ghost use Rattle.sonic_owned.specs.Seen.{view_form, view_read};
 ghost use Rattle.sonic_owned.specs.Views.{form, elements, members};
 
 use super::unwritten::{Unwritten, begin, show_left};
@@ -36,11 +36,13 @@ impl OwnedLazyValue {
 impl<'a> OwnedView<'a> {
     /// The text of the value, as [`OwnedLazyValue::to_string`] writes it.
     ///
-    /// What isn't opened is borrowed, and only else memory is taken. The only error is
-    /// `ErrorCode::NoMemory`. Where `["a"]` leads in `{"a":[1, 2]}` it is `[1, 2]`.
+    /// A text that was read and isn't opened is borrowed. Only else memory is taken, and the only error
+    /// is `ErrorCode::NoMemory`. Where `["a"]` leads in `{"a":[1, 2]}` it is `[1, 2]`.
     pub fn text(&self, alloc: Global) -> Result<CowStr<'a>>
         ensures ok { IfOk result (λ shown. cow_str_bytes shown ≡ text (view_form self.now)) }
         ensures err { IfErr result (λ error. IsPlainError error ErrorCode.NoMemory) }
+        ensures lent { IfOk result (λ shown. IsBorrowedStr shown ↔ IsSome (view_read self.now)) }
+        ensures memory { OnErr result (view_read self.now ≡ None) }
     {
         let value: &'a OwnedLazyValue = match self {
             OwnedView::Node(value) => value,
