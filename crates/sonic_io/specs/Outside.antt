@@ -1,5 +1,5 @@
 -- What a source gives and a sink takes, and how they count their faults.
-use Rattle.std.specs.Prelude.{◌≡◌, ℕ, ◌+◌, ◌-◌, ◌^◌, min, List, ◌++◌}
+use Rattle.std.specs.Prelude.{◌≡◌, ℕ, ◌+◌, ◌-◌, ◌<◌, ◌^◌, min, List, ◌++◌}
 use Rattle.std.specs.declared.option.Option.{Option}
 use Rattle.std.specs.Io.KnownBytes.{prepend_known, append_known}
 
@@ -7,9 +7,9 @@ use Rattle.std.specs.Io.KnownBytes.{prepend_known, append_known}
 abbrev pub raised : ℕ → ℕ
 raised count = min (count + 1) (2 ^ 64 - 1)
 
--- a count rose by one, or stays at the greatest number
+-- a count of 64 bits rose by one, or stays at the greatest number
 abbrev pub Rose : ℕ → ℕ → Type 0
-Rose before after = after ≡ raised before
+Rose before after = (before < 2 ^ 64) × (after ≡ raised before)
 
 -- these bytes were the next of what was left, and whether that is known stays so
 abbrev pub Gave : Option (List ℕ) → Option (List ℕ) → List ℕ → Type 0

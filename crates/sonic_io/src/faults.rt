@@ -1,5 +1,5 @@
 //! Counts of calls and of faults.
-ghost use Rattle.std.specs.Prelude.{◌≡◌, ◌↔◌, IsErr, OnOk, OnErr};
+ghost use Rattle.std.specs.Prelude.{◌≡◌, ◌↔◌, ◌<◌, ◌^◌, IsErr, OnOk, OnErr};
 ghost use Rattle.sonic_io.specs.Memory.{uncalled, worked, faulted, failed, IsToFail};
 ghost use Rattle.sonic_io.specs.Outside.{Rose};
 
@@ -51,11 +51,14 @@ pub struct Calls {
 }
 
 impl Model for Calls {
+    ghost use Rattle.std.specs.Prelude.{◌<◌, ◌^◌};
     ghost use Rattle.sonic_io.specs.Memory.{CallState};
 
     ghost Value = { CallState };
 
     ghost view = { λ calls. record { fails = calls.fails.items; number = calls.number; faults = calls.faults } };
+
+    ghost invariant = { λ calls. calls.faults < 2 ^ 64 };
 }
 
 impl Calls {
@@ -75,6 +78,7 @@ impl Calls {
     /// With 2 as the only number listed the second call fails, and no other.
     pub fn next(&mut self) -> Result<(), Failed>
         ensures fails { IsErr result ↔ IsToFail self.old }
+        ensures small { self.old.faults < 2 ^ 64 }
         ensures ok { OnOk result (self.new ≡ worked self.old) }
         ensures err { OnErr result (self.new ≡ failed self.old) }
     {
@@ -87,7 +91,8 @@ impl Calls {
 
     /// Counts the fault of a call that is counted already, and that fails for another reason.
     pub fn fail(&mut self) -> Failed
-        ensures { self.new ≡ faulted self.old }
+        ensures count { self.new ≡ faulted self.old }
+        ensures small { self.old.faults < 2 ^ 64 }
     {
         self.faults.fail()
     }

@@ -1,5 +1,5 @@
 //! The sources and the sinks over memory.
-ghost use Rattle.std.specs.Prelude.{◌≡◌, ◌↔◌, ◌⊎◌, ◌++◌, ◌-◌, ◌<◌, ◌≤◌, min, Ok, Some, None, List, [], length, take, replicate, vec_capacity, IsOk, IfOk, IfErr, IsErr, OnOk, OnErr};
+ghost use Rattle.std.specs.Prelude.{◌≡◌, ◌↔◌, ◌⊎◌, ◌++◌, ◌-◌, ◌<◌, ◌≤◌, ◌^◌, min, Ok, Some, None, List, [], length, take, replicate, vec_capacity, IsOk, IfOk, IfErr, IsErr, OnOk, OnErr};
 ghost use Rattle.std.specs.Io.KnownBytes.{IsAtEnd};
 ghost use Rattle.sonic_error.specs.Errors.{IsPlainError};
 ghost use Rattle.sonic_io.specs.Memory.{Supply, IsToFail, uncalled, worked, failed, portion, without};
@@ -152,6 +152,7 @@ impl Source for MemorySource {
         ensures end { IfOk result (λ count.
             count ≡ 0 → 0 < length room.new → IsAtEnd (Some self.new.stock.left)) }
         ensures kept { OnErr result (self.new.stock ≡ self.old.stock) }
+        ensures small { self.old.calls.faults < 2 ^ 64 }
         ensures ok { OnOk result (self.new.calls ≡ worked self.old.calls) }
         ensures err { OnErr result (self.new.calls ≡ failed self.old.calls) }
     {
@@ -332,6 +333,7 @@ impl Sink for MemorySink {
         ensures held { IfOk result (λ count.
             self.new.held ≡ self.old.held ++ take count piece.now) }
         ensures kept { OnErr result (self.new.held ≡ self.old.held) }
+        ensures small { self.old.calls.faults < 2 ^ 64 }
         ensures ok { OnOk result (self.new.calls ≡ worked self.old.calls) }
         ensures err { OnErr result (self.new.calls ≡ failed self.old.calls) }
         ensures room { self.new.room ≡ self.old.room }
@@ -348,6 +350,7 @@ impl Sink for MemorySink {
     fn finish(&mut self) -> Result<(), Failed>
         ensures fails { IsErr result ↔ IsToFail self.old.calls }
         ensures held { self.new.held ≡ self.old.held }
+        ensures small { self.old.calls.faults < 2 ^ 64 }
         ensures ok { OnOk result (self.new.calls ≡ worked self.old.calls) }
         ensures err { OnErr result (self.new.calls ≡ failed self.old.calls) }
         ensures room { self.new.room ≡ self.old.room }

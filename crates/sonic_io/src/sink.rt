@@ -1,5 +1,5 @@
 //! The trait of what the report is written to.
-ghost use Rattle.std.specs.Prelude.{◌≡◌, ◌<◌, ◌≤◌, ℕ, List, length, take, IfOk, OnOk, OnErr};
+ghost use Rattle.std.specs.Prelude.{◌≡◌, ◌<◌, ◌≤◌, ◌^◌, ℕ, List, length, take, IfOk, OnOk, OnErr};
 ghost use Rattle.std.specs.declared.option.Option.{Option};
 ghost use Rattle.sonic_io.specs.Outside.{Rose, Took};
 
@@ -29,6 +29,7 @@ pub trait Sink {
         ensures taken { IfOk result (λ count.
             Took (written self.old) (written self.new) (take count piece.now)) }
         ensures kept { OnErr result (written self.new ≡ written self.old) }
+        ensures small { faults self.new < 2 ^ 64 }
         ensures calm { OnOk result (faults self.new ≡ faults self.old) }
         ensures cause { OnErr result (Rose (faults self.old) (faults self.new)) };
 
@@ -37,6 +38,7 @@ pub trait Sink {
     fn finish(&mut self) -> Result<(), Failed>
         ensures sent { OnOk result (sent self.new ≡ written self.new) }
         ensures kept { written self.new ≡ written self.old }
+        ensures small { faults self.new < 2 ^ 64 }
         ensures calm { OnOk result (faults self.new ≡ faults self.old) }
         ensures cause { OnErr result (Rose (faults self.old) (faults self.new)) };
 }

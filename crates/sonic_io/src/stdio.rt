@@ -1,5 +1,5 @@
 //! The source and the sink over the system, as standard input and output.
-ghost use Rattle.std.specs.Prelude.{◌≡◌, ◌<◌, ◌≤◌, None, length, IfOk, OnOk, OnErr};
+ghost use Rattle.std.specs.Prelude.{◌≡◌, ◌<◌, ◌≤◌, ◌^◌, None, length, IfOk, OnOk, OnErr};
 ghost use Rattle.std.specs.Io.KnownBytes.{Keeps, ReadConsumes, WriteAppends};
 ghost use Rattle.sonic_io.specs.Outside.{Rose};
 
@@ -19,11 +19,14 @@ pub struct InputSource<R> {
 }
 
 impl<R> Model for InputSource<R> {
+    ghost use Rattle.std.specs.Prelude.{◌<◌, ◌^◌};
     ghost use Rattle.sonic_io.specs.System.{Reading};
 
     ghost Value = { Reading R };
 
     ghost view = { λ source. record { reader = source.reader; faults = source.faults } };
+
+    ghost invariant = { λ source. source.faults < 2 ^ 64 };
 }
 
 impl<R: Read> InputSource<R> {
@@ -44,6 +47,7 @@ impl<R: Read> Source for InputSource<R> {
     fn read(&mut self, room: &mut [u8]) -> Result<usize, Failed>
         ensures bound { IfOk result (λ count. count ≤ length room.new) }
         ensures reader { ReadConsumes (R.remaining self.old.reader) (R.remaining self.new.reader) result room.new }
+        ensures small { self.new.faults < 2 ^ 64 }
         ensures calm { OnOk result (self.new.faults ≡ self.old.faults) }
         ensures cause { OnErr result (Rose self.old.faults self.new.faults) }
     {
@@ -65,11 +69,14 @@ pub struct OutputSink<W> {
 }
 
 impl<W> Model for OutputSink<W> {
+    ghost use Rattle.std.specs.Prelude.{◌<◌, ◌^◌};
     ghost use Rattle.sonic_io.specs.System.{Writing};
 
     ghost Value = { Writing W };
 
     ghost view = { λ sink. record { writer = sink.writer; faults = sink.faults } };
+
+    ghost invariant = { λ sink. sink.faults < 2 ^ 64 };
 }
 
 impl<W: Write> OutputSink<W> {
@@ -93,6 +100,7 @@ impl<W: Write> Sink for OutputSink<W> {
         requires { 0 < length piece.now }
         ensures bound { IfOk result (λ count. (0 < count) × (count ≤ length piece.now)) }
         ensures writer { WriteAppends (W.contents self.old.writer) (W.contents self.new.writer) result piece.now }
+        ensures small { self.new.faults < 2 ^ 64 }
         ensures calm { OnOk result (self.new.faults ≡ self.old.faults) }
         ensures cause { OnErr result (Rose self.old.faults self.new.faults) }
     {
@@ -104,6 +112,7 @@ impl<W: Write> Sink for OutputSink<W> {
 
     fn finish(&mut self) -> Result<(), Failed>
         ensures writer { Keeps (W.contents self.old.writer) (W.contents self.new.writer) }
+        ensures small { self.new.faults < 2 ^ 64 }
         ensures calm { OnOk result (self.new.faults ≡ self.old.faults) }
         ensures cause { OnErr result (Rose self.old.faults self.new.faults) }
     {
