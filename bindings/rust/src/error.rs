@@ -6,9 +6,9 @@ use std::fmt;
 #[derive(Clone, Copy, Debug, PartialEq, Eq)]
 #[non_exhaustive]
 pub enum Error {
-    /// The text is broken, or a path leads nowhere in it.
+    /// The text is invalid, or a path doesn't resolve in it.
     Document(Fault),
-    /// A path is none, or doesn't go with those before it: its index among the paths that were given.
+    /// A path is invalid, or doesn't go with those before it: its index among the paths that were given.
     BadPath(usize),
     /// The value is of another type than the call asks for: its type.
     WrongType(Type),

@@ -196,8 +196,8 @@ impl fmt::Debug for Finder {
 }
 
 impl<'t, T: Text + ?Sized> Valid<'t, T> {
-    /// As [`Finder::get_many`], without a second look. By [`Keys::First`] there is a walk for each path, which is
-    /// faster for a few; by another rule it is the same walk.
+    /// As [`Finder::get_many`], of a text that is validated already. By [`Keys::First`] each path is followed by
+    /// itself; by another rule they are followed together, as there.
     ///
     /// ```
     /// use sonic::{path, validate, Finder, Keys, Paths};
@@ -210,7 +210,7 @@ impl<'t, T: Text + ?Sized> Valid<'t, T> {
         self.find_with(finder).map(Iterator::collect)
     }
 
-    /// As [`Finder::find`], without a second look, as [`get_many_with`](Valid::get_many_with). By [`Keys::First`] it
+    /// As [`Finder::find`], of a text that is validated already, as [`get_many_with`](Valid::get_many_with). By [`Keys::First`] it
     /// takes no memory.
     pub fn find_with<'f>(self, finder: &'f mut Finder) -> Result<Found<'f, 't, T>, Error> {
         finder.look_up(raw::sonic_get_many_with_unchecked, self.text())

@@ -91,8 +91,8 @@ pub fn get<'t, T: Text + ?Sized>(json: &'t T, path: &Path) -> Result<&'t T::Part
     look_up(raw::sonic_get, json, path)
 }
 
-/// The texts of the values to which the paths lead, in their order and by one walk through the text, and
-/// `None` for one whose key an object with members lacks.
+/// The texts of the values at the paths, in their order, and `None` for a key that is missing in an object
+/// with members.
 ///
 /// It is an [`Error::Document`] where any of them leads nowhere otherwise, or the text is broken as far as
 /// it is needed.
@@ -111,7 +111,7 @@ pub fn get_many<'t, T: Text + ?Sized>(
 }
 
 /// A text that is one value in UTF-8 with nothing but white space round it: what [`validate`] gives.
-/// Look-ups in it pass what they don't need without a second look.
+/// Look-ups in it validate nothing again.
 #[derive(Debug)]
 pub struct Valid<'t, T: ?Sized>(&'t T);
 
@@ -147,13 +147,12 @@ impl<'t, T: Text + ?Sized> Valid<'t, T> {
         self.0
     }
 
-    /// As [`get`], without a second look.
+    /// As [`get`], of a text that is validated already.
     pub fn get(self, path: &Path) -> Result<&'t T::Part, Error> {
         look_up(raw::sonic_get_unchecked, self.0, path)
     }
 
-    /// As [`get_many`], without a second look and by a walk for each path, which is faster
-    /// for a few.
+    /// As [`get_many`], of a text that is validated already: each path is followed by itself.
     pub fn get_many(self, paths: &Paths) -> Result<Vec<Option<&'t T::Part>>, Error> {
         look_up_many(raw::sonic_get_many_unchecked, self.0, paths)
     }

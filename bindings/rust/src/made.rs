@@ -127,7 +127,7 @@ pub fn indent<T: Text + ?Sized>(json: &T, width: usize) -> Result<String, Error>
 /// A test compares numbers by their digits, so that `1` and `1.0` differ; to remove the whole document leaves
 /// `null`; a pointer has at most 255 tokens.
 ///
-/// It is an [`Error::BadPatch`] or [`Error::BadOperation`] where the patch is none; an [`Error::Missing`],
+/// It is an [`Error::BadPatch`] or [`Error::BadOperation`] where the patch is invalid; an [`Error::Missing`],
 /// [`Error::TestFailed`] or [`Error::IntoChild`] where an operation isn't made; and an [`Error::Document`] as of
 /// [`minify`].
 ///
@@ -145,9 +145,9 @@ pub fn patch<T: Text + ?Sized, P: Text + ?Sized>(json: &T, patch: &P) -> Result<
 /// The document with edits, all of them or none, one on each line. What no edit changes keeps its text; the arrays
 /// and objects on the way to a change are written without white space, and their keys with as few escapes as may be.
 ///
-/// `["set",PATH,VALUE]` puts a value where a [path](crate::Path) leads, `["push",PATH,VALUE]` after the last
-/// element of the array there, `["pair",PATH,KEY,VALUE]` after the last member of the object there, also where it
-/// has the key already, of which the first counts then, and `["take",PATH]` puts `null`.
+/// `["set",PATH,VALUE]` replaces the value at a [path](crate::Path), `["push",PATH,VALUE]` appends to the array
+/// there, and `["pair",PATH,KEY,VALUE]` appends a member to the object there, also where it has the key already, of
+/// which the first counts then. `["take",PATH]` replaces the value by `null`, and removes nothing.
 ///
 /// It is an [`Error::BadEdit`] where a line says no edit, an [`Error::EditRefused`] where an edit isn't made, and
 /// an [`Error::Document`] as of [`minify`].

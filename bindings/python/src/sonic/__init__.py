@@ -70,10 +70,10 @@ def get(text: bytes, path: Path) -> bytes: ...  # type: ignore[overload-overlap]
 @overload
 def get(text: Buffer, path: Path) -> memoryview: ...
 def get(text: Any, path: Path) -> Any:
-    """The text of the value to which the path leads. What follows it in the text may be anything.
+    """The text of the value at the path. What follows it in the text may be anything.
 
-    Raises NotFound or WrongType where the path leads nowhere, BrokenText where the text is broken before
-    the value ends, and PathError where the path is none, or has more than 255 nodes."""
+    Raises NotFound or WrongType where the path doesn't resolve, BrokenText where the text is invalid before
+    the value ends, and PathError where the path is invalid, or has more than 255 keys and indexes."""
     return _get("sonic_get", text, _native.source_of(text), path)
 
 
@@ -84,17 +84,17 @@ def get_many(text: bytes, paths: Union[Paths, Iterable[Path]]) -> List[Optional[
 @overload
 def get_many(text: Buffer, paths: Union[Paths, Iterable[Path]]) -> List[Optional[memoryview]]: ...
 def get_many(text: Any, paths: Union[Paths, Iterable[Path]]) -> Any:
-    """The texts of the values to which the paths lead, in their order and by one walk through the text, and
-    None for one whose key an object with members lacks.
+    """The texts of the values at the paths, in their order, and None for a key that is missing in an object
+    with members.
 
-    Raises as `get` does where any of them leads nowhere otherwise. Of paths that are alike so far, all go
-    on with a key or all with an index: ["a"] and [0] don't go together, which is a PathError."""
+    Raises as `get` does where any of them doesn't resolve for another reason. Of paths that are alike so far, all
+    go on with a key or all with an index: ["a"] and [0] don't go together, which is a PathError."""
     return _get_many("sonic_get_many", text, _native.source_of(text), paths)
 
 
 class Document(Generic[T]):
-    """A text that is one value in UTF-8, which is looked at once. Look-ups in it pass what they don't need
-    without a second look. It is a str, bytes or a memoryview of bytes, as nothing may write to it."""
+    """A text that is one value in UTF-8, which is validated once, so that look-ups in it validate nothing again.
+    It is a str, bytes or a memoryview of bytes, as nothing may write to it."""
 
     __slots__ = ("_text", "_source")
 
@@ -112,16 +112,16 @@ class Document(Generic[T]):
         return self._text
 
     def get(self, path: Path) -> T:
-        """As `get`, without a second look."""
+        """As `get`, of a text that is validated already."""
         return _get("sonic_get_unchecked", self._text, self._source, path)
 
     def get_many(self, paths: Union[Paths, Iterable[Path]]) -> List[Optional[T]]:
-        """As `get_many`, without a second look and by a walk for each path, which is faster for a few."""
+        """As `get_many`, of a text that is validated already: each path is followed by itself."""
         return _get_many("sonic_get_many_unchecked", self._text, self._source, paths)
 
     def get_many_with(self, finder: Finder) -> List[Optional[T]]:
-        """As the finder's `get_many`, without a second look. By the "first" of equal keys there is a walk for each path,
-        which is faster for a few; by another rule it is the same walk."""
+        """As the finder's `get_many`, of a text that is validated already. By the "first" of equal keys each path is
+        followed by itself; by another rule they are followed together, as there."""
         if not isinstance(finder, Finder):
             raise TypeError(f"a Finder is asked for, and not {type(finder).__name__}")
         return finder._find("sonic_get_many_with_unchecked", self._text, self._source)

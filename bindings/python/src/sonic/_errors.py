@@ -130,7 +130,7 @@ _WHY = {
 
 
 class PatchError(SonicError):
-    """A patch isn't made: the cause, and the index of the operation, from 0. Where the patch is none as a whole, the
+    """A patch isn't made: the cause, and the index of the operation, from 0. Where the patch as a whole is invalid, the
     cause is BAD_PATCH, there is no index, and `broken` says what isn't JSON in it, or is None where it is no array."""
 
     def __init__(self, cause: Cause, index: Optional[int], broken: Optional[BrokenText] = None) -> None:
@@ -188,7 +188,7 @@ class NumberError(ValueError):
 
 
 class PathError(ValueError):
-    """A path is none, or doesn't go with those before it: the path, and its index among those given."""
+    """A path is invalid, or doesn't go with those before it: the path, and its index among those given."""
 
     def __init__(self, path: Any, index: int) -> None:
         super().__init__(path, index)

@@ -78,7 +78,7 @@ def patch(document: Union[str, Buffer], patch: Union[str, Buffer]) -> bytes:
     as few escapes as may be. A test compares numbers by their digits, so that 1 and 1.0 differ; to remove the whole document
     leaves null; a pointer has at most 255 tokens.
 
-    Raises PatchError where the patch is none, or an operation isn't made, and BrokenText as `minify` does.
+    Raises PatchError where the patch is invalid, or an operation isn't made, and BrokenText as `minify` does.
 
     >>> patch('{"a": [1, 2]}', '[{"op": "add", "path": "/a/-", "value": 3}]')
     b'{"a":[1,2,3]}'
