@@ -11,7 +11,7 @@
    What this header says of a call is proved by its contract, in crates/sonic_c of the repository, but for this:
    - Tested: a null pointer with the length 0, how much memory a call takes, and the greatest lengths of texts; that
      C means the same by each number, field and parameter.
-   - Measured: speed, and how much stack a call takes.
+   - Measured: speed, in docs/PERFORMANCE.md, and how much stack a call takes.
    Where a call departs from a standard, it is said with the call.
 
    Preconditions, which the library doesn't check:
@@ -147,7 +147,7 @@ uint32_t sonic_get(const uint8_t *json, size_t json_length, const uint8_t *path,
                    sonic_span *span, sonic_error *error);
 
 /* sonic_get for a text that begins with a valid value in UTF-8, with the same statuses. What is passed isn't
-   validated. Over texts of some kilobytes that was several times as fast, over short ones as fast (measured). */
+   validated: over 200 bytes it took 0.7 of the time, over 10 KB 0.3 (measured). */
 uint32_t sonic_get_unchecked(const uint8_t *json, size_t json_length, const uint8_t *path,
                              size_t path_length, sonic_span *span, sonic_error *error);
 
@@ -167,7 +167,8 @@ uint32_t sonic_get_many(const uint8_t *json, size_t json_length, const uint8_t *
                         size_t paths_length, sonic_span *spans, size_t span_count, sonic_error *error);
 
 /* sonic_get_many for a text that begins with a valid value in UTF-8, with the same statuses. Each path is followed
-   by itself, and what is passed isn't validated; for a few paths that was faster (measured). */
+   by itself, and what is passed isn't validated: with three paths it took 0.9 of the time over 200 bytes, and 0.3 over 10 KB
+   (measured). */
 uint32_t sonic_get_many_unchecked(const uint8_t *json, size_t json_length, const uint8_t *paths,
                                   size_t paths_length, sonic_span *spans, size_t span_count,
                                   sonic_error *error);
@@ -223,8 +224,8 @@ uint32_t sonic_get_many_with(const uint8_t *json, size_t json_length, sonic_path
 
 /* sonic_get_many_with for a text that begins with a valid value in UTF-8, with the same statuses. Under
    SONIC_KEYS_FIRST each path is followed by itself, what is passed isn't validated, and the call takes no memory: it
-   never returns SONIC_NO_MEMORY. For a few paths that was faster (measured). Under another rule it is
-   sonic_get_many_with. */
+   never returns SONIC_NO_MEMORY. With three paths it took 0.7 of the time over 200 bytes, and 0.3 over 10 KB
+   (measured). Under another rule it is sonic_get_many_with. */
 uint32_t sonic_get_many_with_unchecked(const uint8_t *json, size_t json_length, sonic_paths *paths,
                                        sonic_span *spans, size_t span_count, sonic_error *error);
 
