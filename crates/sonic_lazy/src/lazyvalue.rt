@@ -17,8 +17,7 @@ use std::hash::{Hash, Hasher};
 /// One whole value of a text, which isn't read yet.
 ///
 /// It borrows its text, which is UTF-8 and has no white space at its ends. Values are equal,
-/// ordered and hashed as their texts are, so `1.0` and `1` differ. Where the text is a part of
-/// shared bytes, owned text that is made of the value can share them.
+/// ordered and hashed as their texts are, so `1.0` and `1` differ.
 ///
 /// ```text
 /// let value = LazyValue::whole(JsonSlice::from("[1, 2]"), false);
@@ -71,8 +70,8 @@ impl<'a> LazyValue<'a> {
 
     /// The text of the value as text of its own, which outlives the input.
     ///
-    /// Where the input is shared bytes it is another owner of them, and else a copy. The only error
-    /// is `ErrorCode::NoMemory`. Of the value `"a"` it has both quotes.
+    /// The only error is `ErrorCode::NoMemory`. Of the value `"a"` it has both quotes. Whether it
+    /// shares the bytes of a shared input is said by no clause.
     // Inlined, what it gives is moved byte by byte.
     #[inline(never)]
     pub fn as_raw_faststr(&self, alloc: Global) -> sonic_error::Result<FastStr>

@@ -67,8 +67,6 @@ pub fn get_from_slice<'de>(
 }
 
 /// The value to which one path leads in shared bytes that may be no UTF-8, as [`get`] answers it.
-///
-/// Owned text that is made of the value shares the bytes.
 pub fn get_from_bytes<'de>(
     alloc: Global,
     json: &'de Bytes,
@@ -81,8 +79,6 @@ pub fn get_from_bytes<'de>(
 }
 
 /// The value to which one path leads in shared text, as [`get`] answers it.
-///
-/// Owned text that is made of the value shares the text.
 pub fn get_from_faststr<'de>(
     alloc: Global,
     json: &'de FastStr,

@@ -172,8 +172,8 @@ impl<'a> LazyValue<'a> {
 
     /// The number with its text where the value is one, and else `None`. A quoted number is a string.
     ///
-    /// Text of a shared input shares its bytes. The only error is `ErrorCode::NoMemory`, and of a
-    /// number alone. Of `1.10` it is the number `1.10`.
+    /// The only error is `ErrorCode::NoMemory`, and of a number alone. Of `1.10` it is the number
+    /// `1.10`.
     pub fn as_raw_number(&self, alloc: Global) -> Result<Option<RawNumber>>
         ensures some { IfOk result (λ found. IsSome found ↔ IsNumberText (raw_bytes self.now)) }
         ensures text { IfOk result (λ found. IfSome found (λ number. number ≡ raw_bytes self.now)) }
