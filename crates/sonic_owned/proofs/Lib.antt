@@ -26,6 +26,7 @@ mod PutLawLemmas
 mod PutLemmas
 mod ReachLemmas
 mod TextLemmas
+pub mod UntouchedLemmas
 pub mod UnwrittenLemmas
 mod Utf8Lemmas
 pub mod ValueLemmas

@@ -12,4 +12,5 @@ pub mod Reached
 pub mod Seen
 pub mod TreeEdits
 pub mod TreePuts
+pub mod Untouched
 pub mod Views

@@ -1,5 +1,5 @@
 // Laws of forms.
-ghost use Rattle.std.specs.Prelude.{◌≡◌, ◌↔◌, ◌⊎◌, ℕ, List, ◌∷◌, length, Some, None};
+ghost use Rattle.std.specs.Prelude.{◌≡◌, ◌↔◌, ◌⊎◌, ℕ, List, ◌∷◌, ◌++◌, length, Some, None};
 ghost use Rattle.sonic_find.specs.Documents.{IsValidDocument};
 ghost use Rattle.sonic_lazy.specs.Scalars.{scalar_of_tree};
 ghost use Rattle.sonic_owned.specs.Edits.{IsSoundChange, IsEdit, IsRefused, AreEdits, IsFirstRefused, EditMeans, EditsMean, AreSoundEdits};
@@ -10,6 +10,7 @@ ghost use Rattle.sonic_owned.specs.Puts.{IsPut};
 ghost use Rattle.sonic_owned.specs.Reached.{MeansStill};
 ghost use Rattle.sonic_owned.specs.TreeEdits.{Edit, edit_tree, edit_tree_all};
 ghost use Rattle.sonic_owned.specs.TreePuts.{put};
+ghost use Rattle.sonic_owned.specs.Untouched.{IsNamedAfter, PartsFrom};
 ghost use Rattle.sonic_owned.specs.Views.{form, array_in, object_in, IsLevelOf};
 ghost use Rattle.sonic_owned.specs.declared.value.OwnedLazyValue.{OwnedLazyValue};
 ghost use Rattle.sonic_text.specs.Paths.{Path, Node};
@@ -131,4 +132,18 @@ pub fn edit_means_the_edited_tree()
         → ((h : Form) × AreEdits es f h) ⊎ ((n : ℕ) × IsFirstRefused es f n) }
     ensures all_sound { (es : List (Edit Form)) (f h : Form) → AreEdits es f h → AreSoundEdits es
         → IsSound f → IsSound h }
+{}
+
+/// The law of what an edit leaves: a path that parts from the edit's path leads where it led, to the
+/// same text. So does one to an item of the container to which an item is added, or of which one is
+/// removed, where elements behind that one move by one.
+///
+/// So what the path of no edit enters keeps its bytes. `4` put before the first element where `["a"]`
+/// leads in `{"a":[1, 2],"b":[ 3 ]}` leaves `[ 3 ]` at `["b"]`, and the `2` of `["a",1]` at `["a",2]`.
+pub fn edit_leaves_the_rest()
+    ensures beside { (e : Edit Form) (path : Path) (f h k : Form) → IsEdit e f h
+        → PartsFrom path e.path → (LeadsTo path f k ↔ LeadsTo path h k) }
+    ensures below { (e : Edit Form) (before after : Node) (rest : Path) (f h k : Form)
+        → IsEdit e f h → IsNamedAfter e.change before after
+        → LeadsTo (e.path ++ (before ∷ rest)) f k → LeadsTo (e.path ++ (after ∷ rest)) h k }
 {}

@@ -18,10 +18,10 @@ use std::alloc::{AllocError, Global};
 /// and each member of either has one in the other with an equal key and the same value. Strings and keys
 /// are equal if they denote the same bytes, however they are written: `"\u0061"` is `"a"`.
 ///
-/// The only error is out of memory. There is no recursion: depth is bounded by memory alone. Two texts
-/// with the same parts in the same order, that differ in white space or escapes, are gone over once,
-/// and a byte is kept of each container that is open. Other texts are gone over once more, and what
-/// each value is, by what its parts are, is looked up among those before it: n log n comparisons.
+/// The only error is out of memory. No clause says how much memory or time is taken. Two texts with the
+/// same parts in the same order, that differ in white space or escapes, are gone over once, with a byte
+/// for each container that is open. Other texts are gone over once more, and what each value is, by what
+/// its parts are, is looked up among those before it.
 ///
 /// `{"a":1,"b":[]}` and `{ "b": [], "a": 1 }` are the same, and `[1,2]` and `[2,1]` aren't.
 pub fn same(alloc: Global, left: &str, right: &str) -> Result<bool, AllocError>

@@ -20,7 +20,6 @@ use std::alloc::{AllocError, Global};
 impl OwnedLazyValue {
     /// An equal value: opened as far as this one is, with the same text.
     ///
-    /// A value may be opened as deep as memory lasts, as no level needs stack.
     /// The only error is `ErrorCode::NoMemory`.
     pub fn clone(&self, alloc: Global) -> Result<OwnedLazyValue>
         ensures ok { IfOk result (λ made. form made ≡ form self.now) }
@@ -51,9 +50,8 @@ impl OwnedLazyValue {
 impl OwnedView<'_> {
     /// A value that means the same and isn't opened: its text is that of this one, byte for byte.
     ///
-    /// What isn't opened shares its bytes where they are shared. The only error is
-    /// `ErrorCode::NoMemory`. Of a value that was opened to `{"a":[1, 2]}` it is the text
-    /// `{"a":[1, 2]}`.
+    /// The only error is `ErrorCode::NoMemory`. Of a value that was opened to `{"a":[1, 2]}` it is the
+    /// text `{"a":[1, 2]}`.
     pub fn closed(&self, alloc: Global) -> Result<OwnedLazyValue>
         ensures ok { IfOk result (λ made. form made ≡ raw (text (view_form self.now))) }
         ensures err { IfErr result (λ error. IsPlainError error ErrorCode.NoMemory) }

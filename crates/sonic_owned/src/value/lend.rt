@@ -291,8 +291,8 @@ impl OwnedLazyValue {
     ///
     /// The first level of the value is opened where its kind fits the node, and once the loan ends the
     /// value is that level with what was left in the item's place. Where nothing is lent it means what
-    /// it meant, and no other level is opened. The only error is `ErrorCode::NoMemory`, of a container that isn't opened and whose
-    /// kind fits, and the value is unchanged then.
+    /// it meant, and no other level is opened. The only error is `ErrorCode::NoMemory`, of a container
+    /// that isn't opened and whose kind fits, and the value is unchanged then.
     ///
     /// ```text
     /// let mut value = OwnedLazyValue::from_str(alloc, "{\"a\": 1}")?;
@@ -326,8 +326,9 @@ impl OwnedLazyValue {
     ///
     /// Each level on the way is opened whose kind fits its node, and once the loan ends the value has
     /// what was left in the part's place. Where nothing is lent the value means what it meant, and no
-    /// other level is opened. The errors are `ErrorCode::RecursionLimitExceeded` of a path of more than 255 nodes, before all
-    /// else, and then the value is unchanged, and `ErrorCode::NoMemory`, where a level is to be opened.
+    /// other level is opened. The errors are `ErrorCode::RecursionLimitExceeded` of a path of more than
+    /// 255 nodes, before all else, and then the value is unchanged, and `ErrorCode::NoMemory`, where a
+    /// level is to be opened.
     ///
     /// ```text
     /// let mut value = OwnedLazyValue::from_str(alloc, "{\"c\": [0, 1, 2]}")?;

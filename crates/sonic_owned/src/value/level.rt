@@ -12,7 +12,7 @@ use sonic_input::FastStr;
 use std::alloc::Global;
 
 impl LazyArray {
-    /// An array without elements, which takes no memory yet.
+    /// An array without elements.
     pub fn new(alloc: Global) -> LazyArray
         ensures { elements result ≡ [] }
     {
@@ -112,7 +112,7 @@ impl LazyArray {
 }
 
 impl LazyObject {
-    /// An object without members, which takes no memory yet.
+    /// An object without members.
     pub fn new(alloc: Global) -> LazyObject
         ensures { members result ≡ [] }
     {

@@ -18,8 +18,7 @@ use std::alloc::{AllocError, Global};
 impl Value {
     /// An equal value.
     ///
-    /// A value may be as deep as memory lasts, as no level needs stack. The only error is
-    /// `ErrorCode::NoMemory`.
+    /// The only error is `ErrorCode::NoMemory`.
     pub fn clone(&self, alloc: Global) -> Result<Value>
         ensures ok { IfOk result (λ made. tree made ≡ tree self.now) }
         ensures err { IfErr result (λ error. IsPlainError error ErrorCode.NoMemory) }

@@ -12,9 +12,9 @@ use super::Value;
 
 /// Members are compared in their order, and numbers by their text: `1.0` isn't `1`.
 ///
-/// Values may be as deep as memory lasts, as no level needs stack then. The memory comes from where the
-/// value's own came, and only a container inside another one needs some. Where it runs out each level
-/// more is one call more, of which a stack of 8 MiB holds some 50,000.
+/// Containers that are begun wait in memory of where the value's own came from. Only a container inside
+/// another one needs some. Where it runs out each level more is one call more, of which a stack of 8 MiB
+/// holds some 50,000.
 impl PartialEq for Value {
     ghost use Rattle.std.specs.Cmp.{partial_equiv_from_equiv};
     ghost use Rattle.std.proofs.lemmas.Cmp.{on_equiv};
