@@ -7,7 +7,7 @@ use Rattle.std.proofs.lemmas.List.Sums.{prefix_len_stops, prefix_len-drop_no, pr
 use Rattle.std.specs.List.{prefix_len}
 use Rattle.std.specs.Prelude.{Option, Some, None}
 use Rattle.sonic_error.specs.declared.json_type.JsonType.{JsonType}
-use Rattle.sonic_find.specs.Documents.{IsInvalid, text_after}
+use Rattle.sonic_find.specs.Documents.{IsInvalid, no_root, text_after}
 use Rattle.sonic_parser.specs.Faults.{IsStopFor}
 use Rattle.sonic_parser.specs.declared.fault.Fault.{Fault as Cause}
 use Rattle.sonic_parser.specs.declared.fault.Fault.TheVariants.{OutOfMemory, At}
@@ -15,21 +15,24 @@ use Rattle.std.specs.Str.{IsUtf8}
 use Rattle.sonic_parser.specs.Containers.{IsEnd, IsSeparated, IsSeparatorFault}
 use Rattle.sonic_error.specs.declared.code.ErrorCode.{ErrorCode}
 use Rattle.std.proofs.lemmas.Bool.Decides.{nat_tests}
+use Rattle.sonic_text.proofs.Insides.{not_past_byte}
+use Rattle.sonic_text.proofs.Items.{closing_no_comma, head_never_both, opening_one}
 use Rattle.sonic_text.proofs.Places.{after_space_later}
 use Rattle.sonic_text.proofs.Stops.{key_stop}
+use Rattle.sonic_text.proofs.Values.{head_one, items_kind, items_not_empty, items_one, items_open, value_never_both}
 use Rattle.sonic_text.proofs.Within.{after_space_within, value_within}
-use Rattle.sonic_text.specs.Documents.{IsWhole, IsRootFault}
-use Rattle.sonic_text.specs.Faults.{IsFault, IsKeyFault, in_key, after_item, code_after_item}
+use Rattle.sonic_text.specs.Documents.{IsWhole}
+use Rattle.sonic_text.specs.Faults.{IsFault, IsKeyFault, in_key, in_value, after_item, code_after_item}
 use Rattle.sonic_text.specs.Places.{byte, is_space, after_space, bad}
 use Rattle.sonic_text.specs.Strings.{strict}
-use Rattle.sonic_text.specs.Values.{opening, ItemHead, no_head, key_head, ItemsFit, next_item, empty, filled}
+use Rattle.sonic_text.specs.Values.{opening, ItemHead, no_head, key_head, IsValue, ItemsFit, next_item, empty, filled}
 use Rattle.sonic_text.specs.declared.kind.Kind.{Kind}
 use Rattle.sonic_text.specs.declared.kind.Kind.TheVariants.{Array, Object}
 use Rattle.sonic_text.specs.declared.stop.Stop.{Stop}
 use Rattle.sonic_c.specs.Begun.{BeginsWith, IsExpected, invalid}
-use Rattle.sonic_c.specs.Containers.{IsHeadAt, no_key, a_key, IsNthItem, HasItemCount, no_items, last_item, HasPassed, none_passed, some_passed, state_number, HasTold, OfEach, IsNextCall, all_told, item_fails, IsContainerAlone, IsCountCall, count_told as counted, count_refused, count_unknown}
+use Rattle.sonic_c.specs.Containers.{IsHeadAt, no_key, a_key, IsNthItem, HasItemCount, no_items, last_item, HasPassed, none_passed, some_passed, state_number, HasTold, HasNoItem, OfEach, IsNextCall, all_told, item_fails, IsContainerAlone, IsCountCall, count_told as counted, count_refused, count_unknown}
 use Rattle.sonic_c.specs.Internal.Begun.{HasBegun, IsTrailing}
-use Rattle.sonic_c.specs.Internal.Items.{TellsClosing, closes, goes_past, TellsCount}
+use Rattle.sonic_c.specs.Internal.Items.{IsItemStop, TellsClosing, closes, goes_past, TellsCount}
 use Rattle.sonic_c.specs.Values.{ValueCells}
 use Rattle.sonic_c.specs.declared.fault.Fault.{Fault}
 use Rattle.sonic_c.specs.declared.begun.Expected.TheVariants.{Container}
@@ -53,9 +56,40 @@ pub head_of : {t : List ℕ} {kind : Kind} {h v : ℕ} {key : Span} → IsHeadAt
 head_of (no_key e twice) = (None, no_head e)
 head_of (a_key {b = b} start string colon) = (Some b, key_head colon)
 
--- a fault in a key is the root's
-pub key_fails : {t : List ℕ} {kind : Kind} {i n h : ℕ} {s : Stop} → ItemsFit strict t kind i n h → (kind ≡ Object) × IsKeyFault strict t h s → IsFault strict t i s
-key_fails {t} {kind} {i} {n} {h} fit f = let is : ItemsFit strict t Object i n h = rw f.0 at fit in in_key is f.1
+-- the key of an item that is there is at the place where it is expected
+head_here : {t : List ℕ} {kind : Kind} {n h : ℕ} {item : Item} → ItemsFit strict t kind (after_space t 0) n h → IsNthItem t kind n item
+    → (label : Option (List ℕ)) × ItemHead strict t kind h item.value.start label
+head_here {t} {kind} {h = h} {item} fit x = let here : IsHeadAt t kind h item.value.start item.key = rw (items_one x.before fit) at x.found.head in head_of here
+
+-- a fault in a key is the root's, and the key's item isn't there
+pub key_fails : {t : List ℕ} {kind : Kind} {n h : ℕ} {s : Stop} → ItemsFit strict t kind (after_space t 0) n h → (kind ≡ Object) × IsKeyFault strict t h s
+    → IsItemStop t kind n s
+key_fails {t} {kind} {n} {h} fit f =
+    let is : ItemsFit strict t Object (after_space t 0) n h = rw f.0 at fit in
+    (in_key is f.1, λ item x. head_never_both f.0 (head_here fit x).1 f.1)
+
+-- and so is one in a value
+pub value_fails : {t : List ℕ} {kind : Kind} {n h v : ℕ} {key : Span} {s : Stop} → ItemsFit strict t kind (after_space t 0) n h → IsHeadAt t kind h v key
+    → IsFault strict t v s → IsItemStop t kind n s
+value_fails {t} {v = v} fit head f =
+    let own = (head_of head).1 in
+    (in_value fit own f, λ item x.
+    let value : IsValue strict t v item.value.end = rw (head_one (head_here fit x).1 own).0 at x.found.value in
+    value_never_both value f)
+
+-- after an item that no comma follows there is no other one
+no_item_after : {t : List ℕ} {kind : Kind} {m n : ℕ} {item : Item} → IsNthItem t kind m item → m < n → byte t (after_space t item.value.end) ≢ 44
+    → HasNoItem t kind n
+no_item_after x later other item y = not_past_byte x.before later (head_of x.found.head).1 x.found.value other y.before
+
+-- nor is there one after all of them
+none_left : {t : List ℕ} {kind : Kind} {n e : ℕ} → HasItemCount t n e → HasNoItem t kind n
+none_left {t} {kind} (no_items k none b end) item x =
+    let same : k ≡ kind = opening_one k kind (let bracket = items_open x.before in omega (arith, b, bracket)) in
+    items_not_empty x.before (rw same at end.0)
+none_left {t} {n = n} (last_item k m last z e end) item x =
+    let y : IsNthItem t k n item = rw (← items_kind z.before x.before) at x in
+    no_item_after z (omega (arith, e)) (λ c. closing_no_comma k (sym end.0 ∙ c)) item y
 
 -- a place that is bad is within the text
 bad_within : (t : List ℕ) (p : ℕ) (code : ErrorCode) (s : Stop) → s ≡ bad t p code → s.place ≤ length t
@@ -92,13 +126,13 @@ pub closed_next : {t : List ℕ} {kind : Kind} {n p j : ℕ} {first : Bool} → 
 closed_next other (none_passed e f is b) y = absurd cc
 closed_next {t} {kind} {j = j} other (some_passed m item x e f q) y = let z : IsEnd t kind item.value.end j = rw q at y in last_item kind m item x e z
 
--- where neither comes, that is the root's fault
+-- where neither comes, that is the root's fault, and there is no other item
 pub stopped_next : {t : List ℕ} {kind : Kind} {n p : ℕ} {s : Stop} {first : Bool} → first ≡ false → HasPassed t kind n first p → IsSeparatorFault t kind p s
-    → IsRootFault t s
+    → IsItemStop t kind n s
 stopped_next other (none_passed e f is b) y = absurd cc
 stopped_next {t} {kind} {s = s} other (some_passed m item x e f q) y =
     let z : IsSeparatorFault t kind item.value.end s = rw q at y in
-    after_item x.before (head_of x.found.head).1 x.found.value z.0 z.1
+    (after_item x.before (head_of x.found.head).1 x.found.value z.0 z.1, no_item_after x (omega (arith, e)) z.0.0)
 
 -- the item that was passed is the last one
 pub passed_item : {t : List ℕ} {kind : Kind} {n p : ℕ} {item : Item} → IsNthItem t kind n item → p ≡ item.value.end → HasPassed t kind (n + 1) false p
@@ -183,6 +217,11 @@ told_item {t} {kind} {k} {n} {item = item} {state} is x passes next =
     let here = passes r.1 in
     rw r.0 (here, record { is_first = false; state = next; passed = passed_item here refl })
 
+-- the fault of the next item is why the text is none
+pub fault_told : {t : List ℕ} {kind k : Kind} {n : ℕ} {first : Bool} {items : Items} {s : Stop} → items.state ≡ state_number kind first → HasTold t k n items
+    → (HasPassed t kind n first (after_space t items.place) → IsItemStop t kind n s) → ((is_bytes : Bool) → IsInvalid t is_bytes s) × HasNoItem t k n
+fault_told is x stops = let r = resumed is x in let stop = stops r.1 in rw r.0 (λ is_bytes. no_root stop.0, stop.1)
+
 -- a bracket is that of a container
 pub bracket_begun : (kind : JsonType) (b : ℕ) → BeginsWith kind b → IsExpected Container kind → b ≢ 123 → b ≡ 91
 bracket_begun kind b begins (inl e) other = rw e at begins
@@ -193,7 +232,7 @@ pub closed_told : {t : List ℕ} {e : ℕ} {items : Items} {item : Item} {before
     → TellsClosing t e before after status
     → IsNextCall t (record { items = items; item = item; error = before }) (record { items = record items { state = 0 }; item = item; error = after }) status
 closed_told {e = e} has (closes rest is same) = all_told (λ kind n x. record { end = e; items = has kind n x; after = rest }) is (rw same refl)
-closed_told has (goes_past s f is numbers) = item_fails s (λ kind n x. past_items (has kind n x) f) is numbers refl refl
+closed_told has (goes_past s f is numbers) = item_fails s (λ kind n x. (past_items (has kind n x) f, none_left (has kind n x))) is numbers refl refl
 
 -- and so is how many items there are
 pub count_told : {t : List ℕ} {before after : ValueCells ℕ} {status : ℕ} → HasBegun Container t → (found : Result ℕ Cause) → IfOk found (IsContainerAlone t) → OnOk found (IsUtf8 t)

@@ -1,5 +1,5 @@
 -- The items of the container that begins a text (RFC 8259, sections 4 and 5), and what the calls that go through them come to.
-use Rattle.std.specs.Prelude.{◌≡◌, ℕ, ◌+◌, Bool, true, false, List, length}
+use Rattle.std.specs.Prelude.{◌≡◌, ◌≢◌, ℕ, ◌+◌, Bool, true, false, List, length}
 use Rattle.std.specs.Str.{IsUtf8}
 use Rattle.sonic_error.specs.declared.json_type.JsonType.{JsonType}
 use Rattle.sonic_error.specs.declared.code.ErrorCode.TheVariants.{InvalidUTF8}
@@ -69,6 +69,10 @@ state_number Array false = 2
 state_number Object true = 3
 state_number Object false = 4
 
+-- the cursor has ended: it expects no item
+abbrev pub HasEnded : Items → Type 0
+HasEnded items = (kind : Kind) (is_first : Bool) → items.state ≢ state_number kind is_first
+
 -- the cursor has told n items of the container of this kind that begins the text
 pub record HasTold (t : List ℕ) (kind : Kind) (n : ℕ) (items : Items) : Type 0 where
   pub is_first : Bool
@@ -101,13 +105,21 @@ pub record ItemCells : Type 0 where
 abbrev pub OfEach : List ℕ → Items → (Kind → ℕ → Type 0) → Type 0
 OfEach t items Says = (kind : Kind) (n : ℕ) → HasTold t kind n items → Says kind n
 
+-- no item comes after n others
+abbrev pub HasNoItem : List ℕ → Kind → ℕ → Type 0
+HasNoItem t kind n = (item : Item) → ¬ IsNthItem t kind n item
+
+-- the text is invalid for this reason, and the next item isn't there
+abbrev pub IsItemFault : List ℕ → Items → Stop → Type 0
+IsItemFault t items s = OfEach t items (λ kind n. ((is_bytes : Bool) → IsInvalid t is_bytes s) × HasNoItem t kind n)
+
 -- what a call for the next item comes to, with these cells before and after it
 pub data IsNextCall (t : List ℕ) (before after : ItemCells) (status : ℕ) : Type 0 where
   item_told : OfEach t before.items (λ kind n. IsNthItem t kind n after.item × HasTold t kind (n + 1) after.items) → status ≡ status_ok
       → after.error ≡ before.error → IsNextCall t before after status
   all_told : OfEach t before.items (λ kind n. IsContainerAlone t n) → status ≡ status_end → after ≡ record before { items = record before.items { state = 0 } }
       → IsNextCall t before after status
-  item_fails : (s : Stop) → OfEach t before.items (λ kind n. (is_bytes : Bool) → IsInvalid t is_bytes s) → status ≡ status_document_error → AreNumbersOf t s after.error
+  item_fails : (s : Stop) → IsItemFault t before.items s → status ≡ status_document_error → AreNumbersOf t s after.error
       → after.items ≡ record before.items { state = 0 } → after.item ≡ before.item → IsNextCall t before after status
   has_ended : OfEach t before.items (λ kind n. ⊥) → status ≡ status_end → after ≡ before → IsNextCall t before after status
   next_unknown : status ≡ status_no_memory → after ≡ before → IsNextCall t before after status

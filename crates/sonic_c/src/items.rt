@@ -3,8 +3,9 @@ ghost use Rattle.std.specs.Prelude.{◌≡◌, ◌≢◌, ◌≤◌, ℕ, Bool, 
 ghost use Rattle.sonic_text.specs.Places.{byte, after_space};
 ghost use Rattle.sonic_text.specs.Values.{opening};
 ghost use Rattle.sonic_text.specs.declared.kind.Kind.{Kind};
-ghost use Rattle.sonic_c.specs.Containers.{state_number, HasTold, IsBeginCall, IsNextCall};
+ghost use Rattle.sonic_c.specs.Containers.{state_number, HasEnded, HasTold, IsBeginCall, IsNextCall};
 ghost use Rattle.sonic_c.specs.Internal.Items.{TellsClosing};
+ghost use Rattle.sonic_c.specs.Statuses.{status_end};
 
 use crate::begun::{Expected, expect, kind_begun, pass_rest, refuse};
 use crate::fault::{Fault, tell_stop};
@@ -67,9 +68,10 @@ pub extern "C" fn sonic_items_begin(json: &[u8], items: &mut Items, error: &mut 
 /// The item that comes next, if one does, for which the cursor moves on.
 ///
 /// After the last one it is `END`, where nothing but white space follows the container. An error of the
-/// text is told where it is met, and the cursor ends with it. A cursor that has ended is `END`. Memory is
-/// taken only where more than 64 containers are open at once inside the item, or one has a fault: a byte
-/// for each. Where it runs out, the cursor stays.
+/// text is told after all items before it, and the cursor ends with it. A cursor that has ended is `END`,
+/// and nothing is written then. Memory is taken only where more than 64 containers are open at once inside
+/// the item, or one has a fault: a byte for each, by 64 to 65,536 bytes at a time. Where it runs out, the
+/// cursor stays.
 #[unsafe(no_mangle)]
 pub extern "C" fn sonic_items_next(
     alloc: Global,
@@ -78,8 +80,10 @@ pub extern "C" fn sonic_items_next(
     item: &mut Item,
     error: &mut Fault,
 ) -> u32
-    ensures { IsNextCall json.now (record { items = items.old; item = item.old; error = error.old })
+    ensures call { IsNextCall json.now (record { items = items.old; item = item.old; error = error.old })
         (record { items = items.new; item = item.new; error = error.new }) result }
+    ensures ended { HasEnded items.old → (result ≡ status_end) × (items.new ≡ items.old)
+        × (item.new ≡ item.old) × (error.new ≡ error.old) }
 {
     let Some((kind, first)) = going(json, *items) else {
         return END;

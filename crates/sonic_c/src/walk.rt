@@ -1,6 +1,5 @@
 // One item of a container after the other.
 ghost use Rattle.std.specs.Prelude.{◌≡◌, ◌<◌, ◌≤◌, ◌^◌, ℕ, None, true, false, length, IfOk, IfErr, IfSome, OnOk};
-ghost use Rattle.sonic_text.specs.Documents.{IsRootFault};
 ghost use Rattle.sonic_text.specs.Faults.{IsKeyFault};
 ghost use Rattle.sonic_text.specs.Places.{byte, after_space};
 ghost use Rattle.sonic_text.specs.Strings.{strict};
@@ -8,6 +7,7 @@ ghost use Rattle.sonic_text.specs.Values.{opening, ItemsFit};
 ghost use Rattle.sonic_text.specs.declared.kind.Kind.{Kind};
 ghost use Rattle.sonic_parser.specs.Faults.{IsStopFor};
 ghost use Rattle.sonic_c.specs.Containers.{IsHeadAt, IsExpectedItem, IsNthItem, HasItemCount, HasPassed};
+ghost use Rattle.sonic_c.specs.Internal.Items.{IsItemStop};
 
 use crate::span::Span;
 use sonic_find::Steps;
@@ -58,7 +58,7 @@ pub(crate) fn pass_item(
         → HasPassed steps.old.text kind n first steps.old.place → HasItemCount steps.old.text n steps.new.place) }
     ensures moved { steps.new ≡ record steps.old { place = steps.new.place } }
     ensures err { IfErr result (IsStopFor (λ s. (n : ℕ)
-        → HasPassed steps.old.text kind n first steps.old.place → IsRootFault steps.old.text s)) }
+        → HasPassed steps.old.text kind n first steps.old.place → IsItemStop steps.old.text kind n s)) }
     ensures stop { IfErr result (IsStopFor (λ s. s.place ≤ length steps.old.text)) }
 {
     if !go_on(steps, kind, first)? {
@@ -81,7 +81,7 @@ fn go_on(steps: &mut Steps<'_>, kind: Kind, first: bool) -> Result<bool, Stop>
     ensures later { IfOk result (λ more. more ≡ true → steps.old.place < steps.new.place) }
     ensures moved { steps.new ≡ record steps.old { place = steps.new.place } }
     ensures err { IfErr result (λ s. (n : ℕ)
-        → HasPassed steps.old.text kind n first steps.old.place → IsRootFault steps.old.text s) }
+        → HasPassed steps.old.text kind n first steps.old.place → IsItemStop steps.old.text kind n s) }
     ensures stop { IfErr result (λ s. s.place ≤ length steps.old.text) }
 {
     if first {
@@ -103,7 +103,7 @@ fn item_at(steps: &mut Steps<'_>, kind: Kind) -> Result<Item, Fault>
     ensures moved { steps.new ≡ record steps.old { place = steps.new.place } }
     ensures err { IfErr result (IsStopFor (λ s. (n : ℕ)
         → ItemsFit strict steps.old.text kind (after_space steps.old.text 0) n steps.old.place
-        → IsRootFault steps.old.text s)) }
+        → IsItemStop steps.old.text kind n s)) }
     ensures stop { IfErr result (IsStopFor (λ s. s.place ≤ length steps.old.text)) }
 {
     let key = key_at(steps, kind)?;

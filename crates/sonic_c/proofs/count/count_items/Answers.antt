@@ -19,7 +19,7 @@ pub returns-in_err-found-clause-err : goal.returns-in_err-found-clause-err
 returns-in_err-found-clause-err c =
     let p = err_from_is_err_and c.from_residual.result c.from_residual.ensures.1 in
     let e = rw c.items.invariant.moved at c.in_err-found.ensures.err in
-    rw (p.1, p.2) (stop_weaker c.in_err-found.field-0.0 (λ s f. f c.items.count c.items.invariant.passed) e)
+    rw (p.1, p.2) (stop_weaker c.in_err-found.field-0.0 (λ s f. (f c.items.count c.items.invariant.passed).0) e)
 
 pub returns-in_default-clause-ok : goal.returns-in_default-clause-ok
 returns-in_default-clause-ok c =

@@ -1,11 +1,10 @@
 use Rattle.std.proofs.Common.{arith}
 use Rattle.std.proofs.lemmas.Result.{err_from_is_err_and}
-use Rattle.sonic_c.proofs.ContainerLemmas.{head_of, key_fails, key_within}
+use Rattle.sonic_c.proofs.ContainerLemmas.{head_of, key_fails, key_within, value_fails}
 use Rattle.sonic_c.proofs.walk.item_at.Goals as goal
 use Rattle.sonic_parser.proofs.FaultLemmas.{stop_weaker}
 use Rattle.sonic_text.proofs.Stops.{fault_within}
 use Rattle.sonic_text.proofs.Values.{head-later, value-longer}
-use Rattle.sonic_text.specs.Faults.{in_value}
 
 pub returns-in_err-key-clause-err : goal.returns-in_err-key-clause-err
 returns-in_err-key-clause-err c =
@@ -21,7 +20,7 @@ pub returns-in_err-skip-clause-err : goal.returns-in_err-skip-clause-err
 returns-in_err-skip-clause-err c =
     let p = err_from_is_err_and c.from_residual-in_err-skip.result c.from_residual-in_err-skip.ensures.1 in
     let e = rw c.in_ok-key.ensures.moved at c.in_err-skip.ensures.err in
-    rw (p.1, p.2) (stop_weaker c.in_err-skip.field-0.0 (λ s f n fit. in_value fit (head_of c.in_ok-key.ensures.head).1 f) e)
+    rw (p.1, p.2) (stop_weaker c.in_err-skip.field-0.0 (λ s f n fit. value_fails fit c.in_ok-key.ensures.head f) e)
 
 pub returns-in_err-skip-clause-stop : goal.returns-in_err-skip-clause-stop
 returns-in_err-skip-clause-stop c =
