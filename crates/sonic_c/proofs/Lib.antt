@@ -8,6 +8,7 @@ mod ListLemmas
 mod ManyLemmas
 mod PatchLemmas
 mod PathsValues
+mod SureLemmas
 mod TextLemmas
 mod ToldLemmas
 mod UnboxedValues

@@ -1,6 +1,6 @@
 -- What is told of a list of paths is what a call for it comes to.
 use Rattle.std.proofs.Common.{◌≡◌, ◌≢◌, inl, inr, refl, ap, ◌∙◌, ℕ, suc, List, [], ◌∷◌, ◌++◌, ◌≤◌, true, length, map, take, drop, take_all, Ok, Err, Result, OnOk, IfErr, arith}
-use Rattle.std.proofs.lemmas.List.{length-map, append-nil}
+use Rattle.std.proofs.lemmas.List.{length-map, append-nil, nil_from_length}
 use Rattle.std.proofs.Math.ListN.{drop_of_length-le}
 use Rattle.std.specs.Prelude.{Option}
 use Rattle.sonic_error.specs.Errors.{IsPlainError}
@@ -13,7 +13,7 @@ use Rattle.sonic_find.specs.Spans.{pairs_of}
 use Rattle.sonic_find.specs.declared.span.Span.{Span as Slot}
 use Rattle.sonic_pointer.specs.declared.rule.KeyRule.{KeyRule}
 use Rattle.sonic_text.specs.Paths.{Path}
-use Rattle.sonic_c.specs.Kept.{PathList, no_list}
+use Rattle.sonic_c.specs.Kept.{PathList}
 use Rattle.sonic_c.specs.Lists.{IsListCall, TellsListRefused}
 use Rattle.sonic_c.specs.Statuses.{status_ok, status_document_error, status_wrong_count}
 use Rattle.sonic_c.specs.Told.{ManyCells, at_line, shown_span}
@@ -37,8 +37,8 @@ pub answer_long : {r : KeyRule} {t : List ℕ} {paths : List Path} {entries : Li
 answer_long a = come_long a.come_to ∙ lead_long a.lead
 
 -- no path is answered with nothing
-pub none_answered : (t : List ℕ) → IsAnswerBy no_list.rule t true no_list.paths (spans [])
-none_answered t = record { outcomes = []; lead = no_more; come_to = no_path }
+pub none_answered : {rule : KeyRule} {paths : List Path} (t : List ℕ) → paths ≡ [] → IsAnswerBy rule t true paths (spans [])
+none_answered t none = record { outcomes = []; lead = rw none no_more; come_to = no_path }
 
 refusal_told : {t : List ℕ} {list : PathList} {e : Error} {before after : Fault} {status : ℕ} → IsRefusalBy list.rule t true list.paths e → TellsError e before after status
     → status ≡ status_document_error → TellsListRefused t list after
@@ -63,6 +63,12 @@ module _ {t : List ℕ} {list : PathList} {before after : ManyCells} {status : �
     error_kept = λ e. same;
     complete = λ long can. inl is;
   }
+
+  -- where no spans are asked for, none are
+  pub list_of_none : length list.paths ≡ length before.spans → length before.spans ≡ 0 → status ≡ status_ok → after ≡ before → IsListCall t list before after status
+  list_of_none long none is same =
+      list_found [] (none_answered t (nil_from_length list.paths (long ∙ none))) is (ap (λ (cells : ManyCells). cells.spans) same ∙ nil_from_length before.spans none)
+      (ap (λ (cells : ManyCells). cells.error) same)
 
   -- an error is told
   pub list_refused : (e : Error) → length list.paths ≡ length before.spans → IsRefusalBy list.rule t true list.paths e

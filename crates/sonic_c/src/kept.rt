@@ -1,8 +1,9 @@
 // Paths that are kept, with the room of a walk along them.
-ghost use Rattle.std.specs.Prelude.{◌≡◌, length, map, IfOk};
+ghost use Rattle.std.specs.Prelude.{◌≡◌, ◌≢◌, length, map, [], IfOk};
 ghost use Rattle.sonic_pointer.specs.declared.rule.KeyRule.TheVariants.{First};
 ghost use Rattle.sonic_text.specs.Documents.{StartsWithUtf8Value};
 ghost use Rattle.sonic_c.specs.Lists.{IsListCall};
+ghost use Rattle.sonic_c.specs.Statuses.{status_ok, status_no_memory};
 ghost use Rattle.sonic_c.specs.Internal.Told.{shown_slot};
 
 use crate::fault::{Fault, tell};
@@ -68,6 +69,7 @@ impl Kept {
         ensures call { IsListCall json.now self.old
             (record { spans = spans.old; error = error.old })
             (record { spans = spans.new; error = error.new }) result }
+        ensures no_paths { self.old.paths ≡ [] → spans.old ≡ [] → result ≡ status_ok }
         ensures kept { self.new ≡ self.old }
     {
         let len = self.len();
@@ -90,6 +92,8 @@ impl Kept {
         ensures call { IsListCall json.now self.old
             (record { spans = spans.old; error = error.old })
             (record { spans = spans.new; error = error.new }) result }
+        ensures memory { self.old.rule ≡ First → result ≢ status_no_memory }
+        ensures no_paths { self.old.paths ≡ [] → spans.old ≡ [] → result ≡ status_ok }
         ensures kept { self.new ≡ self.old }
     {
         let len = self.len();
@@ -105,14 +109,18 @@ impl Kept {
         }
     }
 
-    // Tells where the paths lead in a text, where as many spans are there.
+    // Tells where the paths lead in a text, where as many spans are there. For none the text isn't read.
     fn walk(&mut self, alloc: Global, json: &[u8], spans: &mut [Span], error: &mut Fault) -> u32
         requires { length self.old.paths ≡ length spans.old }
         ensures call { IsListCall json.now self.old
             (record { spans = spans.old; error = error.old })
             (record { spans = spans.new; error = error.new }) result }
+        ensures no_paths { self.old.paths ≡ [] → result ≡ status_ok }
         ensures kept { self.new ≡ self.old }
     {
+        if spans.is_empty() {
+            return OK;
+        }
         match find_many_by(alloc, &mut self.room, json, &self.tree, self.rule) {
             Ok(()) => {
                 fill_from_room(spans, &self.room);
@@ -135,9 +143,10 @@ fn walk_unchecked(
     requires starts { StartsWithUtf8Value json.now }
     requires slots { length slots.old ≡ length tree.now }
     requires spans { length tree.now ≡ length spans.old }
-    ensures { IsListCall json.now (record { rule = First; paths = tree.now })
+    ensures call { IsListCall json.now (record { rule = First; paths = tree.now })
         (record { spans = spans.old; error = error.old })
         (record { spans = spans.new; error = error.new }) result }
+    ensures memory { result ≢ status_no_memory }
 {
     let found = find_many_unchecked(json, tree, slots);
     tell_all(found, slots, spans, error)

@@ -1,8 +1,10 @@
 // Where paths that are kept lead.
-ghost use Rattle.std.specs.Prelude.{◌≡◌, ℕ, List};
+ghost use Rattle.std.specs.Prelude.{◌≡◌, ◌≢◌, ℕ, List, []};
+ghost use Rattle.sonic_pointer.specs.declared.rule.KeyRule.TheVariants.{First};
 ghost use Rattle.sonic_text.specs.Documents.{StartsWithUtf8Value};
 ghost use Rattle.sonic_c.specs.Kept.{no_list};
 ghost use Rattle.sonic_c.specs.Lists.{IsListCall};
+ghost use Rattle.sonic_c.specs.Statuses.{status_ok, status_no_memory};
 
 use crate::fault::Fault;
 use crate::paths::Paths;
@@ -14,7 +16,7 @@ use std::alloc::Global;
 /// lines, but that their rule says which of equal keys counts.
 ///
 /// Under the rule that the first one counts, a call takes memory only where it needs more than each one
-/// before.
+/// before. Without paths it is `OK` of no spans, and the text isn't read.
 #[unsafe(no_mangle)]
 pub extern "C" fn sonic_get_many_with(
     alloc: Global,
@@ -26,6 +28,7 @@ pub extern "C" fn sonic_get_many_with(
     ensures call { IsListCall json.now paths.old.list
         (record { spans = spans.old; error = error.old })
         (record { spans = spans.new; error = error.new }) result }
+    ensures no_paths { paths.old.list.paths ≡ [] → spans.old ≡ [] → result ≡ status_ok }
     ensures list { paths.new.list ≡ paths.old.list }
     ensures count { paths.new.count ≡ paths.old.count }
 {
@@ -52,6 +55,8 @@ pub extern "C" fn sonic_get_many_with_unchecked(
     ensures call { IsListCall json.now paths.old.list
         (record { spans = spans.old; error = error.old })
         (record { spans = spans.new; error = error.new }) result }
+    ensures memory { paths.old.list.rule ≡ First → result ≢ status_no_memory }
+    ensures no_paths { paths.old.list.paths ≡ [] → spans.old ≡ [] → result ≡ status_ok }
     ensures list { paths.new.list ≡ paths.old.list }
     ensures count { paths.new.count ≡ paths.old.count }
 {
@@ -65,9 +70,11 @@ pub extern "C" fn sonic_get_many_with_unchecked(
 
 // Tells that no path leads anywhere.
 fn follow_none(spans: &mut [Span], error: &mut Fault) -> u32
-    ensures { (text : List ℕ) → IsListCall text no_list
+    ensures call { (text : List ℕ) → IsListCall text no_list
         (record { spans = spans.old; error = error.old })
         (record { spans = spans.new; error = error.new }) result }
+    ensures memory { result ≢ status_no_memory }
+    ensures no_paths { spans.old ≡ [] → result ≡ status_ok }
 {
     if spans.is_empty() {
         return OK;

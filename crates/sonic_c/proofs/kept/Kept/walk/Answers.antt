@@ -1,12 +1,16 @@
 use Rattle.std.proofs.Common.{refl, sym, ap, subst, ◌∙◌, length}
+use Rattle.std.proofs.lemmas.Bool.{eqb-true}
 use Rattle.std.proofs.lemmas.List.{length-map}
 use Rattle.std.specs.Prelude.{option_map}
 use Rattle.sonic_find.specs.Spans.{pairs_of, pair_of}
 use Rattle.sonic_c.specs.Kept.{PathList}
 use Rattle.sonic_c.specs.Lists.{IsListCall}
-use Rattle.sonic_c.proofs.ListLemmas.{answer_long, list_found, list_refused, slots_shown}
+use Rattle.sonic_c.proofs.ListLemmas.{answer_long, list_found, list_of_none, list_refused, slots_shown}
 use Rattle.sonic_c.proofs.kept.Kept.walk.Goals.{in-Ok, in-Err}
 use Rattle.sonic_c.proofs.kept.Kept.walk.Goals as goal
+
+pub returns-then-is_empty-clause-call : goal.returns-then-is_empty-clause-call
+returns-then-is_empty-clause-call c = let none = eqb-true _ 0 (sym c.if-is_empty.ensures) in list_of_none c.requires none refl refl
 
 pub fill_from_room-requires : goal.fill_from_room-requires
 fill_from_room-requires c =
