@@ -1,7 +1,7 @@
 // The walk that writes the cells: one step for each item, and one for each container that ends. Its only
 // stack is the cells.
 ghost use Rattle.std.specs.Str.{IsUtf8};
-ghost use Rattle.std.specs.Prelude.{◌≡◌, ◌+◌, ◌-◌, ◌^◌, ◌<◌, ◌≤◌, Bool, false, List, [], ◌∷◌, ◌++◌, Some, length, get_or, set, slice_get, IfOk, IfErr, OnOk};
+ghost use Rattle.std.specs.Prelude.{◌≡◌, ◌+◌, ◌-◌, ◌^◌, ◌<◌, ◌≤◌, ◌↔◌, Bool, false, IsTrue, List, [], ◌∷◌, ◌++◌, Some, length, get_or, set, slice_get, IfOk, IfErr, OnOk};
 ghost use Rattle.sonic_text.specs.declared.kind.Kind.{Kind};
 ghost use Rattle.sonic_text.specs.Documents.{IsRootFault};
 ghost use Rattle.sonic_text.specs.Places.{byte, after_space};
@@ -364,6 +364,13 @@ fn entries(text: &[u8], written: &mut Written, start: usize) -> Result<usize, Fa
     }
 }
 
+// Whether the places in a text fit a cell: it has less than 4 GiB.
+fn fits(text: &[u8]) -> bool
+    ensures { IsTrue result ↔ (length text.now < 2 ^ 32) }
+{
+    text.len() <= u32::MAX as usize
+}
+
 // The cells of a text that is one value with nothing but white space round it, or the reason why it is
 // none. Of a text of 4 GiB and more the places don't fit a cell: it runs out of memory.
 fn whole(alloc: Global, read: Read<'_>) -> Result<Written, Fault>
@@ -376,7 +383,7 @@ fn whole(alloc: Global, read: Read<'_>) -> Result<Written, Fault>
     ensures within { IfErr result (IsStopFor (λ s. s.place ≤ length read.entry.text)) }
 {
     let text = read.as_u8_slice();
-    if text.len() > u32::MAX as usize {
+    if !fits(text) {
         return Err(Fault::OutOfMemory);
     }
     let mut written = Written {

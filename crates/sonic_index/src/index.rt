@@ -63,8 +63,9 @@ impl<'de> JsonIndex<'de> {
     /// Running out of memory is `ErrorCode::NoMemory` without a place, and so is a text of 4 GiB and
     /// more, whose places don't fit the index.
     ///
-    /// The text is walked once, without recursion: 16 bytes are kept of each value, and they are the walk's
-    /// only stack. Depth is bounded by memory alone. Room is taken at once for as many values
+    /// One walk without recursion finds the values: 16 bytes are kept of each, and they are the walk's
+    /// only stack. Before it the text's commas and brackets are counted, and after it the text of bytes is
+    /// checked for UTF-8. Depth is bounded by memory alone. Room is taken at once for as many values
     /// as commas and brackets allow, or bit by bit where that is refused. The members of objects within
     /// which more than 64 values lie are then sorted by their keys, in n log n comparisons: 4 bytes are
     /// kept of each, and while they are sorted 24 more, with a copy of each key that has an escape.
@@ -120,6 +121,7 @@ impl<'de> JsonIndex<'de> {
     pub fn entry(&self, i: usize) -> Option<Entry>
         ensures entry { result ≡ slice_get self.now.entries i }
         ensures is { IfSome result (IsEntry self.now.text self.now.entries) }
+        ensures all { AreEntries self.now.text self.now.entries }
     {
         if self.cells.len() <= i {
             return None;

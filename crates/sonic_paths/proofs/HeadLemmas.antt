@@ -2,7 +2,7 @@
 use Rattle.std.proofs.Common.{◌≡◌, ℕ, ◌+◌, ◌<◌, ◌≤◌, List, [], ◌∷◌, ◌++◌, length, length-append, append_assoc, append-nil, arith, refl}
 use Rattle.std.specs.Prelude.{slice_range}
 use Rattle.sonic_paths.specs.declared.head.HeadEnd.TheVariants.{Document, Bad}
-use Rattle.sonic_paths.specs.Heads.{line_end, line_at, IsBlank, IsHead, blank_line, blank_end, last_line, one_more_line, AreSaid, no_more_lines, next_line, IsBad, EndsHead}
+use Rattle.sonic_paths.specs.Heads.{line_end, line_at, IsBlank, IsHead, blank_line, blank_end, last_line, one_more_line, AreSaid, no_more_lines, next_line, IsBad, EndsHead, StopsInHead}
 use Rattle.sonic_paths.proofs.Heads.{document_within, head_of_line}
 use Rattle.sonic_paths.proofs.SaidLemmas.{said_more}
 
@@ -43,6 +43,12 @@ module _ {S : Type 0} {Says : S → List ℕ → S → Type 0} {t : List ℕ} {b
         let line : Says after (line_at t start) now = rw place at says in
         let head = s.follow (last_line text (rw place at at_end) at_end) in
         (s.lines ++ line_at t start ∷ [], document_within head, head, said_more s.said line)
+
+    -- where the line isn't read those before it are said
+    pub stopped_read : start ≤ length t → {now : S} → now ≡ after → StopsInHead Says t before now
+    stopped_read within {now} kept =
+        let h = head_of_line t start within text in
+        rw kept (record { good = s.lines; line = line_at t start; rest = h.0; document = h.1; head = s.follow h.2; said = s.said })
 
     -- a bad line is the first that is bad
     pub bad_read : start ≤ length t → IsBad Says after (slice_range t start end) → {n : ℕ} → n ≡ count + 1 → {now : S} → now ≡ after → EndsHead Says t before now (Bad n)

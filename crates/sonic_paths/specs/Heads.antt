@@ -53,6 +53,15 @@ pub record IsFirstBad {S : Type 0} (Says : S → List ℕ → S → Type 0) (bef
   pub bad : IsBad Says after line
   pub number : n ≡ length good + 1
 
+-- the head isn't said to its end: the lines before some line of it are said, and no more
+pub record StopsInHead {S : Type 0} (Says : S → List ℕ → S → Type 0) (t : List ℕ) (before after : S) : Type 0 where
+  pub good : List (List ℕ)
+  pub line : List ℕ
+  pub rest : List (List ℕ)
+  pub document : ℕ
+  pub head : IsHead t 0 (good ++ line ∷ rest) document
+  pub said : AreSaid Says before good after
+
 -- how the head of an input ends: all its lines are said, and the document begins at d, or those before line n are said, which is the first that says nothing
 abbrev pub EndsHead : {S : Type 0} → (S → List ℕ → S → Type 0) → List ℕ → S → S → HeadEnd → Type 0
 EndsHead Says t before after (Document d) = (lines : List (List ℕ)) × (d ≤ length t) × IsHead t 0 lines d × AreSaid Says before lines after

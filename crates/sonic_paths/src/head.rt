@@ -1,6 +1,6 @@
 // Heads of lines, whatever the lines say: where they end, and where the document begins.
-ghost use Rattle.std.specs.Prelude.{◌≡◌, ◌≤◌, [], ℕ, List, false, length, IsTrue, IfOk};
-ghost use Rattle.sonic_paths.specs.Heads.{line_end, IsBlank, IsHead, IsBad, EndsHead};
+ghost use Rattle.std.specs.Prelude.{◌≡◌, ◌≤◌, [], ℕ, List, false, length, IsTrue, IfOk, OnErr};
+ghost use Rattle.sonic_paths.specs.Heads.{line_end, IsBlank, IsHead, IsBad, EndsHead, StopsInHead};
 
 use sonic_text::skip_space;
 use std::alloc::{AllocError, Global};
@@ -22,12 +22,14 @@ pub trait LineReader {
     /// Takes what a line says, unless it says nothing.
     ///
     /// `Ok(true)` if it was taken, and `Ok(false)` if the line is bad, which changes nothing. The
-    /// only error is that memory ran out. A line ends before its line feed.
+    /// only error is that memory ran out, which changes nothing either. A line ends before its line
+    /// feed.
     fn read_line(&mut self, alloc: Global, line: &[u8]) -> Result<bool, AllocError>
         ensures good { IfOk result (λ good.
             IsTrue good → says (said self.old) line.now (said self.new)) }
         ensures bad { IfOk result (λ good. good ≡ false → IsBad says (said self.old) line.now) }
-        ensures kept { IfOk result (λ good. good ≡ false → said self.new ≡ said self.old) };
+        ensures kept { IfOk result (λ good. good ≡ false → said self.new ≡ said self.old) }
+        ensures short { OnErr result (said self.new ≡ said self.old) };
 }
 
 /// How the head of an input ends.
@@ -46,13 +48,16 @@ pub enum HeadEnd {
 /// it is empty. So of `[0]\n\n[7]` a tree of paths takes the path `[0]`, and the document begins at
 /// 5.
 ///
-/// The only error is that memory ran out.
+/// The only error is that memory ran out. The reader is then as before the line for which it did:
+/// all lines before that one are read.
 pub fn read_head<R: LineReader>(
     alloc: Global,
     input: &[u8],
     reader: &mut R,
 ) -> Result<HeadEnd, AllocError>
-    ensures { IfOk result (EndsHead R.says input.now (R.said reader.old) (R.said reader.new)) }
+    ensures ends { IfOk result (EndsHead R.says input.now (R.said reader.old) (R.said reader.new)) }
+    ensures short { OnErr result (StopsInHead R.says input.now (R.said reader.old)
+        (R.said reader.new)) }
 {
     let mut start = 0;
     let mut number = 1;

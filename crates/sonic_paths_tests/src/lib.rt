@@ -2,6 +2,9 @@
 //! nothing is wrong.
 #![tactic(auto)]
 
+// Heads that are read into a tree that holds a path.
+#[cfg(test)]
+mod heads;
 // Path lines, and heads of them.
 #[cfg(test)]
 mod lines;

@@ -41,3 +41,9 @@ returns-clause-is c =
     let parent = slice_get_read v.items _ cell.parent c.index-parent.result.now refl right.parent c.index-parent.ensures in
     let entry = entry_read text v.items c.args.i cell c.index-parent.result.now read parent (c.type_of.ensures ∙ ap type_of c.byte_at.ensures.value) c.label.ensures in
     rw (← c.self.view_is) (c.self.invariant.entries.sound _ (read_element _ c.args.i (sym (rw c.bytes-text.ensures at entry))))
+
+pub returns-then-len-i-clause-all : goal.returns-then-len-i-clause-all
+returns-then-len-i-clause-all c = rw (← c.self.view_is) c.self.invariant.entries
+
+pub returns-clause-all : goal.returns-clause-all
+returns-clause-all c = rw (← c.self.view_is) c.self.invariant.entries
