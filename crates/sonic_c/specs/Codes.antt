@@ -14,7 +14,8 @@ wanted_number WantedObject = 0
 wanted_number WantedArray = 1
 wanted_number WantedNumber = 2
 
--- the number that stands for a code: from 1, in the order in which they are declared, and past 99 for a value of another kind than was wanted
+-- the number that stands for a code: past 99 for a value of another type than was wanted, 1 for a schema that is no object, 2 for a failed reading or
+-- writing, and from 3 on in the order in which the other codes are declared
 abbrev pub code_number : ErrorCode → ℕ
 code_number (Message (Mismatch found wanted)) = 100 + 10 * number_of found + wanted_number wanted
 code_number (Message SchemaNotObject) = 1

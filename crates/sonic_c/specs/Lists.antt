@@ -27,6 +27,8 @@ pub record IsPathsCall (lines : List ℕ) (number : ℕ) (before after : PathsCe
   pub count : status ≡ status_ok → after.paths.count ≡ length after.paths.list.paths
   pub bad_lines : status ≡ status_bad_lines → (n : ℕ) × SayBad lines n × (after.error ≡ at_line n)
   pub bad_rule : status ≡ status_bad_rule → 2 < number
+  -- a number of no rule is told, whatever the lines say
+  pub rule_first : 2 < number → status ≡ status_bad_rule
   pub no_other : (status ≡ status_ok) ⊎ (status ≡ status_bad_lines) ⊎ (status ≡ status_bad_rule) ⊎ (status ≡ status_no_memory)
   pub paths_kept : status ≢ status_ok → after.paths ≡ before.paths
   pub error_kept : status ≢ status_bad_lines → after.error ≡ before.error

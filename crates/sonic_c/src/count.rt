@@ -25,7 +25,8 @@ use std::alloc::Global;
 /// space round it.
 ///
 /// All of it is looked at, once. A value of another type is `WRONG_TYPE`. Memory is taken only where more
-/// than 64 containers are open at once inside an item, or one has a fault: a byte for each.
+/// than 64 containers are open at once inside an item, or one has a fault: a byte for each, by 64 to 65,536
+/// bytes at a time.
 #[unsafe(no_mangle)]
 pub extern "C" fn sonic_count(
     alloc: Global,

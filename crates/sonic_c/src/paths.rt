@@ -40,6 +40,7 @@ impl Drop for Paths {
 impl Paths {
     // No paths. They take no memory.
     pub(crate) fn none(alloc: Global) -> Paths
+        ensures held { result.held ≡ 0 }
         ensures count { result.count ≡ 0 }
         ensures list { result.list ≡ no_list }
     {

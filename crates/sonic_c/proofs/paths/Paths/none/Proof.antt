@@ -45,4 +45,5 @@ none_spec 𝓤 𝓛 𝓜 𝓡 wired =
     suffices ! _ (ends_at 𝓛 f.ended stayed c y v (record { kept = null_ptr; held = 0; count = 0; alloc = a.0; list = no_list }) (tt, tt) (tt, tt)) $
     nothing ! $ nothing ! $ join ! $ nothing ! $ group ! 3 $
     use0 𝓛 (raw (fact 𝓤 (no_list ≡ no_list))) (fact_i 𝓤 _ (emp 𝓤) refl) $ use0 𝓛 (raw (fact 𝓤 (0 ≡ 0))) (fact_i 𝓤 _ (emp 𝓤) refl) $ join ! $
+    use0 𝓛 (raw (fact 𝓤 (0 ≡ 0))) (fact_i 𝓤 _ (emp 𝓤) refl) $ join ! $
     move ! (1 ∷ 0 ∷ []) $ done !))
