@@ -167,8 +167,8 @@ uint32_t sonic_get_many(const uint8_t *json, size_t json_length, const uint8_t *
                         size_t paths_length, sonic_span *spans, size_t span_count, sonic_error *error);
 
 /* sonic_get_many for a text that begins with a valid value in UTF-8, with the same statuses. Each path is followed
-   by itself, and what is passed isn't validated: with three paths it took 0.9 of the time over 200 bytes, and 0.3 over 10 KB
-   (measured). */
+   by itself, and what is passed isn't validated: with three paths it took 0.9 of the time over 200 bytes, and 0.3
+   over 10 KB (measured). */
 uint32_t sonic_get_many_unchecked(const uint8_t *json, size_t json_length, const uint8_t *paths,
                                   size_t paths_length, sonic_span *spans, size_t span_count,
                                   sonic_error *error);
