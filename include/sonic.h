@@ -9,8 +9,8 @@
    container. sonic_validate checks a whole document. sonic(3) has an example.
 
    What this header says of a call is proved by its contract, in crates/sonic_c of the repository, but for this:
-   - Tested: a null pointer with the length 0, how much memory a call takes, and the greatest lengths of texts; that
-     C means the same by each number, field and parameter.
+   - Tested: a null pointer with the length 0, how much memory a call takes where it takes some, and the greatest
+     lengths of texts; that C means the same by each number, field and parameter.
    - Measured: speed, in docs/PERFORMANCE.md, and how much stack a call takes.
    Where a call departs from a standard, it is said with the call.
 
@@ -202,8 +202,7 @@ enum {
 
    SONIC_OK: the paths are kept, in memory that sonic_paths_free frees.
    SONIC_BAD_LINES: a line isn't a path, is blank with more after it, or can't go with a line before it.
-   SONIC_BAD_RULE: the number isn't that of a rule; *error is unchanged. If a line is invalid too, either of the two
-   statuses may come.
+   SONIC_BAD_RULE: the number isn't that of a rule, whatever the lines are; *error is unchanged.
    SONIC_NO_MEMORY. */
 uint32_t sonic_paths_new(const uint8_t *lines, size_t lines_length, uint32_t rule, sonic_paths *paths,
                          sonic_error *error);
@@ -256,8 +255,8 @@ uint32_t sonic_string_text(const uint8_t *json, size_t json_length, uint8_t *roo
                            size_t *wanted, sonic_error *error);
 
 /* The number of elements of an array, or of members of an object; a repeated key counts each time. The whole text is
-   validated. Takes memory only if more than 64 containers are open at once inside an item, or an item is invalid
-   (tested). */
+   validated. Takes memory only if more than 64 containers are open at once inside an item, or an item is invalid: a
+   byte for each open container, in steps of 64 to 65,536 bytes (tested). */
 uint32_t sonic_count(const uint8_t *json, size_t json_length, size_t *count, sonic_error *error);
 
 /* A cursor over the items of an array or an object. Only the two calls below write to it. It may be copied, and needs
@@ -290,7 +289,8 @@ uint32_t sonic_items_begin(const uint8_t *json, size_t json_length, sonic_items 
 
    The text has to be the one that sonic_items_begin was given. For another text, or a cursor that it didn't set, the
    result is unspecified, but the call reads only the text and writes only to its outputs. Takes memory only if more
-   than 64 containers are open at once inside the item, or the item is invalid (tested). */
+   than 64 containers are open at once inside the item, or the item is invalid: a byte for each open container, in
+   steps of 64 to 65,536 bytes (tested). */
 uint32_t sonic_items_next(const uint8_t *json, size_t json_length, sonic_items *items, sonic_item *item,
                           sonic_error *error);
 
