@@ -159,7 +159,7 @@ uint32_t sonic_get_unchecked(const uint8_t *json, size_t json_length, const uint
    has the span {0, 0}.
    SONIC_DOCUMENT_ERROR: the text is invalid as far as it is needed, which is to the end of its value if a key is
    missing. Or a path doesn't resolve for another reason, also because it has a key in an empty object. There is one
-   error for all paths; sonic_get of each says which path it is.
+   error for all paths; to learn which path it is, call sonic_get for each.
    SONIC_WRONG_COUNT: there are more or fewer paths than span_count.
    SONIC_BAD_LINES: a line isn't a path, is blank with more after it, or can't go with a line before it.
    SONIC_NO_MEMORY. */
@@ -207,7 +207,7 @@ enum {
 uint32_t sonic_paths_new(const uint8_t *lines, size_t lines_length, uint32_t rule, sonic_paths *paths,
                          sonic_error *error);
 
-/* Frees what is kept, and leaves SONIC_NO_PATHS: held and count are 0. What is free may be freed again, and used
+/* Frees what is kept: held and count are 0 then, as in SONIC_NO_PATHS. What is freed may be freed again, and used
    again. */
 void sonic_paths_free(sonic_paths *paths);
 
