@@ -21,7 +21,9 @@ use Rattle.sonic_error.specs.Codes.{category_of}
 use Rattle.sonic_error.specs.Errors.{error_code, error_offset}
 use Rattle.sonic_error.specs.declared.code.ErrorCode.TheVariants.{NoMemory}
 use Rattle.sonic_error.specs.declared.error.Error.{Error}
-use Rattle.sonic_find.specs.Causes.{IsRefusal, out_of_memory, answered}
+use Rattle.sonic_parser.specs.Faults.{IsErrorOf, IsStopFor}
+use Rattle.sonic_parser.specs.declared.fault.Fault.{Fault}
+use Rattle.sonic_parser.specs.declared.fault.Fault.TheVariants.{OutOfMemory, At}
 use Rattle.sonic_error.specs.Names.{word_of_category, name_of_code}
 use Rattle.sonic_text.proofs.Values.{value-longer}
 use Rattle.sonic_text.specs.Paths.{Path}
@@ -222,11 +224,12 @@ no_error_line {paths} {line} {entries} is e =
     cc
 
 -- the row of a line that was refused
-pub row_refused : {paths : List Path} {line : List ℕ} {error : Error} (old now : List ℕ) (n : ℕ) → IsRefusal line true paths error → (error_code error ≡ NoMemory → ⊥)
+pub row_refused : {paths : List Path} {line : List ℕ} (error : Error) (old now : List ℕ) (n : ℕ) (fault : Fault)
+    → IsStopFor (λ s. IsAnswer line true paths (Answer.error s)) fault → IsErrorOf line fault error → (error_code error ≡ NoMemory → ⊥)
     → ¬ IsBlankLine line
     → now ≡ old ++ (codes "! " ++ decimal n ++ codes " " ++ word_of_category (category_of (error_code error)) ++ codes " " ++ name_of_code (error_code error) ++ codes " "
     ++ decimal (error_offset error) ++ codes "\n")
     → ((row : List ℕ) × IsRow paths n line row × (now ≡ old ++ row)) × IsErrorLine paths line
-row_refused old now n (out_of_memory m) memory filled e = absurd (memory m.code)
-row_refused old now n (answered s a x) memory filled e =
+row_refused error old now n OutOfMemory a m memory filled e = absurd (memory m.code)
+row_refused error old now n (At s) a x memory filled e =
     ((_, refused_row filled a refl, rw (x.code, x.offset) at e), record { stop = s; filled = filled; answer = a })

@@ -8,7 +8,6 @@ use Rattle.std.proofs.Math.ListN.{drop_of_length-le}
 use Rattle.std.specs.Prelude.{slice_range, Some}
 use Rattle.std.specs.Str.{IsUtf8}
 use Rattle.memchr.specs.Find.{is_byte, IsFirstByte}
-use Rattle.sonic_error.specs.declared.error.Error.{Error}
 use Rattle.sonic_text.proofs.Within.{value_within}
 use Rattle.sonic_text.specs.Paths.{Path}
 use Rattle.sonic_text.specs.Strings.{strict}
@@ -16,7 +15,6 @@ use Rattle.sonic_text.specs.Values.{IsValue}
 use Rattle.sonic_find.proofs.AnswerLemmas.Walk.{found_value, lead_from}
 use Rattle.sonic_find.proofs.Utf8Lemmas.{utf8_up_to}
 use Rattle.sonic_find.specs.Answers.{AllLeadBy, IsReach, to_the_root, to_the_furthest, Answer, ComeTo, no_path, failing, cutting, lacking, breaking, finding, IsAnswer}
-use Rattle.sonic_find.specs.Causes.{IsRefusal, out_of_memory, answered}
 use Rattle.sonic_find.specs.Paths.{Outcome, found}
 use Rattle.sonic_pointer.specs.declared.rule.KeyRule.TheVariants.{First}
 
@@ -63,8 +61,3 @@ checked u lead (finding none uncut reach v e) = finding none uncut reach (λ _. 
 -- the answer over a text is that over its bytes
 pub text_answer : {t : List ℕ} {paths : List Path} {a : Answer} → IsUtf8 t → IsAnswer t false paths a → IsAnswer t true paths a
 text_answer u x = record { outcomes = x.outcomes; lead = x.lead; come_to = checked u x.lead x.come_to }
-
--- so is a refusal
-pub text_refusal : {t : List ℕ} {paths : List Path} {error : Error} → IsUtf8 t → IsRefusal t false paths error → IsRefusal t true paths error
-text_refusal u (out_of_memory m) = out_of_memory m
-text_refusal u (answered s a x) = answered s (text_answer u a) x

@@ -3,9 +3,8 @@ ghost use Rattle.std.specs.Prelude.{◌≡◌, ◌+◌, ◌-◌, ◌^◌, ◌<�
 ghost use Rattle.std.specs.Str.{IsUtf8};
 ghost use Rattle.sonic_error.specs.Codes.{category_of};
 ghost use Rattle.sonic_error.specs.Errors.{error_code, error_offset};
-ghost use Rattle.sonic_parser.specs.Faults.{IsErrorOf, IsStopFor};
+ghost use Rattle.sonic_parser.specs.Faults.{IsStopFor};
 ghost use Rattle.sonic_find.specs.Answers.{Answer, IsAnswer};
-ghost use Rattle.sonic_find.specs.Causes.{IsRefusal};
 ghost use Rattle.sonic_find.specs.Parts.{AreSpans};
 ghost use Rattle.sonic_find.specs.Spans.{pair_of, pairs_of};
 ghost use Rattle.sonic_lines.specs.Internal.Rows.{AreWithin, IsMore, tab_before};
@@ -138,8 +137,7 @@ fn find_in_line(
     requires { line.now.is_text ≡ true → IsUtf8 line.now.text.now }
     ensures ok { OnOk result (IsAnswer line.now.text.now true tree.now (Answer.spans (pairs_of room.new))) }
     ensures parts { OnOk result (AreSpans line.now.text.now room.new) }
-    ensures err { IfErr result (λ fault. (error : Error) → IsErrorOf line.now.text.now fault error
-        → IsRefusal line.now.text.now true tree.now error) }
+    ensures err { IfErr result (IsStopFor (λ s. IsAnswer line.now.text.now true tree.now (Answer.error s))) }
     ensures within { IfErr result (IsStopFor (λ s. s.place ≤ length line.now.text.now)) }
 {
     if !line.is_text {
@@ -160,8 +158,7 @@ fn find_in_bytes(
 ) -> Result<(), Fault>
     ensures ok { OnOk result (IsAnswer text.now true tree.now (Answer.spans (pairs_of room.new))) }
     ensures parts { OnOk result (AreSpans text.now room.new) }
-    ensures err { IfErr result (λ fault. (error : Error) → IsErrorOf text.now fault error
-        → IsRefusal text.now true tree.now error) }
+    ensures err { IfErr result (IsStopFor (λ s. IsAnswer text.now true tree.now (Answer.error s))) }
     ensures within { IfErr result (IsStopFor (λ s. s.place ≤ length text.now)) }
 {
     fill_room(alloc, room, text, tree)

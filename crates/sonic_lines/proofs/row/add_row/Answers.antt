@@ -17,9 +17,9 @@ returns-in_ok-add_entries-in-Ok-clause-error c = (λ e. absurd cc, λ x. absurd 
 pub returns-in_ok-add_error-in-Err-clause-row : goal.returns-in_ok-add_error-in-Err-clause-row
 returns-in_ok-add_error-in-Err-clause-row c =
     let filled : ¬ IsBlankLine c.args.line.now.text.now = λ blank. absurd (omega arith) in
-    (row_refused _ _ c.args.line.now.number (c.in-Err.ensures.err c.error.result c.error.ensures) c.in_ok-add_error-in-Err.ensures.memory filled c.in_ok-add_error-in-Err.ensures.ok).0
+    (row_refused c.error.result _ _ c.args.line.now.number c.in-Err.fault c.in-Err.ensures.err c.error.ensures c.in_ok-add_error-in-Err.ensures.memory filled c.in_ok-add_error-in-Err.ensures.ok).0
 
 pub returns-in_ok-add_error-in-Err-clause-error : goal.returns-in_ok-add_error-in-Err-clause-error
 returns-in_ok-add_error-in-Err-clause-error c =
     let filled : ¬ IsBlankLine c.args.line.now.text.now = λ blank. absurd (omega arith) in
-    (λ e. (row_refused _ _ c.args.line.now.number (c.in-Err.ensures.err c.error.result c.error.ensures) c.in_ok-add_error-in-Err.ensures.memory filled c.in_ok-add_error-in-Err.ensures.ok).1, λ x. refl)
+    (λ e. (row_refused c.error.result _ _ c.args.line.now.number c.in-Err.fault c.in-Err.ensures.err c.error.ensures c.in_ok-add_error-in-Err.ensures.memory filled c.in_ok-add_error-in-Err.ensures.ok).1, λ x. refl)

@@ -1,6 +1,7 @@
 use Rattle.std.proofs.Common.{Result, Ok, Err, IfErr}
 use Rattle.std.proofs.lemmas.Result.{on_ok_weaker}
-use Rattle.sonic_lines.proofs.TextLemmas.{text_answer, text_refusal}
+use Rattle.sonic_parser.proofs.FaultLemmas.{stop_weaker}
+use Rattle.sonic_lines.proofs.TextLemmas.{text_answer}
 use Rattle.sonic_lines.proofs.row.find_in_line.Goals as goal
 
 -- what an error says
@@ -19,4 +20,4 @@ returns-clause-parts c = rw (← c.from_utf8_unchecked-text.ensures) c.fill_room
 pub returns-clause-err : goal.returns-clause-err
 returns-clause-err c =
     let text = c.from_utf8_unchecked-text in
-    rw (← text.ensures) (IfErr_then c.fill_room.result (λ e a error reported. text_refusal text.utf8 (a error reported)) c.fill_room.ensures.err)
+    rw (← text.ensures) (IfErr_then c.fill_room.result (λ fault a. stop_weaker fault (λ s x. text_answer text.utf8 x) a) c.fill_room.ensures.err)
