@@ -60,7 +60,7 @@ pub fn find_unchecked<'de, I: JsonInput<'de>>(
     }
 }
 
-/// The spans of the values to which the paths of a tree lead in an input, in one walk.
+/// The spans of the values to which the paths of a tree lead in an input.
 ///
 /// It fills one slot for each path with what `get_many` of `sonic_lazy` answers: the span of its
 /// value in bytes of the input, or `None` where its key is lacked. After an error, which is that of

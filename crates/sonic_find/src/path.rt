@@ -26,8 +26,8 @@ use std::alloc::Global;
 /// Where the value is to which a path leads from the value at the cursor of the steps.
 ///
 /// The steps are then after that value. Else the stop is where it leads nowhere, or the fault of the
-/// text before that. Steps that look at nothing take no memory, and give no `Fault::OutOfMemory`. Over `[5,{"a":7}]` the path `[1, "a"]`
-/// leads to the `7`, from 8 to 9.
+/// text before that. Steps that look at nothing take no memory, and give no `Fault::OutOfMemory`.
+/// Over `[5,{"a":7}]` the path `[1, "a"]` leads to the `7`, from 8 to 9.
 pub fn locate(steps: &mut Steps<'_>, path: &[PointerNode<'_>]) -> Result<Located, Fault>
     requires { IsSkippable steps.old }
     ensures ok { IfOk result (λ x.

@@ -22,10 +22,10 @@ use std::marker::Model;
 
 /// Room for what a walk finds, which the next walk uses again.
 ///
-/// Who asks many texts one after the other, as the lines of a log, keeps one room for all of them: a
-/// text takes memory only where it needs more than each one before. A clause sees the slots of the
-/// last walk, one for each path in the order of the paths: the span of its value in bytes of the text,
-/// or `None` where its key is lacked.
+/// Who asks many texts one after the other, as the lines of a log, keeps one room for all of them, so
+/// that a text mostly needs no new memory. No clause says how much is taken. A clause sees the slots of
+/// the last walk, one for each path in the order of the paths: the span of its value in bytes of the
+/// text, or `None` where its key is lacked.
 #[derive(Drop)]
 pub struct Room {
     memory: Memory,
@@ -74,8 +74,7 @@ impl Room {
     }
 }
 
-/// The spans of the values to which the paths of a tree lead in an input, in one walk, in room that is
-/// used again.
+/// The spans of the values to which the paths of a tree lead in an input, in room that is used again.
 ///
 /// It is what [`find_many`](crate::find_many) answers, with its errors: after an error, the room holds
 /// no slot. Nothing of what the last walk found is left. Of the first of equal keys alone is a member
@@ -128,10 +127,11 @@ pub fn find_many_by<'de, I: JsonInput<'de>>(
     }
 }
 
-/// What [`find_many_in`] finds, or the fault that its error would report, for whom its place and code
-/// suffice: neither line nor column is counted.
+/// What [`find_many_in`] finds, or the place and the code of its error, for whom these suffice: neither
+/// line nor column is counted. At the end of the input the place is its length.
 ///
-/// With the path `["a"]` over `{"a":tru}` it is `Fault::At` 8, with `ErrorCode::InvalidLiteral`.
+/// With the path `["a"]` over `{"a":tru}` it is `Fault::At` 8, with `ErrorCode::InvalidLiteral`, and
+/// over `{"a":` it is `Fault::At` 5, with `ErrorCode::EofWhileParsing`.
 #[inline(always)]
 pub fn fill_room<'de, I: JsonInput<'de>>(
     alloc: Global,
