@@ -82,3 +82,22 @@ fn check_path(
     let value = index.value(number);
     same_at(rt, Some(value.as_raw_str()), wanted, number);
 }
+
+// A path in `{"a":[1,{}]}`, and the number of the value to which it leads.
+const NUMBERS: [(&[PointerNode<'static>], Option<usize>); 7] = [
+    (&[Key("a"), Index(1)], Some(3)),
+    (&[Key("b")], None),
+    (&[], Some(0)),
+    (&[Key("a")], Some(1)),
+    (&[Key("a"), Index(0)], Some(2)),
+    (&[Key("a"), Index(2)], None),
+    (&[Index(0)], None),
+];
+
+#[test]
+fn finds_the_numbers_of_values(rt: HostRuntime) {
+    let index = JsonIndex::build(rt.alloc(), "{\"a\":[1,{}]}").expect(&rt, "a valid document");
+    for &(path, wanted) in &NUMBERS {
+        same_at(&rt, index.find(path), wanted, path);
+    }
+}
