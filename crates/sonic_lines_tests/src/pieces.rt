@@ -63,10 +63,11 @@ fn appends_the_rows_of_lines_that_end(rt: HostRuntime) -> Result<(), Fail> {
 
 // Streams one after the other, and what each gives: its lines are numbered from 1, and nothing of the one
 // before is left.
-const STREAMS: [(&[u8], &[u8]); 6] = [
+const STREAMS: [(&[u8], &[u8]); 7] = [
     (b"{\"id\":1}\n{", b"1 1\n! 2 eof EofWhileParsing 0\n"),
     (b"\n{\"id\":", b"! 2 eof EofWhileParsing 5\n"),
     (b"{\"x\":3}", b"-\n"),
+    (b"{\"id\":\"\xff\"}", b"! 1 syntax InvalidUTF8 7\n"),
     (b"", b""),
     (b" ", b""),
     (b"{\"id\":4}\n", b"1 4\n"),

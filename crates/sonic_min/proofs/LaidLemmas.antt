@@ -18,7 +18,7 @@ use Rattle.sonic_min.specs.declared.wide.Progress.{Progress}
 use Rattle.sonic_min.specs.Internal.Lines.{IsTail, at_end, comma, colon, close, IsRestLaid, token, empty_container, filled_container, IsLaidTo, IsWideOutput}
 use Rattle.sonic_min.specs.Internal.Marks.{is_point, is_mark, HasNoMark, IsNextMark, IsToken, IsNoSpace}
 use Rattle.sonic_min.specs.Internal.Outputs.{Adds, IsMade, IsSplit}
-use Rattle.sonic_min.specs.Texts.{lines, wide, IsWideText}
+use Rattle.sonic_min.specs.Texts.{wide_gaps, wide, IsWideText}
 use Rattle.sonic_min.proofs.DocumentLemmas.{document_spelled, text_valid}
 use Rattle.sonic_min.proofs.MarkLemmas.{document_left, space_at}
 use Rattle.sonic_min.proofs.OutputLemmas.{split_on}
@@ -120,7 +120,7 @@ opening_no_closing Object Object e = absurd (omega arith)
 after_end : (t : List ℕ) {q b : ℕ} → byte t q ≡ b → 0 < b → q ≡ length t → ⊥
 after_end t {q} e some end = let none = byte_after t q (omega (arith, end)) in absurd (omega arith)
 
-comma_tail : {t : List ℕ} {width q d : ℕ} {r : List ℕ} → byte t q ≡ 44 → IsTail t width q d r → (s : List ℕ) × IsRestLaid t width (q + 1) d s × (r ≡ 44 ∷ ((lines width).line d ++ s))
+comma_tail : {t : List ℕ} {width q d : ℕ} {r : List ℕ} → byte t q ≡ 44 → IsTail t width q d r → (s : List ℕ) × IsRestLaid t width (q + 1) d s × (r ≡ 44 ∷ ((wide_gaps width).line d ++ s))
 comma_tail {t} b (at_end e f) = absurd (after_end t b (omega arith) e)
 comma_tail b (comma c l e) = (_, l, e)
 comma_tail b (colon c l e) = absurd (omega (arith, b, c))
@@ -141,14 +141,14 @@ record CloseTail (t : List ℕ) (width q d : ℕ) (r : List ℕ) : Type 0 where
   deep : d ≡ outer + 1
   s : List ℕ
   left : IsRestLaid t width (q + 1) outer s
-  text : r ≡ (lines width).line outer ++ (byte t q ∷ s)
+  text : r ≡ (wide_gaps width).line outer ++ (byte t q ∷ s)
 
 close_tail : {t : List ℕ} {width q d : ℕ} {r : List ℕ} → is_point (byte t q) ≡ true → byte t q ≢ 44 → byte t q ≢ 58 → IsTail t width q d r → CloseTail t width q d r
 close_tail {t} {q = q} point b c (at_end e f) = let none = byte_after t q (omega (arith, e)) in absurd (point_some (byte t q) point none)
 close_tail point b c (comma a l e) = absurd (b a)
 close_tail point b c (colon a l e) = absurd (c a)
 close_tail {width = width} point b c (close kind {e = n} {r = s} a l f e) =
-    record { outer = n; deep = f; s = s; left = l; text = e ∙ ap (λ x. (lines width).line n ++ (x ∷ s)) (sym a) }
+    record { outer = n; deep = f; s = s; left = l; text = e ∙ ap (λ x. (wide_gaps width).line n ++ (x ∷ s)) (sym a) }
 
 -- white space ends where none is
 pub space_stops : (t : List ℕ) (p q : ℕ) → p ≤ q → after_space t p ≤ length t → IsNoSpace t q → after_space t p ≤ q
@@ -177,7 +177,7 @@ comma_laid {t} {width} {q} {one = one} {two} d n b made line =
     let y = comma_tail b x.tail in
     let within = mark_within t q n.here in
     let before = split_on (slice_range t x.i x.j) x.r (rw x.text at d.split) (made x.i x.j x.here) in
-    let piece : Adds one (44 ∷ (lines width).line d.depth) two = rw d.blanks at line in
+    let piece : Adds one (44 ∷ (wide_gaps width).line d.depth) two = rw d.blanks at line in
     record {
       document = d.document;
       spelled = d.spelled;
@@ -185,7 +185,7 @@ comma_laid {t} {width} {q} {one = one} {two} d n b made line =
       blanks = d.blanks;
       left = y.0;
       is_left = y.1;
-      split = split_on (44 ∷ (lines width).line d.depth) y.0 (rw y.2 at before) piece;
+      split = split_on (44 ∷ (wide_gaps width).line d.depth) y.0 (rw y.2 at before) piece;
       within = omega arith;
     }
 
@@ -230,8 +230,8 @@ close_laid {t} {width} {q} {blanks} {one = one} {two} d n a b c e made less line
     let within = mark_within t q n.here in
     let deep : blanks ≡ width * y.outer = omega (arith, less, d.blanks, ap (λ n. width * n) y.deep) in
     let before = split_on (slice_range t x.i x.j) x.r (rw x.text at d.split) (made x.i x.j x.here) in
-    let piece : Adds one ((lines width).line y.outer ++ byte t q ∷ []) two = rw deep at line in
-    let text : x.r ≡ ((lines width).line y.outer ++ byte t q ∷ []) ++ y.s = y.text ∙ sym (append_assoc ((lines width).line y.outer) (byte t q ∷ []) y.s) in
+    let piece : Adds one ((wide_gaps width).line y.outer ++ byte t q ∷ []) two = rw deep at line in
+    let text : x.r ≡ ((wide_gaps width).line y.outer ++ byte t q ∷ []) ++ y.s = y.text ∙ sym (append_assoc ((wide_gaps width).line y.outer) (byte t q ∷ []) y.s) in
     record {
       document = d.document;
       spelled = d.spelled;
@@ -239,7 +239,7 @@ close_laid {t} {width} {q} {blanks} {one = one} {two} d n a b c e made less line
       blanks = deep;
       left = y.s;
       is_left = y.left;
-      split = split_on ((lines width).line y.outer ++ byte t q ∷ []) y.s (rw text at before) piece;
+      split = split_on ((wide_gaps width).line y.outer ++ byte t q ∷ []) y.s (rw text at before) piece;
       within = omega arith;
     }
 
@@ -270,7 +270,7 @@ empty_left {t} {q = q} kind n b c (filled_container k {q = a} m o p l e) =
     absurd (other c)
 
 filled_left : {t : List ℕ} {width p q d : ℕ} {s : List ℕ} (kind : Kind) → IsNextMark t p q → byte t q ≡ opening kind → byte t (after_space t (q + 1)) ≢ closing kind
-    → IsRestLaid t width p d s → (r : List ℕ) × IsRestLaid t width (q + 1) (d + 1) r × (s ≡ opening kind ∷ ((lines width).line (d + 1) ++ r))
+    → IsRestLaid t width p d s → (r : List ℕ) × IsRestLaid t width (q + 1) (d + 1) r × (s ≡ opening kind ∷ ((wide_gaps width).line (d + 1) ++ r))
 filled_left {t} {q = q} kind n b c (token {q = a} none at x tail e) =
     let same : a ≡ q = next_one (token_from x) none at n in absurd (no_tail kind b (rw same at tail))
 filled_left {t} {q = q} kind n b c (empty_container k {q = a} m o p l e) =
@@ -313,7 +313,7 @@ filled_laid {t} {width} {q} {blanks} {out} {one} kind d n b c more line =
     let y = filled_left kind n b c d.is_left in
     let within = mark_within t q n.here in
     let deep : blanks ≡ width * (d.depth + 1) = omega (arith, more, d.blanks) in
-    let piece : Adds out (opening kind ∷ (lines width).line (d.depth + 1)) one = rw deep at line in
+    let piece : Adds out (opening kind ∷ (wide_gaps width).line (d.depth + 1)) one = rw deep at line in
     record {
       document = d.document;
       spelled = d.spelled;
@@ -321,7 +321,7 @@ filled_laid {t} {width} {q} {blanks} {out} {one} kind d n b c more line =
       blanks = deep;
       left = y.0;
       is_left = y.1;
-      split = split_on (opening kind ∷ (lines width).line (d.depth + 1)) y.0 (rw y.2 at d.split) piece;
+      split = split_on (opening kind ∷ (wide_gaps width).line (d.depth + 1)) y.0 (rw y.2 at d.split) piece;
       within = omega arith;
     }
 
@@ -377,4 +377,4 @@ finished {t} {width} {out} {one} d none made =
 
 -- the wide text of a valid document is UTF-8
 pub wide_utf8 : {t b : List ℕ} {width : ℕ} → IsValidDocument t → IsWideText t width b → IsUtf8 b
-wide_utf8 {width = width} valid w = rw w.is (text_valid (lines width) (lines_spaces width) valid w.spelled).utf8
+wide_utf8 {width = width} valid w = rw w.is (text_valid (wide_gaps width) (lines_spaces width) valid w.spelled).utf8

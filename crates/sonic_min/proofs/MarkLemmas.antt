@@ -20,7 +20,7 @@ use Rattle.sonic_text.proofs.Values.{value-longer, items_open}
 use Rattle.sonic_min.specs.Internal.Lines.{IsTail, at_end, comma, colon, close, IsRestLaid, token, empty_container, filled_container}
 use Rattle.sonic_min.specs.Internal.Marks.{is_point, is_mark, HasNoMark, IsNextMark, IsToken}
 use Rattle.sonic_min.specs.Spellings.{Spelling, Parts, HeadSpelled, no_key, key_spelled, IsSpelled, scalar_spelled, empty_spelled, filled_spelled, PartsSpelled, last_part, more_parts}
-use Rattle.sonic_min.specs.Texts.{Gaps, lines, key_text, last_line, spread, spread_parts, wide, IsDocumentSpelled}
+use Rattle.sonic_min.specs.Texts.{Gaps, wide_gaps, key_text, last_line, spread, spread_parts, wide, IsDocumentSpelled}
 use Rattle.sonic_min.proofs.KeptLemmas.{all_fail, each_fails, StandsAlone, comma_mark, colon_mark, opening_mark, closing_mark, mark, nothing, spaced, head_keeps, value_keeps}
 use Rattle.sonic_min.proofs.NumberBytes.{number_bytes}
 
@@ -165,7 +165,7 @@ mark_next {t} {p} {i} start here = record {
 
 -- the key of a member is made before its value
 head_left : {t : List ℕ} {width d p h v : ℕ} {kind : Kind} {k : Option (List ℕ)} {s : List ℕ} → IsClear t 0 h → after_space t p ≡ h → HeadSpelled t kind h v k
-    → ((u : ℕ) → after_space t u ≡ v → IsRestLaid t width u d s) → IsRestLaid t width p d (key_text (lines width) k ++ s)
+    → ((u : ℕ) → after_space t u ≡ v → IsRestLaid t width u d s) → IsRestLaid t width p d (key_text (wide_gaps width) k ++ s)
 head_left {p = p} clear start (no_key e) value = value p (start ∙ sym e)
 head_left {t} {width} {p = p} {h} {s = s} clear start (key_spelled {c = c} y e) value =
     let x = string_plain clear y.string in
@@ -187,18 +187,18 @@ last_is (more_parts y x c q is) g d = refl
 
 -- the last line of a container at this depth, and what follows it
 abbrev last_text : ℕ → ℕ → Kind → List ℕ → List ℕ
-last_text width d kind after = (lines width).line d ++ (closing kind ∷ after)
+last_text width d kind after = (wide_gaps width).line d ++ (closing kind ∷ after)
 
 -- what is left of a container's parts, of which the first is expected after p, and its line is made
 record PartsLeft (t : List ℕ) (width d p : ℕ) (kind : Kind) (xs : Parts) (after : List ℕ) : Type 0 where
   left : List ℕ
   is_left : IsRestLaid t width p (d + 1) left
-  text : (before : List ℕ) → spread_parts (lines width) (d + 1) before xs ++ last_text width d kind after ≡ before ++ ((lines width).line (d + 1) ++ left)
+  text : (before : List ℕ) → spread_parts (wide_gaps width) (d + 1) before xs ++ last_text width d kind after ≡ before ++ ((wide_gaps width).line (d + 1) ++ left)
 
 mutual
   -- a value, and what comes after it
   value_left : {t : List ℕ} {width d p i j : ℕ} {x : Spelling} {r : List ℕ} → IsClear t 0 i → after_space t p ≡ i → IsSpelled t i j x → AtMark t (after_space t j)
-      → IsTail t width (after_space t j) d r → IsRestLaid t width p d (spread (lines width) d x ++ r)
+      → IsTail t width (after_space t j) d r → IsRestLaid t width p d (spread (wide_gaps width) d x ++ r)
   value_left {r = r} clear start (scalar_spelled v plain e) at tail =
       let x = scalar_plain clear v plain in
       token (no_mark_up_to start x) at (plain_token start x) tail (ap (λ s. s ++ r) e)
@@ -211,7 +211,7 @@ mutual
       let inside = (spaced (mark (opening kind) (opening_mark kind) clear b)).clear in
       let first : IsClear t 0 h = rw q inside in
       let parts = parts_left first (sym q) is (after_value at tail) in
-      let g = lines width in
+      let g = wide_gaps width in
       let filled : byte t (after_space t (i + 1)) ≢ closing kind = rw q at o in
       filled_container kind next b filled parts.is_left
       (ap (λ s. opening kind ∷ s) (three (spread_parts g (d + 1) [] xs) (last_line g d xs) (closing kind ∷ []) r
@@ -224,7 +224,7 @@ mutual
       let head = head_keeps clear y in
       let ended = spaced (value_keeps 0 head.clear a) in
       let here = mark_at (closing kind) (closing_mark kind) (closing_point kind) ended.clear c in
-      let g = lines width in
+      let g = wide_gaps width in
       let left : IsRestLaid t width (after_space t e + 1) d r = rw q at after in
       let tail : IsTail t width (after_space t e) (d + 1) (last_text width d kind r) = close kind c left refl refl in
       record {
@@ -238,7 +238,7 @@ mutual
       let here = mark_at 44 comma_mark refl ended.clear c in
       let inside : IsClear t 0 n = rw q (spaced (mark 44 comma_mark ended.clear c)).clear in
       let others = parts_left inside (sym q) is after in
-      let g = lines width in
+      let g = wide_gaps width in
       let rest = 44 ∷ (g.line (d + 1) ++ others.left) in
       let tail : IsTail t width (after_space t e) (d + 1) rest = comma c others.is_left refl in
       record {

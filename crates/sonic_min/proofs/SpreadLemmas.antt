@@ -23,7 +23,7 @@ use Rattle.sonic_text.proofs.TreeLemmas.{tree_of, value_of}
 use Rattle.sonic_text.proofs.Values.{value-longer, value_never_both, value_starts}
 use Rattle.sonic_text.proofs.Within.{after_space_within, value_within}
 use Rattle.sonic_min.specs.Spellings.{Spelling, Parts, no_part, part, HeadSpelled, no_key, key_spelled, IsSpelled, scalar_spelled, empty_spelled, filled_spelled, PartsSpelled, last_part, more_parts}
-use Rattle.sonic_min.specs.Texts.{Gaps, AreSpace, tight, lines, key_text, last_line, spread, spread_parts, IsDocumentSpelled}
+use Rattle.sonic_min.specs.Texts.{Gaps, AreSpace, tight, wide_gaps, key_text, last_line, spread, spread_parts, IsDocumentSpelled}
 use Rattle.sonic_min.proofs.SpellingLemmas.{spelled_value, spelled_one}
 
 -- these bytes stand in u from p to q
@@ -321,7 +321,7 @@ one_again {x = x} {y} g spaces a b =
 pub tight_spaces : AreSpace tight
 tight_spaces = record { line = λ d k e l. absurd (omega arith); colon = λ k e l. absurd (omega arith) }
 
-pub lines_spaces : (width : ℕ) → AreSpace (lines width)
+pub lines_spaces : (width : ℕ) → AreSpace (wide_gaps width)
 lines_spaces width = record {
   line = λ d. All-cons (λ b. is_space b ≡ true) 10 (replicate (width * d) 32) refl (All-replicate (λ b. is_space b ≡ true) (width * d) 32 refl);
   colon = All-replicate (λ b. is_space b ≡ true) 1 32 refl;

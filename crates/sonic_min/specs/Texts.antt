@@ -21,8 +21,8 @@ pub record AreSpace (g : Gaps) : Type 0 where
 abbrev pub tight : Gaps
 tight = record { line = λ d. []; colon = [] }
 
-abbrev pub lines : ℕ → Gaps
-lines width = record { line = λ d. 10 ∷ replicate (width * d) 32; colon = 32 ∷ [] }
+abbrev pub wide_gaps : ℕ → Gaps
+wide_gaps width = record { line = λ d. 10 ∷ replicate (width * d) 32; colon = 32 ∷ [] }
 
 -- a member's key with its colon, and nothing of an element
 abbrev pub key_text : Gaps → Option (List ℕ) → List ℕ
@@ -50,7 +50,7 @@ abbrev pub small : Spelling → List ℕ
 small x = spread tight 0 x
 
 abbrev pub wide : ℕ → Spelling → List ℕ
-wide width x = spread (lines width) 0 x
+wide width x = spread (wide_gaps width) 0 x
 
 -- the document is spelled so
 pub record IsDocumentSpelled (t : List ℕ) (x : Spelling) : Type 0 where

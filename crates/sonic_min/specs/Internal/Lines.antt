@@ -8,16 +8,16 @@ use Rattle.sonic_min.specs.declared.wide.Progress.{Progress}
 use Rattle.sonic_min.specs.Internal.Marks.{is_mark, HasNoMark, IsNextMark, IsToken}
 use Rattle.sonic_min.specs.Internal.Outputs.{IsMade, IsSplit}
 use Rattle.sonic_min.specs.Spellings.{Spelling}
-use Rattle.sonic_min.specs.Texts.{lines, wide, IsDocumentSpelled}
+use Rattle.sonic_min.specs.Texts.{wide_gaps, wide, IsDocumentSpelled}
 
 mutual
   -- from the mark at q on, or the end, in so many open containers
   pub data IsTail (t : List ℕ) (width : ℕ) : ℕ → ℕ → List ℕ → Type 0 where
     at_end : {q d : ℕ} {s : List ℕ} → q ≡ length t → s ≡ [] → IsTail t width q d s
-    comma : {q d : ℕ} {r s : List ℕ} → byte t q ≡ 44 → IsRestLaid t width (q + 1) d r → s ≡ 44 ∷ ((lines width).line d ++ r) → IsTail t width q d s
+    comma : {q d : ℕ} {r s : List ℕ} → byte t q ≡ 44 → IsRestLaid t width (q + 1) d r → s ≡ 44 ∷ ((wide_gaps width).line d ++ r) → IsTail t width q d s
     colon : {q d : ℕ} {r s : List ℕ} → byte t q ≡ 58 → IsRestLaid t width (q + 1) d r → s ≡ 58 ∷ 32 ∷ r → IsTail t width q d s
     close : (kind : Kind) {q d e : ℕ} {r s : List ℕ} → byte t q ≡ closing kind → IsRestLaid t width (q + 1) e r → d ≡ e + 1
-        → s ≡ (lines width).line e ++ (closing kind ∷ r) → IsTail t width q d s
+        → s ≡ (wide_gaps width).line e ++ (closing kind ∷ r) → IsTail t width q d s
 
   -- from p on, where the last mark was before it: a token and the next mark, or a container
   pub data IsRestLaid (t : List ℕ) (width : ℕ) : ℕ → ℕ → List ℕ → Type 0 where
@@ -26,7 +26,7 @@ mutual
     empty_container : (kind : Kind) {p q d : ℕ} {r s : List ℕ} → IsNextMark t p q → byte t q ≡ opening kind → byte t (after_space t (q + 1)) ≡ closing kind
         → IsRestLaid t width (after_space t (q + 1) + 1) d r → s ≡ opening kind ∷ closing kind ∷ r → IsRestLaid t width p d s
     filled_container : (kind : Kind) {p q d : ℕ} {r s : List ℕ} → IsNextMark t p q → byte t q ≡ opening kind → byte t (after_space t (q + 1)) ≢ closing kind
-        → IsRestLaid t width (q + 1) (d + 1) r → s ≡ opening kind ∷ ((lines width).line (d + 1) ++ r) → IsRestLaid t width p d s
+        → IsRestLaid t width (q + 1) (d + 1) r → s ≡ opening kind ∷ ((wide_gaps width).line (d + 1) ++ r) → IsRestLaid t width p d s
 
 -- so far the wide text of the document is made
 pub record IsLaidTo (t : List ℕ) (width : ℕ) (out : Output) (so_far : Progress) : Type 0 where
