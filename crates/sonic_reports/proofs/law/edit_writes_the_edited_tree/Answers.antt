@@ -1,8 +1,7 @@
 use Rattle.std.proofs.Common.{◌≡◌, ◌∙◌, sym, refl, List, ℕ}
 use Rattle.sonic_edits.proofs.SoundLemmas.{edit_lines_sound}
 use Rattle.sonic_owned.proofs.EditLemmas.{edits_make, edits_mean, edits_sound}
-use Rattle.sonic_owned.proofs.TextLemmas.{text_means}
-use Rattle.sonic_owned.proofs.ValueLemmas.{sound_means, sound_valid}
+use Rattle.sonic_owned.proofs.ValueLemmas.{closed_means, sound_means, sound_valid}
 use Rattle.sonic_owned.specs.Forms.{text as text_of_form}
 use Rattle.sonic_reports.proofs.PatchLemmas.{document_sound, raw_means_text}
 use Rattle.sonic_reports.specs.Commands.Edits.{refused, made, invalid, valid, IsEditReport, bad_edit, edited}
@@ -38,7 +37,7 @@ writes_edited (edited {es} {d = place} x (valid v f (made {h} a t e))) d =
       written = text_of_form h;
       ends = t;
       valid = sound_valid sound;
-      meant = text_means sound meant;
+      meant = raw_means_text (closed_means sound _ meant) refl;
     }
 
 pub returns : goal.returns
