@@ -13,4 +13,5 @@ mod ReplyLemmas
 mod ReportLemmas
 mod RowLemmas
 mod SessionLemmas
+mod SmallLemmas
 mod TextLemmas

@@ -18,7 +18,7 @@ use Rattle.sonic_text.specs.Strings.{strict}
 use Rattle.sonic_reports.proofs.GetLemmas.{Same, SomeText}
 use Rattle.sonic_reports.proofs.ReplyLemmas.{line_at}
 use Rattle.sonic_reports.specs.Commands.Items.{listed_kind, line_of_item, line_of_ending, status_of_ending, IsListReport}
-use Rattle.sonic_reports.specs.Internal.Listed.{IsLastError, out_of_memory, last_stop, EndsBy, AreLinesOf, IsListed}
+use Rattle.sonic_reports.specs.Internal.Listed.{IsLastError, out_of_memory, last_stop, EndsBy, AreLinesOf, AreListed}
 use Rattle.sonic_reports.specs.Internal.Replies.{line_of_shown, line_of_member, text_of_lines, IsLineOf}
 use Rattle.sonic_reports.specs.declared.commands.list.Listed.{Listed}
 use Rattle.sonic_reports.specs.declared.status.Status.{Status}
@@ -94,7 +94,7 @@ over_closed {it} {t} {kind} g over = elim over.reason [
 ]
 
 -- what was listed with no error is the report
-pub listed_done : {t text : List ℕ} {listed : Listed} {status : Status} → IsListed t (listed_kind t) listed → listed.error ≡ None
+pub listed_done : {t text : List ℕ} {listed : Listed} {status : Status} → AreListed t (listed_kind t) listed → listed.error ≡ None
     → text ≡ text_of_lines listed.lines ++ [] → status ≡ Done → IsListReport t text status
 listed_done {t} x e text s =
     let ending : EndsBy t (listed_kind t) x.count None = rw e at x.ending in
@@ -107,7 +107,7 @@ listed_done {t} x e text s =
     }
 
 -- with an error its line is the last
-last_line : {t text line : List ℕ} {kind : Kind} {listed : Listed} {error : Error} {status : Status} → kind ≡ listed_kind t → (x : IsListed t kind listed)
+last_line : {t text line : List ℕ} {kind : Kind} {listed : Listed} {error : Error} {status : Status} → kind ≡ listed_kind t → (x : AreListed t kind listed)
     → IsLastError t kind x.count error → IsLineOf line error → text ≡ text_of_lines listed.lines ++ line → status ≡ DocumentError → IsListReport t text status
 last_line k x (out_of_memory plain) line text s = absurd (line.memory plain.code)
 last_line {t} {line = bytes} {kind} k x (last_stop stop ends at) line text s =
@@ -122,7 +122,7 @@ last_line {t} {line = bytes} {kind} k x (last_stop stop ends at) line text s =
     }
 
 -- where there is one
-pub listed_error : {t text line : List ℕ} {listed : Listed} {error : Error} {status : Status} → IsListed t (listed_kind t) listed → listed.error ≡ Some error
+pub listed_error : {t text line : List ℕ} {listed : Listed} {error : Error} {status : Status} → AreListed t (listed_kind t) listed → listed.error ≡ Some error
     → IsLineOf line error → text ≡ text_of_lines listed.lines ++ line → status ≡ DocumentError → IsListReport t text status
 listed_error {t} {error = error} x e line text s =
     let ending : EndsBy t (listed_kind t) x.count (Some error) = rw e at x.ending in

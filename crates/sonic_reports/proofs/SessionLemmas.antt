@@ -39,7 +39,7 @@ use Rattle.sonic_reports.specs.Internal.Requests.{HasWidth, IsAsked, IsAnswered}
 use Rattle.sonic_io.specs.Outside.{Gave, Took, TookPrefix, Rose, input_limit}
 use Rattle.sonic_reports.specs.Reports.{Writes, IsReport}
 use Rattle.sonic_reports.specs.Reports.IsReport.{usage, large, written}
-use Rattle.sonic_reports.specs.Sessions.{Session, IsReported, IsOfInput, IsReply, Reports, ReportsOnly, AnswersAll, IsSent, ReadsTooMuch, IsRun}
+use Rattle.sonic_reports.specs.Sessions.{Session, IsReported, IsOfInput, IsReply, Reports, ReportsOnly, AnswersAll, IsSent, IsUnread, ReadsTooMuch, IsRun}
 use Rattle.sonic_reports.proofs.ReportLemmas.{asks_one, has_one_report, answered_done}
 use Rattle.sonic_reports.proofs.CommandLemmas.{reads_or_gen, width_within}
 
@@ -261,10 +261,15 @@ the_report run {ending} r input text status known report =
 answers_all : (run : Session) {ending : Status} → ReportsOnly run ending → AnswersAll run ending
 answers_all run only rule input known asks i = let r = answered_done asks i in (only input r.0 Done known r.1).1
 
+-- a source that is as it was has this left, and its count of faults, as before
+pub same_source : {S : Type 0} {old new : S} (left : S → Option (List ℕ)) (faults : S → ℕ) → new ≡ old → (left new ≡ left old) × (faults new ≡ faults old)
+same_source left faults e = (ap left e, ap faults e)
+
 -- a run whose report was written
 pub delivered : {run : Session} {text : List ℕ} {ending : Status} → IsPrepared run text ending → Took run.before.written run.after.written text
-    → IsSent run → run.after.read_faults ≡ run.before.read_faults → run.after.write_faults ≡ run.before.write_faults → IsRun run ending
-delivered {run} {text} {ending} p taken sent reads writes =
+    → IsSent run → run.after.read_faults ≡ run.before.read_faults → run.after.write_faults ≡ run.before.write_faults → (¬ IsReading run.words → IsUnread run)
+    → IsRun run ending
+delivered {run} {text} {ending} p taken sent reads writes unread =
     let reports : Reports run ending = record { text = text; reply = p.reply; taken = taken } in
     record {
       reports = λ _. reports;
@@ -284,12 +289,14 @@ delivered {run} {text} {ending} p taken sent reads writes =
       large = p.large;
       fault_of_reading = λ e. absurd (p.reported.no_read_fault e);
       large_of_reading = p.large_of_reading;
+      unread = unread;
     }
 
 -- a run that a failed write ended
 pub broken : {run : Session} {text : List ℕ} {status : Status} → IsPrepared run text status → TookPrefix run.before.written run.after.written text
-    → run.after.read_faults ≡ run.before.read_faults → Rose run.before.write_faults run.after.write_faults → IsRun run WriteFault
-broken {run} {text} {status} p taken reads rose = record {
+    → run.after.read_faults ≡ run.before.read_faults → Rose run.before.write_faults run.after.write_faults → (¬ IsReading run.words → IsUnread run)
+    → IsRun run WriteFault
+broken {run} {text} {status} p taken reads rose unread = record {
   reports = λ r. absurd (r.no_write_fault refl);
   the_only_one = λ r. absurd (r.no_write_fault refl);
   sends = λ r. absurd (r.no_write_fault refl);
@@ -307,12 +314,13 @@ broken {run} {text} {status} p taken reads rose = record {
   large = λ e. absurd cc;
   fault_of_reading = λ e. absurd cc;
   large_of_reading = λ e. absurd cc;
+  unread = unread;
 }
 
 -- a run that a failed read ended
-pub unread : {run : Session} → run.after.written ≡ run.before.written → Rose run.before.read_faults run.after.read_faults
+pub read_failed : {run : Session} → run.after.written ≡ run.before.written → Rose run.before.read_faults run.after.read_faults
     → run.after.write_faults ≡ run.before.write_faults → IsReading run.words → IsRun run ReadFault
-unread silent rose writes (asked, asks, reads) = record {
+read_failed silent rose writes (asked, asks, reads) = record {
   reports = λ r. absurd (r.no_read_fault refl);
   the_only_one = λ r. absurd (r.no_read_fault refl);
   sends = λ r. absurd (r.no_read_fault refl);
@@ -330,12 +338,13 @@ unread silent rose writes (asked, asks, reads) = record {
   large = λ e. absurd cc;
   fault_of_reading = λ _. (asked, asks, reads);
   large_of_reading = λ e. absurd cc;
+  unread = λ u. absurd (u (asked, asks, reads));
 }
 
 -- a run that ran out of memory
 pub out_of_memory : {run : Session} → run.after.written ≡ run.before.written → run.after.read_faults ≡ run.before.read_faults
-    → run.after.write_faults ≡ run.before.write_faults → ¬ ¬ IsListed run.words → IsRun run NoMemory
-out_of_memory silent reads writes listed = record {
+    → run.after.write_faults ≡ run.before.write_faults → ¬ ¬ IsListed run.words → (¬ IsReading run.words → IsUnread run) → IsRun run NoMemory
+out_of_memory silent reads writes listed unread = record {
   reports = λ r. absurd (r.memory refl);
   the_only_one = λ r. absurd (r.memory refl);
   sends = λ r. absurd (r.memory refl);
@@ -353,4 +362,5 @@ out_of_memory silent reads writes listed = record {
   large = λ e. absurd cc;
   fault_of_reading = λ e. absurd cc;
   large_of_reading = λ e. absurd cc;
+  unread = unread;
 }

@@ -2,6 +2,7 @@
 use Rattle.std.specs.Prelude.{◌≡◌, ℕ, List, ◌++◌, Some, codes, drop, length}
 use Rattle.sonic_edits.specs.Heads.{SaysEditsOf}
 use Rattle.sonic_find.specs.Documents.{IsDocumentValue, IsValidDocument}
+use Rattle.sonic_min.specs.Texts.{DocumentMeans}
 use Rattle.sonic_owned.specs.Edits.{EditsMean}
 use Rattle.sonic_owned.specs.Forms.{Form}
 use Rattle.sonic_owned.specs.TreeEdits.{Edit, edit_tree_all}
@@ -57,3 +58,10 @@ pub record WritesPatched (input text : List ℕ) : Type 0 where
   pub ends : text ≡ written ++ codes "\n"
   pub valid : IsValidDocument written
   pub meant : Means written 0 (length written) result
+
+-- the text is a valid document, which means what the input means, and a line feed
+pub record WritesTheSame (input text : List ℕ) : Type 0 where
+  pub written : List ℕ
+  pub ends : text ≡ written ++ codes "\n"
+  pub valid : IsValidDocument written
+  pub meant : (tree : Tree) → DocumentMeans input tree → DocumentMeans written tree

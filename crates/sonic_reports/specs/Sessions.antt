@@ -77,6 +77,10 @@ pub record BreaksOff (run : Session) : Type 0 where
 abbrev pub IsSent : Session → Type 0
 IsSent run = run.after.sent ≡ run.after.written
 
+-- what the source has left, and how often it failed, is as before
+abbrev pub IsUnread : Session → Type 0
+IsUnread run = (run.after.left ≡ run.before.left) × (run.after.read_faults ≡ run.before.read_faults)
+
 -- nothing was written
 abbrev pub IsSilent : Session → Type 0
 IsSilent run = run.after.written ≡ run.before.written
@@ -105,7 +109,7 @@ pub record IsRun (run : Session) (ending : Status) : Type 0 where
   pub no_read_cause : ending ≢ ReadFault → run.after.read_faults ≡ run.before.read_faults
   pub write_cause : ending ≡ WriteFault → Rose run.before.write_faults run.after.write_faults
   pub no_write_cause : ending ≢ WriteFault → run.after.write_faults ≡ run.before.write_faults
-  -- words that ask for no command are answered so, and need no memory
+  -- words that ask for no command are answered so: such a run never ends for want of memory
   pub unlisted : ¬ IsListed run.words → (ending ≡ BadUsage) ⊎ (ending ≡ WriteFault)
   pub listed : ending ≡ BadUsage → ¬ IsListed run.words
   -- a report of an input that is read was made of all of it
@@ -114,3 +118,5 @@ pub record IsRun (run : Session) (ending : Status) : Type 0 where
   -- only words that ask for a command that reads end with the status of a failed read or of a large input
   pub fault_of_reading : ending ≡ ReadFault → IsReading run.words
   pub large_of_reading : ending ≡ TooLarge → IsReading run.words
+  -- other words leave the source unread
+  pub unread : ¬ IsReading run.words → IsUnread run

@@ -21,7 +21,10 @@ mod sure;
 mod text_line;
 
 pub use commands::{Command, MOST, MOST_BLANKS};
-pub use law::{edit_writes_the_edited_tree, input_has_one_report, patch_writes_the_patched_tree};
+pub use law::{
+    edit_writes_the_edited_tree, input_has_one_report, min_and_indent_write_the_same_tree,
+    patch_writes_the_patched_tree,
+};
 pub use runs::run;
 pub use status::Status;
 pub use sure::run_surely;

@@ -40,13 +40,13 @@ abbrev pub ReportsPaths : List ℕ → List Path → List ℕ → Status → Typ
 ReportsPaths = ReportsPathsBy First
 
 -- what is written of an input whose head says paths, where these are the reports of its document
-pub data IsPathsReport (Reports : List ℕ → List Path → List ℕ → Status → Type 0) (input : List ℕ) : List ℕ → Status → Type 0 where
+pub data IsPathsReport (ReportsDocument : List ℕ → List Path → List ℕ → Status → Type 0) (input : List ℕ) : List ℕ → Status → Type 0 where
   -- the first bad line is named by its number
   bad_line : {lines : List (List ℕ)} {d n : ℕ} {text : List ℕ} → IsHead input 0 lines d → IsFirstBadLine lines n
-      → text ≡ codes "! paths " ++ decimal n ++ codes "\n" → IsPathsReport Reports input text BadLines
+      → text ≡ codes "! paths " ++ decimal n ++ codes "\n" → IsPathsReport ReportsDocument input text BadLines
   -- the paths are followed in the document
   answered : {lines : List (List ℕ)} {paths : List Path} {d : ℕ} {text : List ℕ} {status : Status} → IsHead input 0 lines d → AreLines lines paths
-      → Reports (drop d input) paths text status → IsPathsReport Reports input text status
+      → ReportsDocument (drop d input) paths text status → IsPathsReport ReportsDocument input text status
 
 -- what `get` writes of an input under a rule
 abbrev pub IsGetReport : KeyRule → List ℕ → List ℕ → Status → Type 0

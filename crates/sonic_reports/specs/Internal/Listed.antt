@@ -30,7 +30,7 @@ pub record AreLinesOf (t : List ℕ) (kind : Kind) (n : ℕ) (text : List ℕ) :
   pub lines : text ≡ flat_map (line_of_item t) items
 
 -- all items were listed
-pub record IsListed (t : List ℕ) (kind : Kind) (listed : Listed) : Type 0 where
+pub record AreListed (t : List ℕ) (kind : Kind) (listed : Listed) : Type 0 where
   pub count : ℕ
   pub lines : AreLinesOf t kind count (text_of_lines listed.lines)
   pub ending : EndsBy t kind count listed.error

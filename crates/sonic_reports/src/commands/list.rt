@@ -3,7 +3,7 @@ ghost use Rattle.std.specs.Prelude.{◌≡◌, IfOk};
 ghost use Rattle.sonic_lazy.specs.LazyValues.{raw_bytes};
 ghost use Rattle.sonic_text.specs.declared.kind.Kind.{Kind};
 ghost use Rattle.sonic_reports.specs.Commands.Items.{IsListReport, listed_kind};
-ghost use Rattle.sonic_reports.specs.Internal.Listed.{IsListed};
+ghost use Rattle.sonic_reports.specs.Internal.Listed.{AreListed};
 ghost use Rattle.sonic_reports.specs.Internal.Replies.{text_of};
 
 use crate::error_line::error_line;
@@ -46,7 +46,7 @@ pub(crate) fn report<'i>(alloc: Global, input: &'i [u8]) -> Result<Reply<'i>, Al
 
 // The items of the container that is listed.
 fn items<'i>(alloc: Global, input: &'i [u8]) -> Result<Listed<'i>, AllocError>
-    ensures { IfOk result (IsListed input.now (listed_kind input.now)) }
+    ensures { IfOk result (AreListed input.now (listed_kind input.now)) }
 {
     match listed_kind(input) {
         Kind::Array => elements(alloc, input),
@@ -66,7 +66,7 @@ fn listed_kind(input: &[u8]) -> Kind
 
 // The elements of an array.
 fn elements<'i>(alloc: Global, input: &'i [u8]) -> Result<Listed<'i>, AllocError>
-    ensures { IfOk result (IsListed input.now Kind.Array) }
+    ensures { IfOk result (AreListed input.now Kind.Array) }
 {
     let mut listed = Vec::new(alloc);
     let mut elements = to_array_iter(alloc, input);
@@ -81,7 +81,7 @@ fn elements<'i>(alloc: Global, input: &'i [u8]) -> Result<Listed<'i>, AllocError
 
 // The members of an object.
 fn members<'i>(alloc: Global, input: &'i [u8]) -> Result<Listed<'i>, AllocError>
-    ensures { IfOk result (IsListed input.now Kind.Object) }
+    ensures { IfOk result (AreListed input.now Kind.Object) }
 {
     let mut listed = Vec::new(alloc);
     let mut members = to_object_iter(alloc, input);
