@@ -95,7 +95,7 @@ fn compiles_calls_of_blocks(rt: HostRuntime) {
 #[test]
 fn compiles_calls_of_a_parser(rt: HostRuntime) -> Result<(), Fail> {
     let alloc = rt.alloc();
-    let mut parser = Parser::new(Read::from(" [1] \"a\\n\" 12 null true"));
+    let mut parser = Parser::new(Read::from(" [1] \"a\\n\""));
     same(&rt, parser.skip_space_peek(), Some(b'['));
     let skipped: Result<(&[u8], ParseStatus), Error> = parser.skip_one(alloc);
     same(&rt, skipped, Ok((&b"[1]"[..], ParseStatus::None)));
