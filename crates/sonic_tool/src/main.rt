@@ -4,16 +4,17 @@
 ghost use Rattle.std.specs.Prelude.{◌≡◌};
 ghost use Rattle.std.specs.Process.{exit_status};
 ghost use Rattle.sonic_reports.specs.Sessions.{outside_of};
-ghost use Rattle.sonic_tool.specs.Endings.{number_of_status, IsProgram};
+ghost use Rattle.sonic_tool.specs.Endings.{number_of_status, IsProgram, IsProcess};
 
 // The words of the command line.
 mod words;
 
-use crate::words::words_of;
+use crate::words::{Wordless, words_of};
 use sonic_io::{InputSource, OutputSink, Sink, Source};
 use sonic_reports::{Status, run};
 use std::alloc::Global;
 use std::env::Args;
+use std::io::{Read, Write};
 use std::process::ExitCode;
 use std::{env, io};
 
@@ -36,14 +37,28 @@ fn program<S: Source, K: Sink>(
         (outside_of (S.left source.new) (S.faults source.new) (K.written sink.new) (K.sent sink.new) (K.faults sink.new))
         (exit_status result) }
 {
-    let Ok(words) = words_of(alloc, arguments) else {
-        return ending(Status::NoMemory);
-    };
-    ending(run(alloc, &words, source, sink))
+    match words_of(alloc, arguments) {
+        Ok(words) => ending(run(alloc, &words, source, sink)),
+        // One empty word takes no memory.
+        Err(Wordless::NoText) => ending(run(alloc, &[String::new(alloc)], source, sink)),
+        Err(Wordless::NoMemory) => ending(Status::NoMemory),
+    }
+}
+
+// Runs the words of the arguments, over a reader and a writer of the system.
+fn process<R: Read + Drop, W: Write + Drop>(
+    alloc: Global,
+    arguments: io::Result<Args>,
+    reader: R,
+    writer: W,
+) -> ExitCode
+    ensures { IsProcess arguments (exit_status result) }
+{
+    let mut source = InputSource::new(reader);
+    let mut sink = OutputSink::new(writer);
+    program(alloc, arguments, &mut source, &mut sink)
 }
 
 fn main(rt: HostRuntime) -> ExitCode {
-    let mut source = InputSource::new(rt.stdin());
-    let mut sink = OutputSink::new(rt.stdout());
-    program(rt.alloc(), env::args(&rt), &mut source, &mut sink)
+    process(rt.alloc(), env::args(&rt), rt.stdin(), rt.stdout())
 }

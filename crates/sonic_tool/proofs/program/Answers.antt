@@ -1,9 +1,11 @@
-use Rattle.std.proofs.Common.{refl}
-use Rattle.sonic_tool.specs.Endings.{ran, no_words}
+use Rattle.std.proofs.Common.{rules}
+use Rattle.sonic_tool.specs.Endings.{ran}
+use Rattle.sonic_tool.specs.Words.{no_text}
 use Rattle.sonic_tool.proofs.program.Goals as goal
 
-pub returns : goal.returns
-returns g c = ran (rw c.deref.ensures.value c.in-Ok.ensures) c.run.ensures.outcome c.ending-2.ensures
+pub returns-in-Ok : goal.returns-in-Ok
+returns-in-Ok g c = ran (rw c.deref.ensures.value c.in-Ok.ensures.words) c.run.ensures.outcome c.ending.ensures
 
-pub returns-in_default : goal.returns-in_default
-returns-in_default g c = no_words c.ending.ensures refl
+pub returns-in-Err-NoText : goal.returns-in-Err-NoText
+returns-in-Err-NoText g c =
+    ran (no_text (c.in-Err-NoText.ensures.no_text.0 (cc c.in-Err-NoText.field-0-is)) (search rules)) c.run-in-Err-NoText.ensures.outcome c.ending-in-Err-NoText.ensures
