@@ -72,10 +72,12 @@ key_fails {t} {kind} {n} {h} fit f =
 pub value_fails : {t : List ℕ} {kind : Kind} {n h v : ℕ} {key : Span} {s : Stop} → ItemsFit strict t kind (after_space t 0) n h → IsHeadAt t kind h v key
     → IsFault strict t v s → IsItemStop t kind n s
 value_fails {t} {v = v} fit head f =
-    let own = (head_of head).1 in
-    (in_value fit own f, λ item x.
-    let value : IsValue strict t v item.value.end = rw (head_one (head_here fit x).1 own).0 at x.found.value in
-    value_never_both value f)
+    let own = (head_of head).1 in (
+      in_value fit own f,
+      λ item x.
+          let value : IsValue strict t v item.value.end = rw (head_one (head_here fit x).1 own).0 at x.found.value in
+          value_never_both value f,
+    )
 
 -- after an item that no comma follows there is no other one
 no_item_after : {t : List ℕ} {kind : Kind} {m n : ℕ} {item : Item} → IsNthItem t kind m item → m < n → byte t (after_space t item.value.end) ≢ 44

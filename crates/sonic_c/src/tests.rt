@@ -201,7 +201,7 @@ fn tells_texts(rt: HostRuntime) {
     }
 }
 
-// With ample memory only a number that no code has is told no text.
+// With ample memory only a number that no code has is told no text, and 128 bytes take each.
 #[test]
 fn tells_a_text_of_each_code(rt: HostRuntime) {
     for number in 0..200u32 {
@@ -210,6 +210,7 @@ fn tells_a_text_of_each_code(rt: HostRuntime) {
         let plain = matches!(number, 1..=32);
         let mismatch = matches!(number, 100..=152) && number % 10 <= 2;
         assert_eq!(&rt; length > 0, plain || mismatch, "{number}");
+        assert!(&rt; length <= 128, "{number}");
     }
 }
 
