@@ -4,7 +4,7 @@ use crate::one::starts;
 use crate::same::{same, same_at};
 use sonic_error::{Error, ErrorCode};
 use sonic_input::JsonInput;
-use sonic_lazy::{get, get_many, get_unchecked, validate};
+use sonic_lazy::{Span, find_unchecked, get, get_many, get_unchecked, validate};
 use sonic_pointer::PointerTree;
 use std::alloc::Global;
 use std::process::Abort;
@@ -155,6 +155,29 @@ fn takes_a_quote_for_the_end_after_an_even_run_of_backslashes(rt: HostRuntime) -
                 same(&rt, found.as_raw_str().as_bytes(), text);
             }
         }
+    }
+    Ok(())
+}
+
+// An array of one string, in which a quote after a backslash and a bracket come before the last quote.
+const ESCAPED: &str = "[\"aaaaaaaaaaaaaaaaaaaaaaaaaaaaaaaaaaaaaaaaaaaaaaaaaaaaaaaaaaaaa\\\"]\"]";
+
+#[test]
+fn finds_an_escaped_quote_at_each_place_of_a_block(rt: HostRuntime) -> Result<(), Fail> {
+    let alloc = rt.alloc();
+    for blanks in 0..64 {
+        let mut text = String::new(alloc);
+        for _ in 0..blanks {
+            text.push(' ')?;
+        }
+        text.push_str(ESCAPED)?;
+        let text = text.as_str();
+        assert!(&rt; starts(alloc, text.as_bytes()));
+        let value = get_unchecked(text, &[]).map_err(|_| "no value")?;
+        same_at(&rt, value.as_raw_str(), ESCAPED, blanks);
+        let span = find_unchecked(text, &[]).map_err(|_| "no span")?;
+        let end = blanks + ESCAPED.len();
+        same_at(&rt, span, Span { start: blanks, end }, blanks);
     }
     Ok(())
 }

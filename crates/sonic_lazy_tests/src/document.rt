@@ -42,12 +42,13 @@ fn check_value(rt: &impl Abort, alloc: Global, text: &str, wanted: Option<Reason
 
 // A text, and the reason why it is no document, if it is none. The end of an input is reported at
 // its last byte.
-const TEXTS: [(&str, Option<Reason>); 27] = [
+const TEXTS: [(&str, Option<Reason>); 29] = [
     ("null", None),
     ("\t\"\\n\" ", None),
     (" \t\r\n7 \t\r\n", None),
     ("\"\u{e9}\u{1F600}\"", None),
     ("{\"a\":[1,{\"b\":[]}],\"a\":-0.5e3}\n", None),
+    ("{\"a\":1} ", None),
     // No value is there.
     ("", Some((ErrorCode::EofWhileParsing, 0))),
     (" \n", Some((ErrorCode::EofWhileParsing, 1))),
@@ -74,6 +75,7 @@ const TEXTS: [(&str, Option<Reason>); 27] = [
     ("1 2", Some((ErrorCode::TrailingCharacters, 2))),
     ("[1] x", Some((ErrorCode::TrailingCharacters, 4))),
     ("{}}", Some((ErrorCode::TrailingCharacters, 2))),
+    ("{} x", Some((ErrorCode::TrailingCharacters, 3))),
     ("null,", Some((ErrorCode::TrailingCharacters, 4))),
     ("\"\" \n\u{0}", Some((ErrorCode::TrailingCharacters, 4))),
     ("1\u{FEFF}", Some((ErrorCode::TrailingCharacters, 1))),

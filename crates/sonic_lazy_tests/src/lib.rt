@@ -41,6 +41,9 @@ mod rules;
 // Assertions as calls.
 #[cfg(test)]
 mod same;
+// The span of what one path finds.
+#[cfg(test)]
+mod spans;
 // What a value is.
 #[cfg(test)]
 mod scalars;

@@ -219,6 +219,35 @@ fn answers_a_path_over_each_kind_of_input(rt: HostRuntime) -> Result<(), Fail> {
     Ok(())
 }
 
+// Texts that end too early, the key of a path into them, and how the error is shown.
+const SHOWN: [(&str, &str, &str); 2] = [
+    (
+        "{\"a\": [",
+        "a",
+        "EOF while parsing at line 1 column 7\n\n\t{\"a\": [\n\t......^\n",
+    ),
+    (
+        "{\"c\": \"哈哈哈哈哈哈}",
+        "c",
+        "EOF while parsing at line 1 column 26\n\n\t哈哈哈}\n\t.........^\n",
+    ),
+];
+
+#[test]
+fn shows_where_a_text_ends_too_early(rt: HostRuntime) -> Result<(), Fail> {
+    let alloc = rt.alloc();
+    for &(text, key, shown) in &SHOWN {
+        let Err(error) = get_from_str(alloc, text, &[Key(key)]) else {
+            panic!(&rt; "no error where this is: {shown}");
+        };
+        same_at(&rt, error.line(), 1, text);
+        same_at(&rt, error.column(), text.len(), text);
+        same_at(&rt, error.offset() + 1, text.len(), text);
+        same(&rt, error.to_string(alloc)?.as_str(), shown);
+    }
+    Ok(())
+}
+
 #[test]
 fn finds_in_a_lazy_value_what_it_finds_in_its_text(rt: HostRuntime) -> Result<(), Fail> {
     let alloc = rt.alloc();

@@ -3,9 +3,11 @@
 use crate::lookups::{ANSWERED, Paths, REFUSED, tree_of};
 use crate::same::{same, same_at};
 use sonic_error::{ErrorCode, JsonType, Note, Wanted};
-use sonic_find::{Room, Span, find_many, find_many_by, find_many_in};
+use sonic_find::{Room, Span, fill_room, find_many, find_many_by, find_many_in};
+use sonic_parser::Fault;
 use sonic_pointer::PointerNode::{Index, Key};
 use sonic_pointer::{KeyRule, PointerTree};
+use sonic_text::Stop;
 use std::alloc::Global;
 use std::process::Abort;
 use std::test::Fail;
@@ -78,6 +80,36 @@ fn serves_lines_one_after_the_other(rt: HostRuntime) {
             }
             _ => panic!(&rt; "another answer of {line}"),
         }
+    }
+}
+
+// Lines, and the place and the code of the fault: at the end of a line the place is its length.
+const FAULTS: [(&str, usize, ErrorCode); 6] = [
+    ("", 0, ErrorCode::EofWhileParsing),
+    (" ", 1, ErrorCode::EofWhileParsing),
+    ("{\"id\":", 6, ErrorCode::EofWhileParsing),
+    ("{\"id\":1,\"t\":[2", 14, ErrorCode::EofWhileParsing),
+    ("{\"id\":tru}", 9, ErrorCode::InvalidLiteral),
+    ("{\"id\":1,\"t\":0}", 12, NUMBER_FOR_ARRAY),
+];
+
+#[test]
+fn fills_a_room_or_tells_the_fault(rt: HostRuntime) {
+    let alloc = rt.alloc();
+    let tree = tree_of(&rt, alloc, PATHS);
+    let mut room = Room::new(alloc);
+    for &(line, wanted) in &LINES {
+        let filled = fill_room(alloc, &mut room, line, &tree);
+        same_at(&rt, filled.is_ok(), wanted.is_ok(), line);
+        match wanted {
+            Ok(spans) => check_slots(&rt, &room, &spans),
+            Err(_) => check_slots(&rt, &room, &[]),
+        }
+    }
+    for &(line, place, code) in &FAULTS {
+        let filled = fill_room(alloc, &mut room, line, &tree);
+        same_at(&rt, filled, Err(Fault::At(Stop { place, code })), line);
+        check_slots(&rt, &room, &[]);
     }
 }
 
