@@ -18,10 +18,9 @@ mod view;
 
 pub use edit::Change;
 pub use law::{
-    closing_keeps_the_value, edit_leaves_the_rest, edit_means_the_edited_tree,
-    form_means_one_tree, level_is_that_of_the_form, opening_keeps_the_value,
-    part_stands_in_the_text, path_leads_as_in_the_tree, putting_means_the_tree,
-    text_is_a_document,
+    closing_keeps_the_value, edit_leaves_the_rest, edit_means_the_edited_tree, form_means_one_tree,
+    level_is_that_of_the_form, opening_keeps_the_value, part_stands_in_the_text,
+    path_leads_as_in_the_tree, putting_means_the_tree, text_is_a_document,
 };
 pub use value::{LazyArray, LazyObject, OwnedLazyValue};
 pub use view::OwnedView;
