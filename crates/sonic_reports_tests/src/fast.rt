@@ -91,7 +91,8 @@ const BESIDE: [Beside; 5] = [
 ];
 
 // An array of one string: 61 letters, an escaped quote and a bracket.
-const ESCAPED: &str = "[\"aaaaaaaaaaaaaaaaaaaaaaaaaaaaaaaaaaaaaaaaaaaaaaaaaaaaaaaaaaaaa\\\"]\"]";
+pub(crate) const ESCAPED: &str =
+    "[\"aaaaaaaaaaaaaaaaaaaaaaaaaaaaaaaaaaaaaaaaaaaaaaaaaaaaaaaaaaaaa\\\"]\"]";
 
 const BAD: [Row; 2] = [
     (b"[\"a\"]\n[\"b\"\n\n}", "! paths 2\n"),
@@ -136,9 +137,9 @@ fn is_asked_for_by_its_word_alone(rt: HostRuntime) -> Result<(), Fail> {
     Ok(())
 }
 
-// The path of the root, and the array after so many blanks.
-fn shifted(alloc: Global, blanks: usize) -> Result<Vec<u8>, Fail> {
-    let mut input = Vec::from_slice(alloc, b"[]\n\n")?;
+// A head, and the array after so many blanks.
+pub(crate) fn shifted(alloc: Global, head: &[u8], blanks: usize) -> Result<Vec<u8>, Fail> {
+    let mut input = Vec::from_slice(alloc, head)?;
     for _ in 0..blanks {
         input.push(b' ')?;
     }
@@ -152,7 +153,7 @@ fn finds_an_escaped_quote_at_each_place_of_a_block(rt: HostRuntime) -> Result<()
     let alloc = rt.alloc();
     let output = format!(in alloc; "68 {}\n", ESCAPED)?;
     for blanks in 0..64 {
-        let input = shifted(alloc, blanks)?;
+        let input = shifted(alloc, b"[]\n\n", blanks)?;
         check_run(&rt, alloc, &["fast"], &input, &output, Status::Done)?;
     }
     Ok(())

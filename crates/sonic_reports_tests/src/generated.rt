@@ -12,7 +12,7 @@ use std::test::Fail;
 type Row = (&'static str, &'static str);
 
 // Object 0 has 50 bytes, and object 1 has 51; a name of one digit has 6.
-const COUNTS: [Row; 7] = [
+const COUNTS: [Row; 8] = [
     (
         "1",
         "objects 1\nbytes 52\nchecked 3 1 57\nunchecked 3 1 57\n",
@@ -41,6 +41,10 @@ const COUNTS: [Row; 7] = [
     (
         "1000",
         "objects 1000\nbytes 57171\nchecked 3 1 66\nunchecked 3 1 66\n",
+    ),
+    (
+        "100000",
+        "objects 100000\nbytes 6316671\nchecked 3 1 74\nunchecked 3 1 74\n",
     ),
 ];
 

@@ -1,4 +1,5 @@
 // Whole runs of `min` over memory: what comes in, what goes out, and the status.
+use crate::fast::{ESCAPED, shifted};
 use crate::rows::check_run;
 use sonic_reports::Status;
 use std::test::Fail;
@@ -67,6 +68,18 @@ const WORDS: [&[&str]; 3] = [&["mi"], &["mins"], &["min", "2"]];
 fn is_asked_for_by_its_word_alone(rt: HostRuntime) -> Result<(), Fail> {
     for &words in &WORDS {
         check_run(&rt, rt.alloc(), words, b"", "! usage\n", Status::BadUsage)?;
+    }
+    Ok(())
+}
+
+// The quote that is escaped comes to each place of a block of 64 bytes.
+#[test]
+fn drops_blanks_before_each_place_of_a_block(rt: HostRuntime) -> Result<(), Fail> {
+    let alloc = rt.alloc();
+    let output = format!(in alloc; "{}\n", ESCAPED)?;
+    for blanks in 0..64 {
+        let input = shifted(alloc, b"", blanks)?;
+        check_run(&rt, alloc, &["min"], &input, &output, Status::Done)?;
     }
     Ok(())
 }
