@@ -4,7 +4,7 @@ use Rattle.sonic_find.specs.Documents.{IsValidDocument}
 use Rattle.sonic_min.proofs.DocumentLemmas.{text_valid, document_means}
 use Rattle.sonic_min.proofs.SpreadLemmas.{text_document, tight_spaces, lines_spaces}
 use Rattle.sonic_min.specs.Spellings.{Spelling}
-use Rattle.sonic_min.specs.Texts.{Gaps, AreSpace, IsDocumentSpelled, spread, tight, lines}
+use Rattle.sonic_min.specs.Texts.{Gaps, AreSpace, IsDocumentSpelled, spread, tight, wide_gaps}
 use Rattle.sonic_reports.specs.Commands.Texts.{ReportsText, invalid, valid, IsMinReport, IsIndentReport}
 use Rattle.sonic_reports.specs.Laws.{WritesTheSame}
 use Rattle.sonic_reports.specs.declared.status.Status.{Status}
@@ -28,4 +28,4 @@ writes_small (valid own v own_text t e) done = same tight tight_spaces v own_tex
 -- and `indent` one
 pub writes_wide : (width : ℕ) {input text : List ℕ} {status : Status} → IsIndentReport width input text status → status ≡ Done → WritesTheSame input text
 writes_wide width (invalid s i t e) done = absurd cc
-writes_wide width (valid own v own_text t e) done = same (lines width) (lines_spaces width) v own_text.spelled own_text.is t
+writes_wide width (valid own v own_text t e) done = same (wide_gaps width) (lines_spaces width) v own_text.spelled own_text.is t
