@@ -3,6 +3,8 @@ ghost use Rattle.std.specs.Prelude.{◌≡◌, length, map, option_map};
 ghost use Rattle.sonic_find.specs.Spans.{pairs_of, pair_of};
 ghost use Rattle.sonic_c.specs.Told.{shown_span};
 
+use sonic_parser::ValueSpan;
+
 /// Where a value is in the text, from its first byte to after its last, as indexes from 0, or twice
 /// 0 for a path that lacks its key.
 #[repr(C)]
@@ -23,6 +25,16 @@ impl Span {
         Span {
             start: span.start,
             end: span.end,
+        }
+    }
+
+    // The span of a value that was passed, or of a key.
+    pub(crate) fn of_value(value: ValueSpan) -> Span
+        ensures { result ≡ record { start = value.start; end = value.end } }
+    {
+        Span {
+            start: value.start,
+            end: value.end,
         }
     }
 }

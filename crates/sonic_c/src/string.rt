@@ -2,7 +2,7 @@
 ghost use Rattle.std.specs.Prelude.{IfOk, IfErr, OnOk};
 ghost use Rattle.std.specs.Str.{IsUtf8};
 ghost use Rattle.sonic_find.specs.Documents.{IsAlone};
-ghost use Rattle.sonic_parser.specs.StringSpans.{IsStringSpan, DenotesUtf8};
+ghost use Rattle.sonic_parser.specs.ValueSpans.{IsStringSpan, DenotesUtf8};
 ghost use Rattle.sonic_c.specs.declared.begun.Expected.{Expected};
 ghost use Rattle.sonic_c.specs.Internal.Begun.{RefusesText, IsStopIn};
 ghost use Rattle.sonic_c.specs.Values.{IsStringCall};
@@ -12,7 +12,7 @@ use crate::fault::Fault;
 use crate::room::write_text;
 use crate::status::NO_MEMORY;
 use sonic_find::check;
-use sonic_parser::StringSpan;
+use sonic_parser::ValueSpan;
 use sonic_text::{StringEnd, string_end};
 use std::alloc::Global;
 
@@ -42,7 +42,7 @@ pub extern "C" fn sonic_string_text(
 }
 
 // The string that a text is, with nothing but white space round it.
-fn string_alone(text: &[u8]) -> Result<StringSpan, Refusal>
+fn string_alone(text: &[u8]) -> Result<ValueSpan, Refusal>
     ensures alone { IfOk result (λ string. IsAlone text.now string.start string.end) }
     ensures string { IfOk result (IsStringSpan text.now) }
     ensures utf8 { OnOk result (IsUtf8 text.now) }
@@ -54,7 +54,7 @@ fn string_alone(text: &[u8]) -> Result<StringSpan, Refusal>
     let StringEnd { end, escaped } = string_end(text, start, false)?;
     pass_rest(text, end)?;
     check(text, text.len())?;
-    Ok(StringSpan {
+    Ok(ValueSpan {
         start,
         end,
         escaped,

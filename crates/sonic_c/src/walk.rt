@@ -13,7 +13,7 @@ use crate::span::Span;
 use sonic_find::Steps;
 use sonic_input::{JsonSlice, Read};
 use sonic_parser::Fault;
-use sonic_text::{Kind, Stop, StringEnd};
+use sonic_text::{Kind, Stop};
 use std::alloc::Global;
 
 /// An item of a container: the span of its key, twice 0 for an element of an array, and that of its
@@ -107,10 +107,7 @@ fn item_at(steps: &mut Steps<'_>, kind: Kind) -> Result<Item, Fault>
     ensures stop { IfErr result (IsStopFor (λ s. s.place ≤ length steps.old.text)) }
 {
     let key = key_at(steps, kind)?;
-    let start = steps.place();
-    steps.skip()?;
-    let end = steps.place();
-    let value = Span { start, end };
+    let value = Span::of_value(steps.skip()?);
     Ok(Item { key, value })
 }
 
@@ -124,18 +121,6 @@ fn key_at(steps: &mut Steps<'_>, kind: Kind) -> Result<Span, Stop>
 {
     match kind {
         Kind::Array => Ok(Span { start: 0, end: 0 }),
-        Kind::Object => pass_key(steps),
+        Kind::Object => Ok(Span::of_value(steps.key()?)),
     }
-}
-
-// Passes the key that is expected at the cursor.
-fn pass_key(steps: &mut Steps<'_>) -> Result<Span, Stop>
-    requires checks { steps.old.checks ≡ true }
-    ensures head { IfOk result (IsHeadAt steps.old.text Kind.Object steps.old.place steps.new.place) }
-    ensures moved { steps.new ≡ record steps.old { place = steps.new.place } }
-    ensures err { IfErr result (λ s. IsKeyFault strict steps.old.text steps.old.place s) }
-{
-    let start = steps.place();
-    let StringEnd { end, .. } = steps.key()?;
-    Ok(Span { start, end })
 }

@@ -19,7 +19,7 @@ use Rattle.sonic_parser.specs.Faults.{IsStopFor, IsErrorOf}
 use Rattle.sonic_parser.specs.Parsers.{Parsing, moved, value_start, IsPassed}
 use Rattle.sonic_parser.specs.declared.fault.Fault.{Fault}
 use Rattle.sonic_parser.specs.declared.fault.Fault.TheVariants.{OutOfMemory, At}
-use Rattle.sonic_parser.specs.declared.status.ParseStatus.{ParseStatus}
+use Rattle.sonic_parser.specs.declared.value_span.ValueSpan.{ValueSpan}
 use Rattle.sonic_text.proofs.Outcomes.{value_some_outcome}
 use Rattle.sonic_text.proofs.Values.{value_end_one, value_fault_one, value_never_both}
 use Rattle.sonic_text.proofs.Within.{after_space_within, value_within}
@@ -89,19 +89,18 @@ document_one t is_bytes text = record {
 }
 
 -- a parser that skipped the root, and then white space, has passed both
-pub root_passed : {t : List ℕ} {p q r s : Parsing} {needs : ParseStatus} → p.text ≡ t → p.place ≡ 0 → p.lossy ≡ false → q ≡ moved p (value_start p)
-    → IsPassed q r needs → r ≡ moved q r.place → s ≡ moved r (value_start r)
-    → IsRoot t (record { value = record { start = q.place; end = r.place; status = needs }; after = s.place })
+pub root_passed : {t : List ℕ} {p q r s : Parsing} {x : ValueSpan} → p.text ≡ t → p.place ≡ 0 → p.lossy ≡ false → q ≡ moved p (value_start p)
+    → IsPassed q r x → r ≡ moved q r.place → s ≡ moved r (value_start r) → IsRoot t (record { value = x; after = s.place })
 root_passed {t} {p} {q} {r} {s} text start lossy first passed kept last =
     let same : q.text ≡ t = ap (λ (x : Parsing). x.text) first ∙ text in
     let later : r.text ≡ t = ap (λ (x : Parsing). x.text) kept ∙ same in
     let place : q.place ≡ after_space t 0 = ap (λ (x : Parsing). x.place) first ∙ rw (text, start) refl in
     let way : q.lossy ≡ false = ap (λ (x : Parsing). x.lossy) first ∙ lossy in
     record {
-      start = sym place;
-      value = rw (way, same, place) at passed.value;
-      after = sym (ap (λ (x : Parsing). x.place) last ∙ rw later refl);
-      status = rw same at passed.status;
+      start = sym (passed.start ∙ place);
+      value = rw passed.end (rw (way, same, place) at passed.value);
+      after = rw passed.end (sym (ap (λ (x : Parsing). x.place) last ∙ rw later refl));
+      escaped = rw (passed.start, passed.end) (rw same at passed.escaped);
     }
 
 -- the place after a root

@@ -15,13 +15,12 @@ use Rattle.sonic_find.proofs.UncheckedLemmas.{found_part}
 use Rattle.sonic_find.specs.Answers.{Span, Answer, IsAnswerBy}
 use Rattle.sonic_find.specs.Internal.Fill.{Filling, filling_at, IsNoted, SomeFail, AreSlots, IsFuller, IsSlot, slot_found, slot_lacked, slot_failed, AllSlots, NodeSlots, IsFillBegun}
 use Rattle.sonic_find.specs.Internal.Follow.{IsDeadNode, LacksNode}
-use Rattle.sonic_find.specs.Internal.Located.{AreSpans}
 use Rattle.sonic_find.specs.Internal.Steps.{HasWhole}
 use Rattle.sonic_find.specs.Internal.Walk.{Point, root_point, child_point, ComesTo, AreFindings, was_lacked, AreSetTo, IsPathStop, fails_so, cut_so, path_stops, IsStop, IsError}
 use Rattle.sonic_find.specs.Paths.{found, lacks, fails, kind_of, LeadsBy, EvaluatesBy, LeadsUnder}
 use Rattle.sonic_find.specs.Paths.EvaluatesBy.{found_here}
 use Rattle.sonic_find.specs.Spans.{pair_of, pairs_of}
-use Rattle.sonic_find.specs.Parts.{IsPart}
+use Rattle.sonic_find.specs.Parts.{IsPart, AreSpans}
 use Rattle.sonic_find.specs.declared.span.Span as slot
 use Rattle.sonic_pointer.specs.Nodes.{is_key}
 use Rattle.sonic_pointer.specs.Paths.{IsChildren, IsOrders, IsUnmixed}

@@ -3,7 +3,6 @@ pub mod Collected
 pub mod Fill
 pub mod FirstAnswers
 pub mod Follow
-pub mod Located
 pub mod Marks
 pub mod Roots
 pub mod StepViews

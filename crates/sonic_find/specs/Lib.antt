@@ -2,6 +2,7 @@ pub mod Answers
 pub mod Causes
 pub mod Documents
 pub mod FirstPaths
+pub mod Found
 pub mod Internal
 pub mod Laws
 pub mod Parts

@@ -7,16 +7,15 @@ ghost use Rattle.sonic_parser.specs.Faults.{IsStopFor};
 ghost use Rattle.sonic_parser.specs.Honest.{IsHonest};
 ghost use Rattle.sonic_find.specs.Answers.{IsAnswerBy, Answer};
 ghost use Rattle.sonic_find.specs.Causes.{IsAnswerableBy, IsRefusalBy};
-ghost use Rattle.sonic_find.specs.Internal.Located.{AreParts, HaveStatuses, span_at, spans_of};
+ghost use Rattle.sonic_find.specs.Found.{AreParts, FlagEscapes, span_at, spans_of};
 ghost use Rattle.sonic_find.specs.Internal.Walk.{root_point, IsStop, IsError, IsFurthest, AllReached};
 
-use crate::located::Located;
 use crate::state::Walk;
 use crate::utf8::check;
 use crate::walk::follow;
 use sonic_error::{Error, ErrorCode};
 use sonic_input::{JsonInput, Read};
-use sonic_parser::Fault;
+use sonic_parser::{Fault, ValueSpan};
 use sonic_pointer::{KeyRule, PointerTree};
 use sonic_text::Kind;
 use std::alloc::Global;
@@ -25,7 +24,7 @@ use std::alloc::Global;
 #[derive(Drop)]
 pub(crate) struct Memory {
     // What each path found.
-    pub(crate) found: Vec<Option<Located>>,
+    pub(crate) found: Vec<Option<ValueSpan>>,
     // The kinds of the containers that were open while a value was skipped.
     pub(crate) opened: Option<Vec<Kind>>,
 }
@@ -45,10 +44,10 @@ pub fn locate_many<'de, I: JsonInput<'de>>(
     json: I,
     tree: &PointerTree,
     rule: KeyRule,
-) -> Result<Vec<Option<Located>>, Error>
+) -> Result<Vec<Option<ValueSpan>>, Error>
     ensures ok { IfOk result (λ found. IsAnswerBy rule (I.JsonInput.content json) I.JsonInput.is_bytes
         tree.now (Answer.spans (spans_of found.items))) }
-    ensures statuses { IfOk result (λ found. HaveStatuses (I.JsonInput.content json) found.items) }
+    ensures escaped { IfOk result (λ found. FlagEscapes (I.JsonInput.content json) found.items) }
     ensures parts { IfOk result (λ found. AreParts (I.JsonInput.content json) found.items) }
     ensures err { IfErr result (λ error. IsRefusalBy rule (I.JsonInput.content json) I.JsonInput.is_bytes
         tree.now error) }
@@ -78,7 +77,7 @@ pub(crate) fn locate_in<'de, I: JsonInput<'de>>(
 ) -> Result<(), Fault>
     ensures ok { OnOk result (IsAnswerBy rule (I.JsonInput.content json) I.JsonInput.is_bytes
         tree.now (Answer.spans (spans_of memory.new.found.items))) }
-    ensures statuses { OnOk result (HaveStatuses (I.JsonInput.content json) memory.new.found.items) }
+    ensures escaped { OnOk result (FlagEscapes (I.JsonInput.content json) memory.new.found.items) }
     ensures parts { OnOk result (AreParts (I.JsonInput.content json) memory.new.found.items) }
     ensures err { IfErr result (IsStopFor (λ s. IsAnswerBy rule (I.JsonInput.content json)
         I.JsonInput.is_bytes tree.now (Answer.error s))) }
@@ -109,7 +108,7 @@ fn answer<'de, I: JsonInput<'de>>(
 ) -> Result<(), Fault>
     ensures ok { OnOk result (IsAnswerBy rule (I.JsonInput.content json.now) I.JsonInput.is_bytes
         tree.now (Answer.spans (spans_of memory.new.found.items))) }
-    ensures statuses { OnOk result (HaveStatuses (I.JsonInput.content json.now) memory.new.found.items) }
+    ensures escaped { OnOk result (FlagEscapes (I.JsonInput.content json.now) memory.new.found.items) }
     ensures parts { OnOk result (AreParts (I.JsonInput.content json.now) memory.new.found.items) }
     ensures err { IfErr result (IsStopFor (IsError rule (I.JsonInput.content json.now)
         I.JsonInput.is_bytes tree.now)) }
@@ -143,7 +142,7 @@ fn reach(
     requires slots { memory.old.found.items ≡ replicate (length tree.now) None }
     ensures reached { IfOk result (λ reach.
         AllReached rule read.entry.text tree.now (spans_of memory.new.found.items) reach) }
-    ensures statuses { OnOk result (HaveStatuses read.entry.text memory.new.found.items) }
+    ensures escaped { OnOk result (FlagEscapes read.entry.text memory.new.found.items) }
     ensures err { IfErr result (IsStopFor (IsStop (root_point rule read.entry.text tree.now) false)) }
 {
     let view = tree.view();
@@ -160,7 +159,7 @@ fn reach(
 
 // How far the text is needed: to the end of the root where some path lacks its key, or else to the
 // furthest end of the values, and to 0 where there is none.
-fn reach_of(found: &[Option<Located>], lacking: bool, end: usize) -> usize
+fn reach_of(found: &[Option<ValueSpan>], lacking: bool, end: usize) -> usize
     ensures whole { lacking ≡ true → result ≡ end }
     ensures furthest { lacking ≡ false → IsFurthest (spans_of found.now) result }
 {
@@ -175,13 +174,13 @@ fn reach_of(found: &[Option<Located>], lacking: bool, end: usize) -> usize
 }
 
 // The end of a value, where it is further.
-fn further(reach: usize, value: Option<Located>) -> usize
+fn further(reach: usize, value: Option<ValueSpan>) -> usize
     ensures after { reach ≤ result }
     ensures end { IfSome (option_map span_at value) (λ span. span.1 ≤ result) }
     ensures one { (result ≡ reach) ⊎ IsSomeAnd (option_map span_at value) (λ span. span.1 ≡ result) }
 {
     match value {
-        Some(Located { end, .. }) if reach < end => end,
+        Some(ValueSpan { end, .. }) if reach < end => end,
         _ => reach,
     }
 }

@@ -6,22 +6,21 @@ ghost use Rattle.sonic_text.specs.Documents.{IsRootFault, StartsWithUtf8Value};
 ghost use Rattle.sonic_text.specs.Strings.{strict};
 ghost use Rattle.sonic_parser.specs.Faults.{IsStopFor};
 ghost use Rattle.sonic_parser.specs.Honest.{IsHonest};
+ghost use Rattle.sonic_parser.specs.ValueSpans.{FlagsEscape};
 ghost use Rattle.sonic_find.specs.Documents.{IsAlone, IsValidDocument, IsInvalid, IsInvalidError};
-ghost use Rattle.sonic_find.specs.Internal.Located.{IsStatus};
 ghost use Rattle.sonic_find.specs.Internal.Roots.{IsRoot};
 
-use crate::located::Located;
 use crate::utf8::check;
 use sonic_error::{Error, ErrorCode};
 use sonic_input::{JsonInput, Read};
-use sonic_parser::{Fault, Parser};
+use sonic_parser::{Fault, Parser, ValueSpan};
 use sonic_text::Stop;
 use std::alloc::Global;
 
 // The root, and the place after the white space that follows it.
 #[derive(Clone, Copy)]
 struct Root {
-    value: Located,
+    value: ValueSpan,
     after: usize,
 }
 
@@ -35,14 +34,10 @@ fn pass_root(alloc: Global, read: Read<'_>) -> Result<Root, Fault>
 {
     let mut parser = Parser::new(read);
     parser.skip_space_peek();
-    let start = parser.offset();
-    let status = parser.skip_value(alloc)?;
-    let end = parser.offset();
+    let value = parser.skip_value(alloc)?;
     parser.skip_space_peek();
-    Ok(Root {
-        value: Located { start, end, status },
-        after: parser.offset(),
-    })
+    let after = parser.offset();
+    Ok(Root { value, after })
 }
 
 /// Where the one value is that a text is, with nothing but white space round it, or the reason why
@@ -50,10 +45,10 @@ fn pass_root(alloc: Global, read: Read<'_>) -> Result<Root, Fault>
 ///
 /// Nothing is looked at for its UTF-8. It is what `from_str` and `RawNumber::from_str` of
 /// `sonic_lazy` read. Of ` [1, 2] ` it is from 1 to 7, and of `[1] x` the stop is at 4.
-pub fn pass_alone(alloc: Global, read: Read<'_>) -> Result<Located, Fault>
+pub fn pass_alone(alloc: Global, read: Read<'_>) -> Result<ValueSpan, Fault>
     requires { read.place ≡ 0 }
     ensures ok { IfOk result (λ x. IsAlone read.entry.text x.start x.end) }
-    ensures status { IfOk result (λ x. IsStatus read.entry.text x.start x.end x.status) }
+    ensures escaped { IfOk result (FlagsEscape read.entry.text) }
     ensures err { IfErr result (IsStopFor (λ s. (is_bytes : Bool) → IsInvalid read.entry.text is_bytes s)) }
     ensures within { IfErr result (IsStopFor (λ s. s.place ≤ length read.entry.text)) }
 {

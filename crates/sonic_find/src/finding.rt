@@ -7,17 +7,17 @@ ghost use Rattle.sonic_parser.specs.Honest.{IsHonest};
 ghost use Rattle.sonic_pointer.specs.Nodes.{path_of};
 ghost use Rattle.sonic_find.specs.Answers.{IsAnswer, Answer};
 ghost use Rattle.sonic_find.specs.Causes.{IsAnswerable, IsRefusal};
-ghost use Rattle.sonic_find.specs.Internal.Located.{slot_at};
+ghost use Rattle.sonic_find.specs.Found.{slot_at};
 ghost use Rattle.sonic_find.specs.Spans.{IsFinding, IsSureFinding, pairs_of};
 
 use crate::answer::locate_many;
-use crate::located::Located;
 use crate::many_unchecked::clear;
 use crate::path::{locate, locate_from};
 use crate::span::Span;
 use crate::steps::Steps;
 use sonic_error::{Error, ErrorCode};
 use sonic_input::{JsonInput, Read};
+use sonic_parser::ValueSpan;
 use sonic_pointer::{KeyRule, PointerNode, PointerTree};
 use std::alloc::Global;
 
@@ -36,7 +36,7 @@ pub fn find<'de, I: JsonInput<'de>>(
     let text = json.to_u8_slice();
     let read = Read::unscanned(json.to_json_slice());
     match locate_from(alloc, read, json.need_utf8_valid(), path) {
-        Ok(Located { start, end, .. }) => Ok(Span { start, end }),
+        Ok(ValueSpan { start, end, .. }) => Ok(Span { start, end }),
         Err(fault) => Err(fault.error(text)),
     }
 }
@@ -55,7 +55,7 @@ pub fn find_unchecked<'de, I: JsonInput<'de>>(
     let text = json.to_u8_slice();
     let mut steps = Steps::unchecked(Read::unscanned(json.to_json_slice()));
     match locate(&mut steps, path) {
-        Ok(Located { start, end, .. }) => Ok(Span { start, end }),
+        Ok(ValueSpan { start, end, .. }) => Ok(Span { start, end }),
         Err(fault) => Err(fault.error(text)),
     }
 }
@@ -90,21 +90,21 @@ pub fn find_many<'de, I: JsonInput<'de>>(
 }
 
 // Fills the slots with what was found.
-fn fill(out: &mut [Option<Span>], found: &[Option<Located>])
+fn fill(out: &mut [Option<Span>], found: &[Option<ValueSpan>])
     requires { length found.now ≡ length out.old }
     ensures { out.new ≡ map (option_map slot_at) found.now }
 {
-    for (i, located) in found.iter().enumerate() {
-        out[i] = span_of(*located);
+    for (i, value) in found.iter().enumerate() {
+        out[i] = span_of(*value);
     }
 }
 
 // The span of a value, where one was found.
-pub(crate) fn span_of(located: Option<Located>) -> Option<Span>
-    ensures { result ≡ option_map slot_at located }
+pub(crate) fn span_of(value: Option<ValueSpan>) -> Option<Span>
+    ensures { result ≡ option_map slot_at value }
 {
-    match located {
-        Some(Located { start, end, .. }) => Some(Span { start, end }),
+    match value {
+        Some(ValueSpan { start, end, .. }) => Some(Span { start, end }),
         None => None,
     }
 }

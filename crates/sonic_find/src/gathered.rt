@@ -21,14 +21,13 @@ ghost use Rattle.sonic_find.specs.Internal.View.{container_at, marked_at, markin
 ghost use Rattle.sonic_find.specs.Internal.Walk.{AllSettled, AreFindings, ComesTo, IsLater, IsStop};
 ghost use Rattle.sonic_find.specs.Paths.{empty_code, kind_of, wanted_of};
 
-use crate::located::Located;
 use crate::marks::Mark;
 use crate::path::kind_of_node;
 use crate::state::Walk;
 use crate::steps::{empty_code, wanted_of};
 use crate::walk::{Level, head, kind_of_children};
 use sonic_error::{ErrorCode, Note};
-use sonic_parser::{Fault, ParseStatus};
+use sonic_parser::{Fault, ValueSpan};
 use sonic_pointer::{PointerNode, TreeView};
 use sonic_text::{Kind, Stop, byte_at, type_of};
 
@@ -102,14 +101,16 @@ fn pass(walk: &mut Walk<'_>, view: &TreeView<'_>) -> Result<Mark, Fault>
         needs: true,
     };
     if !begins(walk, &level, count) {
-        let status = walk.skip()?;
-        return Ok(passed(walk, level.start, status, false));
+        let value = walk.skip()?;
+        return Ok(Mark::passed(value, false));
     }
     if !walk.open(level.kind) {
-        return Ok(passed(walk, level.start, ParseStatus::None, false));
+        let empty = ValueSpan::plain(level.start, walk.place());
+        return Ok(Mark::passed(empty, false));
     }
     members(walk, &level)?;
-    Ok(passed(walk, level.start, ParseStatus::None, true))
+    let whole = ValueSpan::plain(level.start, walk.place());
+    Ok(Mark::passed(whole, true))
 }
 
 // Whether there are children, and a container of their kind begins at the cursor.
@@ -119,23 +120,6 @@ fn begins(walk: &Walk<'_>, level: &Level<'_, '_>, count: usize) -> bool
         ⊎ (byte walk.now.text walk.now.place ≢ opening level.now.kind) }
 {
     count != 0 && byte_at(walk.text(), walk.place()) == level.kind.opening()
-}
-
-// The mark of a value that began at `start` and was passed.
-fn passed(walk: &Walk<'_>, start: usize, status: ParseStatus, has_items: bool) -> Mark
-    ensures start { result.value.start ≡ start }
-    ensures end { result.value.end ≡ walk.now.place }
-    ensures status { result.value.status ≡ status }
-    ensures items { result.has_items ≡ has_items }
-    ensures first { result.again ≡ None }
-{
-    let end = walk.place();
-    let value = Located { start, end, status };
-    Mark {
-        value,
-        has_items,
-        again: None,
-    }
 }
 
 // Passes the items of the level's container, from the first one on, up to its end.
@@ -226,7 +210,7 @@ fn collect(walk: &mut Walk<'_>, view: &TreeView<'_>, mark: Mark) -> Option<Stop>
         let stop = collect_child(walk, view, mark, i);
         nearest = nearer(nearest, stop);
     }
-    walk.keep_value(view.orders(), mark.value);
+    walk.keep(view.orders(), mark.value);
     nearest
 }
 

@@ -12,8 +12,6 @@ mod finding;
 mod gathered;
 // The laws of outcomes, answers and documents.
 mod law;
-// Where a value was found, and what it needs.
-mod located;
 // Where many paths lead in an input that is known to begin with a value.
 mod many_unchecked;
 // What each prefix of a tree had last.
@@ -44,8 +42,7 @@ pub use law::{
     outcomes_come_before_the_fault, path_has_one_answer, path_has_one_outcome,
     paths_have_one_answer, refuse_agrees_with_each_rule,
 };
-pub use located::Located;
-pub use many_unchecked::{find_many_unchecked, with_status};
+pub use many_unchecked::{find_many_unchecked, value_span};
 pub use path::{locate, locate_from};
 pub use room::{Room, fill_room, find_many_by, find_many_in};
 pub use span::Span;

@@ -12,7 +12,7 @@ ghost use Rattle.sonic_find.specs.Answers.{IsAnswer, Answer};
 ghost use Rattle.sonic_find.specs.Causes.{IsAnswerable, IsAnswerError};
 ghost use Rattle.sonic_find.specs.Internal.Fill.{filling_at, origin_at, IsFuller, AllSlots, NodeSlots, IsFillBegun};
 ghost use Rattle.sonic_find.specs.Internal.Follow.{IsDeadNode, LacksNode};
-ghost use Rattle.sonic_find.specs.Internal.Located.{IsStatus};
+ghost use Rattle.sonic_parser.specs.ValueSpans.{FlagsEscape};
 ghost use Rattle.sonic_find.specs.Internal.Steps.{HasWhole};
 ghost use Rattle.sonic_find.specs.Internal.Walk.{AreSetTo, IsError};
 ghost use Rattle.sonic_find.specs.Paths.{LeadsOn};
@@ -20,13 +20,12 @@ ghost use Rattle.sonic_find.specs.Spans.{pairs_of};
 ghost use Rattle.sonic_pointer.specs.declared.rule.KeyRule.TheVariants.{First};
 
 use crate::gathered::nearer;
-use crate::located::Located;
 use crate::path::lead_on;
 use crate::span::Span;
 use crate::steps::Steps;
 use sonic_error::Error;
 use sonic_input::{JsonInput, JsonSlice, Read};
-use sonic_parser::{Fault, ParseStatus, Parser};
+use sonic_parser::{Fault, Parser, ValueSpan};
 use sonic_pointer::{PointerNode, PointerTree, TreeView};
 use sonic_text::{Stop, byte_at, skip_space};
 
@@ -58,21 +57,14 @@ impl<'de> Origin<'de> {
         read
     }
 
-    // From where to where the value is, and what it needs.
-    fn located(self) -> Located
+    // Where the value is.
+    fn span(self) -> ValueSpan
         requires { HasWhole self.text.now self.place }
         ensures start { result.start ≡ self.entry.place }
         ensures value { IsValue strict self.entry.text.now self.entry.place result.end }
-        ensures status { IsStatus self.entry.text.now self.entry.place result.end result.status }
+        ensures escaped { FlagsEscape self.entry.text.now result }
     {
-        let mut parser = Parser::new(self.read());
-        let status = parser.skip_value_unchecked();
-        let end = parser.offset();
-        Located {
-            start: self.place,
-            end,
-            status,
-        }
+        Parser::new(self.read()).skip_value_unchecked()
     }
 
     // The value of the first item that the node names, if there is one.
@@ -128,7 +120,7 @@ fn fill(
     if orders.is_empty() {
         return;
     }
-    let Located { start, end, .. } = origin.located();
+    let ValueSpan { start, end, .. } = origin.span();
     keep(slots, orders, Span { start, end });
 }
 
@@ -216,18 +208,16 @@ pub fn find_many_unchecked<'de, I: JsonInput<'de>>(
 /// Where the value of a span is, and whether it is a string with a backslash, for which a string
 /// alone is read: what `get_many_unchecked` of `sonic_lazy` makes of a span.
 ///
-/// Of `["a\n"]` the span from 1 to 6 has `ParseStatus::HasEscaped`, and that from 0 to 7, which is no
-/// string, has `ParseStatus::None`.
-pub fn with_status(text: &[u8], span: Span) -> Located
+/// In `["a\n"]` the value from 1 to 6 is such a string, and that from 0 to 7 is none.
+pub fn value_span(text: &[u8], span: Span) -> ValueSpan
     requires { IsValue strict text.now span.start span.end }
     ensures start { result.start ≡ span.start }
     ensures end { result.end ≡ span.end }
-    ensures status { IsStatus text.now span.start span.end result.status }
+    ensures escaped { FlagsEscape text.now result }
 {
     let Span { start, end } = span;
-    let status = match byte_at(text, start) {
-        b'"' => Origin { text, place: start }.located().status,
-        _ => ParseStatus::None,
-    };
-    Located { start, end, status }
+    match byte_at(text, start) {
+        b'"' => Origin { text, place: start }.span(),
+        _ => ValueSpan::plain(start, end),
+    }
 }

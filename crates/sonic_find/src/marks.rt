@@ -1,8 +1,7 @@
 // What each prefix of a tree had last, where a key leads on in whole objects alone.
 ghost use Rattle.std.specs.Prelude.{◌≡◌, ◌≢◌, Some, None};
 
-use crate::located::Located;
-use sonic_parser::ParseStatus;
+use sonic_parser::ValueSpan;
 
 // The value to which a prefix led last.
 //
@@ -10,7 +9,7 @@ use sonic_parser::ParseStatus;
 // is where it begins after that one, and no mark has to be taken back.
 #[derive(Clone, Copy)]
 pub(crate) struct Mark {
-    pub(crate) value: Located,
+    pub(crate) value: ValueSpan,
     // Whether it is a container, with items, of the kind in which the prefix goes on.
     pub(crate) has_items: bool,
     // The quote of the second member with the prefix's last key, where that is refused.
@@ -22,14 +21,16 @@ impl Mark {
     pub(crate) fn none() -> Mark
         ensures { result.value.start ≡ 0 }
     {
-        let value = Located {
-            start: 0,
-            end: 0,
-            status: ParseStatus::None,
-        };
+        Mark::passed(ValueSpan::plain(0, 0), false)
+    }
+
+    // The mark of a value that was passed.
+    pub(crate) fn passed(value: ValueSpan, has_items: bool) -> Mark
+        ensures { result ≡ record { value = value; has_items = has_items; again = None } }
+    {
         Mark {
             value,
-            has_items: false,
+            has_items,
             again: None,
         }
     }

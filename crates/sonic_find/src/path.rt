@@ -6,19 +6,18 @@ ghost use Rattle.sonic_text.specs.Strings.{strict};
 ghost use Rattle.sonic_text.specs.Values.{IsValue};
 ghost use Rattle.sonic_pointer.specs.Nodes.{node_of, path_of};
 ghost use Rattle.sonic_parser.specs.Faults.{IsStopFor};
+ghost use Rattle.sonic_parser.specs.ValueSpans.{FlagsEscape};
 ghost use Rattle.sonic_find.specs.Answers.{Answer, IsGetAnswer};
 ghost use Rattle.sonic_find.specs.Internal.Follow.{IsDeadEnd, IsDeadNode, LacksNode, IsTried, IsRest};
-ghost use Rattle.sonic_find.specs.Internal.Located.{IsStatus};
 ghost use Rattle.sonic_find.specs.Internal.Steps.{IsAtKey, IsSkippable};
 ghost use Rattle.sonic_find.specs.Internal.Walk.{IsPathStop};
 ghost use Rattle.sonic_find.specs.Paths.{found, lacks, kind_of, Evaluates, LeadsOn};
 ghost use Rattle.sonic_pointer.specs.declared.rule.KeyRule.TheVariants.{First};
 
-use crate::located::Located;
 use crate::steps::Steps;
 use sonic_error::ErrorCode;
 use sonic_input::Read;
-use sonic_parser::Fault;
+use sonic_parser::{Fault, ValueSpan};
 use sonic_pointer::PointerNode;
 use sonic_text::{Kind, Stop, same_key};
 use std::alloc::Global;
@@ -28,12 +27,12 @@ use std::alloc::Global;
 /// The steps are then after that value. Else the stop is where it leads nowhere, or the fault of the
 /// text before that. Steps that look at nothing take no memory, and give no `Fault::OutOfMemory`.
 /// Over `[5,{"a":7}]` the path `[1, "a"]` leads to the `7`, from 8 to 9.
-pub fn locate(steps: &mut Steps<'_>, path: &[PointerNode<'_>]) -> Result<Located, Fault>
+pub fn locate(steps: &mut Steps<'_>, path: &[PointerNode<'_>]) -> Result<ValueSpan, Fault>
     requires { IsSkippable steps.old }
     ensures ok { IfOk result (λ x.
         Evaluates steps.old.text steps.old.place (path_of path.now) (found x.start x.end)) }
     ensures value { IfOk result (λ x. IsValue strict steps.old.text x.start x.end) }
-    ensures status { IfOk result (λ x. IsStatus steps.old.text x.start x.end x.status) }
+    ensures escaped { IfOk result (FlagsEscape steps.old.text) }
     ensures end { IfOk result (λ x. steps.new.place ≡ x.end) }
     ensures moved { steps.new ≡ record steps.old { place = steps.new.place } }
     ensures err { IfErr result (IsStopFor (IsDeadEnd First steps.old.text steps.old.place
@@ -45,10 +44,7 @@ pub fn locate(steps: &mut Steps<'_>, path: &[PointerNode<'_>]) -> Result<Located
         let code = ErrorCode::GetUnknownKeyInObject;
         return Err(Fault::At(Stop { place, code }));
     }
-    let start = steps.place();
-    let status = steps.skip()?;
-    let end = steps.place();
-    Ok(Located { start, end, status })
+    steps.skip()
 }
 
 /// Where the value is to which a path leads from the start of a text, up to whose end this is UTF-8,
@@ -64,12 +60,12 @@ pub fn locate_from(
     read: Read<'_>,
     is_bytes: bool,
     path: &[PointerNode<'_>],
-) -> Result<Located, Fault>
+) -> Result<ValueSpan, Fault>
     requires { read.place ≡ 0 }
     ensures ok { IfOk result (λ x. IsGetAnswer read.entry.text is_bytes (path_of path.now)
         (Answer.spans (Some (x.start, x.end) ∷ []))) }
     ensures value { IfOk result (λ x. IsValue strict read.entry.text x.start x.end) }
-    ensures status { IfOk result (λ x. IsStatus read.entry.text x.start x.end x.status) }
+    ensures escaped { IfOk result (FlagsEscape read.entry.text) }
     ensures within { IfErr result (IsStopFor (λ s. s.place ≤ length read.entry.text)) }
     ensures err { IfErr result (IsStopFor (λ s.
         IsGetAnswer read.entry.text is_bytes (path_of path.now) (Answer.error s))) }
@@ -162,9 +158,8 @@ fn try_item(steps: &mut Steps<'_>, node: &PointerNode<'_>, passed: usize) -> Res
 {
     match node {
         PointerNode::Key(text) => {
-            let start = steps.place();
-            let end = steps.key()?.end;
-            Ok(same_key(steps.text(), start, end, *text))
+            let key = steps.key()?;
+            Ok(same_key(steps.text(), key.start, key.end, *text))
         }
         PointerNode::Index(number) => Ok(passed == *number),
     }

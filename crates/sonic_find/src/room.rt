@@ -6,7 +6,7 @@ ghost use Rattle.sonic_parser.specs.Faults.{IsStopFor};
 ghost use Rattle.sonic_parser.specs.Honest.{IsHonest};
 ghost use Rattle.sonic_find.specs.Answers.{IsAnswer, IsAnswerBy, Answer};
 ghost use Rattle.sonic_find.specs.Causes.{IsAnswerable, IsAnswerableBy, IsRefusal, IsRefusalBy};
-ghost use Rattle.sonic_find.specs.Internal.Located.{slot_at};
+ghost use Rattle.sonic_find.specs.Found.{slot_at};
 ghost use Rattle.sonic_find.specs.Parts.{AreSpans};
 ghost use Rattle.sonic_find.specs.Spans.{pairs_of};
 
@@ -35,7 +35,7 @@ impl Model for Room {
     ghost use Rattle.std.specs.Prelude.{List, map, option_map};
     ghost use Rattle.std.specs.declared.option.Option.{Option};
     ghost use Rattle.sonic_find.specs.declared.span.Span.{Span};
-    ghost use Rattle.sonic_find.specs.Internal.Located.{slot_at};
+    ghost use Rattle.sonic_find.specs.Found.{slot_at};
 
     ghost Value = { List (Option Span) };
 

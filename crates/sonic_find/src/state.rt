@@ -1,24 +1,24 @@
 // What a walk through a text has come to.
-ghost use Rattle.std.specs.Prelude.{◌≡◌, ◌≢◌, ◌⊎◌, ◌<◌, ◌≤◌, ◌^◌, ◌+◌, ◌↔◌, ℕ, List, Some, None, true, false, length, replicate, set, slice_get, IfOk, IfErr, IsTrue, OnOk};
+ghost use Rattle.std.specs.Prelude.{◌≡◌, ◌≢◌, ◌⊎◌, ◌<◌, ◌≤◌, ◌^◌, ◌+◌, ℕ, Some, None, true, false, length, replicate, set, slice_get, IfOk, IfErr, OnOk};
 ghost use Rattle.std.specs.List.{Contains};
 ghost use Rattle.sonic_text.specs.Places.{after_space, byte};
-ghost use Rattle.sonic_text.specs.Strings.{IsEscapedString, IsString, strict};
-ghost use Rattle.sonic_text.specs.Values.{opening, IsValue, IsKey, ItemsFit};
+ghost use Rattle.sonic_text.specs.Strings.{strict};
+ghost use Rattle.sonic_text.specs.Values.{opening, IsValue, ItemsFit};
 ghost use Rattle.sonic_text.specs.Faults.{IsFault, IsKeyFault};
 ghost use Rattle.sonic_parser.specs.Containers.{IsEnd, IsSeparated, IsSeparatorFault};
 ghost use Rattle.sonic_parser.specs.Faults.{IsStopFor};
 ghost use Rattle.sonic_pointer.specs.declared.rule.KeyRule.TheVariants.{First, Refuse};
 ghost use Rattle.sonic_find.specs.declared.marks.Mark.{Mark};
-ghost use Rattle.sonic_find.specs.Internal.Located.{IsStatus, HaveStatuses, span_at, spans_of};
+ghost use Rattle.sonic_parser.specs.ValueSpans.{FlagsEscape, IsKeyAt};
+ghost use Rattle.sonic_find.specs.Found.{FlagEscapes, span_at, spans_of};
 ghost use Rattle.sonic_find.specs.Internal.Walk.{IsNoEntry, AreSetTo};
 
-use crate::located::Located;
 use crate::marks::Mark;
 use crate::steps::Steps;
 use sonic_input::Read;
-use sonic_parser::{Fault, ParseStatus};
+use sonic_parser::{Fault, ValueSpan};
 use sonic_pointer::KeyRule;
-use sonic_text::{Kind, Stop, StringEnd};
+use sonic_text::{Kind, Stop};
 use std::alloc::{AllocError, Global};
 use std::marker::Model;
 
@@ -28,7 +28,7 @@ pub(crate) struct Walk<'de> {
     alloc: Global,
     steps: Steps<'de>,
     // The value that each path found.
-    spans: Vec<Option<Located>>,
+    spans: Vec<Option<ValueSpan>>,
     // Whether some path lacks its key.
     lacking: bool,
     // Which of several equal keys counts.
@@ -56,12 +56,12 @@ impl<'de> Walk<'de> {
     pub(crate) fn new(
         alloc: Global,
         read: Read<'de>,
-        spans: Vec<Option<Located>>,
+        spans: Vec<Option<ValueSpan>>,
         rule: KeyRule,
         prefixes: usize,
     ) -> Result<Walk<'de>, AllocError>
         requires start { read.place ≡ 0 }
-        requires statuses { HaveStatuses read.text spans.items }
+        requires escaped { FlagEscapes read.text spans.items }
         ensures text { IfOk result (λ walk. walk.text ≡ read.entry.text) }
         ensures place { IfOk result (λ walk. walk.place ≡ after_space read.entry.text 0) }
         ensures findings { IfOk result (λ walk.
@@ -156,12 +156,12 @@ impl<'de> Walk<'de> {
         self.lacking
     }
 
-    // Skips the value at the cursor.
+    // Skips the value at the cursor, and gives where it is.
     #[inline(always)]
-    pub(crate) fn skip(&mut self) -> Result<ParseStatus, Fault>
+    pub(crate) fn skip(&mut self) -> Result<ValueSpan, Fault>
         ensures value { OnOk result (IsValue strict self.old.text self.old.place self.new.place) }
-        ensures status { IfOk result (λ status.
-            IsStatus self.old.text self.old.place self.new.place status) }
+        ensures span { IfOk result (λ value. (value.start ≡ self.old.place) × (value.end ≡ self.new.place)) }
+        ensures escaped { IfOk result (FlagsEscape self.old.text) }
         ensures moved { OnOk result (self.new ≡ record self.old { place = self.new.place }) }
         ensures err { IfErr result (IsStopFor (λ s. IsFault strict self.old.text self.old.place s)) }
     {
@@ -206,41 +206,21 @@ impl<'de> Walk<'de> {
         self.steps.next_item(kind)
     }
 
-    // Passes the key at the cursor, up to the member's value, and gives where the key ends and
-    // whether it has a backslash.
+    // Passes the key at the cursor, up to the member's value, and gives where the key is.
     #[inline(always)]
-    pub(crate) fn key(&mut self) -> Result<StringEnd, Stop>
-        ensures ok { IfOk result (λ key. (b : List ℕ)
-            × IsString strict self.old.text self.old.place key.end b
-            × IsKey strict self.old.text self.old.place self.new.place b) }
-        ensures escaped { IfOk result (λ key.
-            IsTrue key.escaped ↔ IsEscapedString self.old.text self.old.place key.end) }
+    pub(crate) fn key(&mut self) -> Result<ValueSpan, Stop>
+        ensures ok { IfOk result (λ key. IsKeyAt strict self.old.text self.old.place key self.new.place) }
         ensures moved { self.new ≡ record self.old { place = self.new.place } }
         ensures err { IfErr result (λ s. IsKeyFault strict self.old.text self.old.place s) }
     {
         self.steps.key()
     }
 
-    // Keeps the value that was read from `start` up to here for the paths of these numbers.
+    // Keeps a value for the paths of these numbers.
     #[inline(always)]
-    pub(crate) fn keep(&mut self, orders: &[usize], start: usize, status: ParseStatus)
+    pub(crate) fn keep(&mut self, orders: &[usize], value: ValueSpan)
         requires known { (k : ℕ) → Contains orders.now k → k < length self.old.findings.spans }
-        requires status { IsStatus self.old.text start self.old.place status }
-        ensures filled { AreSetTo orders.now self.old.findings.spans self.new.findings.spans
-            (start, self.old.place) }
-        ensures kept { self.new ≡ record self.old {
-          findings =
-              record self.old.findings { spans = self.new.findings.spans };
-        } }
-    {
-        let end = self.steps.place();
-        fill(&mut self.spans, orders, Located { start, end, status });
-    }
-
-    // Keeps a value that was read before for the paths of these numbers.
-    pub(crate) fn keep_value(&mut self, orders: &[usize], value: Located)
-        requires known { (k : ℕ) → Contains orders.now k → k < length self.old.findings.spans }
-        requires status { IsStatus self.old.text value.start value.end value.status }
+        requires escaped { FlagsEscape self.old.text value }
         ensures filled { AreSetTo orders.now self.old.findings.spans self.new.findings.spans
             (span_at value) }
         ensures kept { self.new ≡ record self.old {
@@ -262,9 +242,9 @@ impl<'de> Walk<'de> {
     }
 
     // The value that each path found.
-    pub(crate) fn into_spans(self) -> Vec<Option<Located>>
+    pub(crate) fn into_spans(self) -> Vec<Option<ValueSpan>>
         ensures spans { spans_of result.items ≡ self.entry.findings.spans }
-        ensures statuses { HaveStatuses self.entry.text result.items }
+        ensures escaped { FlagEscapes self.entry.text result.items }
     {
         let Walk { spans, steps, .. } = self;
         spans
@@ -285,7 +265,7 @@ fn marks(alloc: Global, rule: KeyRule, prefixes: usize) -> Result<Vec<Mark>, All
 
 // Keeps a value for the paths of these numbers.
 #[tactic(auto, using(crate::proofs::WalkLemmas::List::fillings))]
-fn fill(spans: &mut Vec<Option<Located>>, orders: &[usize], value: Located)
+fn fill(spans: &mut Vec<Option<ValueSpan>>, orders: &[usize], value: ValueSpan)
     requires { (k : ℕ) → Contains orders.now k → k < length spans.old.items }
     ensures { AreSetTo orders.now spans.old.items spans.new.items value }
 {

@@ -1,16 +1,16 @@
 // The steps of a walk through a text.
-ghost use Rattle.std.specs.Prelude.{◌≡◌, ◌≢◌, ◌+◌, ◌<◌, ◌≤◌, ◌^◌, ◌↔◌, ℕ, List, true, false, length, take, IfOk, IfErr, IsErrOf, IsTrue, OnOk, is_some};
+ghost use Rattle.std.specs.Prelude.{◌≡◌, ◌≢◌, ◌+◌, ◌<◌, ◌≤◌, ◌^◌, true, false, length, take, IfOk, IfErr, IsErrOf, OnOk, is_some};
 ghost use Rattle.std.specs.Str.{IsUtf8};
 ghost use Rattle.sonic_error.specs.declared.code.ErrorCode.TheVariants.{InvalidUTF8};
 ghost use Rattle.sonic_error.specs.Texts.{valid_up_to};
 ghost use Rattle.sonic_text.specs.Places.{byte, after_space};
-ghost use Rattle.sonic_text.specs.Strings.{IsString, IsEscapedString, strict};
-ghost use Rattle.sonic_text.specs.Values.{opening, IsKey, IsValue, ItemsFit};
+ghost use Rattle.sonic_text.specs.Strings.{strict};
+ghost use Rattle.sonic_text.specs.Values.{opening, IsValue, ItemsFit};
 ghost use Rattle.sonic_text.specs.Faults.{IsFault, IsKeyFault};
 ghost use Rattle.sonic_parser.specs.Containers.{IsEnd, IsSeparated, IsSeparatorFault};
 ghost use Rattle.sonic_parser.specs.Faults.{IsStopFor};
 ghost use Rattle.sonic_parser.specs.Parsers.{IsFilledContainer};
-ghost use Rattle.sonic_find.specs.Internal.Located.{IsStatus};
+ghost use Rattle.sonic_parser.specs.ValueSpans.{FlagsEscape, IsKeyAt};
 ghost use Rattle.sonic_find.specs.Internal.Steps.{IsAfterItem, IsAtKey, IsSkippable};
 ghost use Rattle.sonic_find.specs.Internal.Walk.{IsNoEntry};
 ghost use Rattle.sonic_find.specs.Paths.{empty_code, wanted_of};
@@ -18,8 +18,8 @@ ghost use Rattle.sonic_find.specs.Paths.{empty_code, wanted_of};
 use crate::utf8::check_from;
 use sonic_error::{ErrorCode, Note, Wanted};
 use sonic_input::Read;
-use sonic_parser::{Fault, ParseStatus, Parser};
-use sonic_text::{Kind, Stop, StringEnd, byte_at, skip_space, type_of};
+use sonic_parser::{Fault, Parser, ValueSpan};
+use sonic_text::{Kind, Stop, byte_at, skip_space, type_of};
 use std::alloc::Global;
 use std::marker::Model;
 
@@ -122,13 +122,14 @@ impl<'de> Steps<'de> {
         self.parser.text()
     }
 
-    /// Skips the value at the cursor. Memory runs out only at a container that has items.
+    /// Skips the value at the cursor, and gives where it is. Memory runs out only at a container that
+    /// has items.
     #[inline(always)]
-    pub fn skip(&mut self) -> Result<ParseStatus, Fault>
+    pub fn skip(&mut self) -> Result<ValueSpan, Fault>
         requires { IsSkippable self.old }
         ensures value { OnOk result (IsValue strict self.old.text self.old.place self.new.place) }
-        ensures status { IfOk result (λ status.
-            IsStatus self.old.text self.old.place self.new.place status) }
+        ensures span { IfOk result (λ value. (value.start ≡ self.old.place) × (value.end ≡ self.new.place)) }
+        ensures escaped { IfOk result (FlagsEscape self.old.text) }
         ensures moved { self.new ≡ record self.old { place = self.new.place } }
         ensures err { IfErr result (IsStopFor (λ s. IsFault strict self.old.text self.old.place s)) }
         ensures memory { IsErrOf result Fault.OutOfMemory → self.old.checks ≡ true }
@@ -238,16 +239,11 @@ impl<'de> Steps<'de> {
         }
     }
 
-    /// Passes the key at the cursor, up to the member's value, and gives where the key ends and
-    /// whether it has a backslash.
+    /// Passes the key at the cursor, up to the member's value, and gives where the key is.
     #[inline(always)]
-    pub fn key(&mut self) -> Result<StringEnd, Stop>
+    pub fn key(&mut self) -> Result<ValueSpan, Stop>
         requires { IsAtKey self.old }
-        ensures ok { IfOk result (λ key. (b : List ℕ)
-            × IsString strict self.old.text self.old.place key.end b
-            × IsKey strict self.old.text self.old.place self.new.place b) }
-        ensures escaped { IfOk result (λ key.
-            IsTrue key.escaped ↔ IsEscapedString self.old.text self.old.place key.end) }
+        ensures ok { IfOk result (λ key. IsKeyAt strict self.old.text self.old.place key self.new.place) }
         ensures moved { self.new ≡ record self.old { place = self.new.place } }
         ensures err { IfErr result (λ s. IsKeyFault strict self.old.text self.old.place s) }
     {

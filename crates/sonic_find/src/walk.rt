@@ -1,13 +1,12 @@
 // One walk through a text, which finds what all paths of a tree lead to.
 ghost use Rattle.std.specs.Prelude.{◌≡◌, ◌≢◌, ◌⊎◌, ◌<◌, ◌≤◌, ◌-◌, ℕ, List, Some, true, false, slice_get, IfOk, IfErr, OnOk};
 ghost use Rattle.sonic_error.specs.declared.code.ErrorCode.TheVariants.{GetIndexOutOfArray};
-ghost use Rattle.sonic_text.specs.Strings.{strict};
+ghost use Rattle.sonic_text.specs.Strings.{strict, IsEscapedString};
 ghost use Rattle.sonic_text.specs.Paths.{Node};
 ghost use Rattle.sonic_text.specs.Values.{IsValue};
 ghost use Rattle.sonic_text.specs.Faults.{IsKeyFault};
 ghost use Rattle.sonic_pointer.specs.Paths.{HasPrefix, IsChildren};
 ghost use Rattle.sonic_parser.specs.Faults.{IsStopFor};
-ghost use Rattle.sonic_find.specs.Internal.Located.{IsStatus};
 ghost use Rattle.sonic_find.specs.Paths.{kind_of};
 ghost use Rattle.sonic_find.specs.Internal.Walk.{IsStop, ComesTo, AreFindings, IsLater, AllSettled, BelowSettled, IsContainer, IsFollowed, IsItemPassed, IsWanted, IsChildItem, SomeOpen};
 ghost use Rattle.sonic_find.specs.Internal.Marks.{KeepsMarks};
@@ -17,7 +16,7 @@ use crate::gathered::follow_whole;
 use crate::state::Walk;
 use crate::visited::Visited;
 use sonic_error::ErrorCode;
-use sonic_parser::{Fault, ParseStatus};
+use sonic_parser::{Fault, ValueSpan};
 use sonic_pointer::{Branch, TreeView};
 use sonic_text::{Kind, Stop};
 
@@ -53,11 +52,9 @@ pub(crate) fn follow(walk: &mut Walk<'_>, view: &TreeView<'_>, finish: bool) -> 
     ensures rule { OnOk result (walk.new.rule ≡ walk.old.rule) }
     ensures err { IfErr result (IsStopFor (IsStop (point_at walk.old view.now) finish)) }
 {
-    let start = walk.place();
-    let orders = view.orders();
     if view.count() == 0 {
-        let status = walk.skip()?;
-        walk.keep(orders, start, status);
+        let value = walk.skip()?;
+        walk.keep(view.orders(), value);
         return Ok(());
     }
     follow_children(walk, view, finish)
@@ -96,7 +93,7 @@ fn follow_children(walk: &mut Walk<'_>, view: &TreeView<'_>, finish: bool) -> Re
     if !items(walk, &level)? {
         return Ok(());
     }
-    walk.keep(orders, start, ParseStatus::None);
+    walk.keep(orders, ValueSpan::plain(start, walk.place()));
     Ok(())
 }
 
@@ -134,8 +131,8 @@ fn items(walk: &mut Walk<'_>, level: &Level<'_, '_>) -> Result<bool, Fault>
         walk.new.findings) }
     ensures settled { OnOk result (BelowSettled (container_at walk.old level.now).point walk.new.findings) }
     ensures whole { IfOk result (λ whole. whole ≡ true → IsValue strict walk.old.text walk.old.place walk.new.place) }
-    ensures status { IfOk result (λ whole. whole ≡ true
-        → IsStatus walk.old.text walk.old.place walk.new.place ParseStatus.None) }
+    ensures plain { IfOk result (λ whole. whole ≡ true
+        → ¬ IsEscapedString walk.old.text walk.old.place walk.new.place) }
     ensures unneeded { IfOk result (λ whole. whole ≡ false
         → (level.now.needs ≡ false) × (walk.new.findings.lacking ≡ false)) }
     ensures marks { OnOk result (KeepsMarks (marking_at walk.new level.now.view.now) walk.new.place) }
@@ -236,12 +233,11 @@ pub(crate) fn head(
         }
         return Ok(found.ok());
     };
-    let start = walk.place();
     let key = walk.key()?;
     if key.escaped {
-        return Ok(level.view.of_key(walk.text(), start, key.end));
+        return Ok(level.view.of_key(walk.text(), key.start, key.end));
     }
-    Ok(level.view.of_plain_key(walk.text(), start, key.end))
+    Ok(level.view.of_plain_key(walk.text(), key.start, key.end))
 }
 
 // Notes what the children that were not visited lead to, after the closing bracket.

@@ -19,7 +19,7 @@ use crate::entry::{Entry, Label};
 use crate::find::child;
 use crate::members::order_wide;
 use sonic_error::{ErrorCode, Result};
-use sonic_find::{Span, with_status};
+use sonic_find::{Span, value_span};
 use sonic_input::{JsonInput, JsonSlice, Read};
 use sonic_lazy::LazyValue;
 use sonic_parser::Fault;
@@ -178,8 +178,8 @@ impl<'de> JsonIndex<'de> {
         let cell = self.cells[i];
         let start = cell.start as usize;
         let end = cell.end as usize;
-        let status = with_status(self.json.bytes(), Span { start, end }).status;
-        LazyValue::whole(self.json.part(start, end), status.has_escaped())
+        let value = value_span(self.json.bytes(), Span { start, end });
+        LazyValue::whole(self.json.part(start, end), value.escaped)
     }
 }
 

@@ -7,11 +7,12 @@ use Rattle.std.proofs.Math.Seq.{take-length}
 use Rattle.std.proofs.lemmas.Bool.{cases_eq}
 use Rattle.std.proofs.lemmas.Bool.Decides.{nat_tests}
 use Rattle.sonic_error.specs.declared.code.ErrorCode.{ErrorCode}
-use Rattle.sonic_lazy.specs.Internal.Items.{IsAfterItems, before_all, after_last, IsKeyAt, IsFoundHead, no_key, a_key, IsFound, IsFoundPart, IsKeyOf, IsTextSpan}
+use Rattle.sonic_parser.specs.ValueSpans.{IsKeyAt}
+use Rattle.sonic_lazy.specs.Internal.Items.{IsAfterItems, before_all, after_last, IsFoundHead, no_key, a_key, IsFound, IsFoundPart, IsKeyOf, IsTextSpan}
 use Rattle.sonic_find.specs.Internal.Steps.{HasWhole}
 use Rattle.sonic_lazy.specs.Items.{ItemsReach, IsItemAt, AreClosed, closed_after, BeginsNoItem, no_quote, text_ends, stop_at, AreStopped, no_container, no_item, no_separator, no_key as key_stops, no_value}
 use Rattle.sonic_lazy.specs.declared.items.Found.{Found}
-use Rattle.sonic_parser.specs.declared.string_span.StringSpan.{StringSpan}
+use Rattle.sonic_parser.specs.declared.value_span.ValueSpan.{ValueSpan}
 use Rattle.sonic_find.specs.Parts.{IsPart}
 use Rattle.sonic_find.proofs.PathLemmas.Lead.{count_below}
 use Rattle.sonic_find.proofs.Utf8Lemmas.{utf8_of_span}
@@ -31,7 +32,6 @@ use Rattle.sonic_text.specs.Faults.{IsFault, IsKeyFault, in_key, code_after_item
 use Rattle.sonic_text.specs.Places.{byte, after_space, bad}
 use Rattle.sonic_text.specs.Strings.{strict, IsString, IsEscapedString}
 use Rattle.sonic_text.specs.Values.{IsKey, ItemHead, no_head, key_head, IsValue, ItemsFit, next_item}
-use Rattle.sonic_text.specs.Values.IsValue.{string}
 use Rattle.sonic_text.specs.declared.kind.Kind.{Kind}
 use Rattle.sonic_text.specs.declared.kind.Kind.TheVariants.{Array, Object}
 use Rattle.sonic_text.specs.declared.stop.Stop.{Stop}
@@ -86,12 +86,12 @@ pub quote_there : {t : List ℕ} {n h : ℕ} → ¬ BeginsNoItem t Object n h �
 quote_there {t} {h = h} begins = elim (cases_eq (byte t h) 34) [ inl e ↦ e | inr other ↦ absurd (begins (no_quote other)) ]
 
 -- of the key and the colon that were passed the member's value is expected
-pub head_of : {t : List ℕ} {kind : Kind} {h v : ℕ} {key : Option StringSpan} → IsFoundHead t kind h v key → (label : Option (List ℕ)) × ItemHead strict t kind h v label
+pub head_of : {t : List ℕ} {kind : Kind} {h v : ℕ} {key : Option ValueSpan} → IsFoundHead t kind h v key → (label : Option (List ℕ)) × ItemHead strict t kind h v label
 head_of (no_key e) = (None, no_head e)
-head_of (a_key x) = (Some x.bytes, key_head x.colon)
+head_of (a_key x) = (Some x.bytes, key_head x.key)
 
 -- its value is whole where the container is
-pub head_whole : {t : List ℕ} {kind : Kind} {n h v : ℕ} {key : Option StringSpan} → ItemsReach t kind n h → IsFoundHead t kind h v key → HasWhole t (after_space t 0)
+pub head_whole : {t : List ℕ} {kind : Kind} {n h v : ℕ} {key : Option ValueSpan} → ItemsReach t kind n h → IsFoundHead t kind h v key → HasWhole t (after_space t 0)
     → HasWhole t v
 head_whole is x y = item_whole y.1 is (head_of x).1
 
@@ -103,7 +103,7 @@ key_stopped {t} {kind} {n} {h} is begins k f =
     key_stops k is (quote_there member) f
 
 -- and so does the fault of a value
-pub value_stopped : {t : List ℕ} {kind : Kind} {n h v : ℕ} {key : Option StringSpan} {s : Stop} → ItemsReach t kind n h → ¬ BeginsNoItem t kind n h
+pub value_stopped : {t : List ℕ} {kind : Kind} {n h v : ℕ} {key : Option ValueSpan} {s : Stop} → ItemsReach t kind n h → ¬ BeginsNoItem t kind n h
     → IsFoundHead t kind h v key → IsFault strict t v s → AreStopped t kind n s
 value_stopped is begins x f = no_value is begins (head_of x).1 f
 
@@ -167,17 +167,17 @@ key_utf8 {t} {h} {v} {b = b} u x l =
     string_utf8 text own.string
 
 -- so it is a string that can be read
-key_is_part : {t : List ℕ} {h v e : ℕ} {key : StringSpan} → IsUtf8To t e → IsKeyAt t h v key → v ≤ e → IsTextSpan t key
+key_is_part : {t : List ℕ} {h v e : ℕ} {key : ValueSpan} → IsUtf8To t e → IsKeyAt strict t h key v → v ≤ e → IsTextSpan t key
 key_is_part {t} {h} {v} {key = key} u x l =
     let own : IsString strict t key.start key.end x.bytes = rw x.start x.string in
     let escaped : IsTrue key.escaped ↔ IsEscapedString t key.start key.end = rw x.start x.escaped in
     record {
       span = record { bytes = x.bytes; is = own; escaped = escaped };
-      utf8 = λ b s. rw (string_one s own).1 (key_utf8 u x.colon l);
+      utf8 = λ b s. rw (string_one s own).1 (key_utf8 u x.key l);
     }
 
 -- where there is one
-head_is_part : {t : List ℕ} {kind : Kind} {h v e : ℕ} {key : Option StringSpan} → IsUtf8To t e → IsFoundHead t kind h v key → v ≤ e → IfSome key (IsTextSpan t)
+head_is_part : {t : List ℕ} {kind : Kind} {h v e : ℕ} {key : Option ValueSpan} → IsUtf8To t e → IsFoundHead t kind h v key → v ≤ e → IfSome key (IsTextSpan t)
 head_is_part u (no_key e) l = tt
 head_is_part u (a_key x) l = key_is_part u x l
 
@@ -200,7 +200,7 @@ err_weaker (Ok x) f h = tt
 err_weaker (Err e) f h = f e h
 
 -- a member has a key
-pub member_key : {t : List ℕ} {kind : Kind} {h v : ℕ} (key : Option StringSpan) → kind ≡ Object → IsFoundHead t kind h v key → IfSome key (IsTextSpan t)
+pub member_key : {t : List ℕ} {kind : Kind} {h v : ℕ} (key : Option ValueSpan) → kind ≡ Object → IsFoundHead t kind h v key → IfSome key (IsTextSpan t)
     → IsKeyOf t key
 member_key None k (no_key e) s = absurd cc
 member_key (Some key) k h s = s

@@ -14,7 +14,7 @@ use Rattle.sonic_lazy.specs.Items.{Item, ItemsReach, IsItemAt, AreClosed, closed
 use Rattle.sonic_lazy.specs.Iterators.{Iterating, IsEscapedKey, ShowsElement, ShowsMember, HasNext, IsNextError, out_of_memory, no_next_item, IsGiven, IsStuck, IsOver, IsNext}
 use Rattle.sonic_lazy.specs.LazyValues.{raw_bytes}
 use Rattle.sonic_lazy.specs.declared.items.Found.{Found}
-use Rattle.sonic_parser.specs.declared.string_span.StringSpan.{StringSpan}
+use Rattle.sonic_parser.specs.declared.value_span.ValueSpan.{ValueSpan}
 use Rattle.sonic_lazy.specs.declared.lazyvalue.LazyValue.{LazyValue}
 use Rattle.sonic_parser.specs.Faults.{IsStopFor, IsErrorOf}
 use Rattle.sonic_parser.specs.declared.fault.Fault.{Fault}
@@ -121,22 +121,22 @@ element_given {before} {now} k g shown =
     }
 
 -- the key before the value of the member after n others
-record IsOwnKey (t : List ℕ) (n v : ℕ) (key : StringSpan) : Type 0 where
+record IsOwnKey (t : List ℕ) (n v : ℕ) (key : ValueSpan) : Type 0 where
   bytes : List ℕ
   before : ItemsReach t Object n key.start
   string : IsString strict t key.start key.end bytes
   head : ItemHead strict t Object key.start v (Some bytes)
 
 -- the key that was found is that
-own_key : {t : List ℕ} {kind : Kind} {n h v : ℕ} {key : StringSpan} → ItemsReach t kind n h → IsFoundHead t kind h v (Some key) → (kind ≡ Object) × IsOwnKey t n v key
+own_key : {t : List ℕ} {kind : Kind} {n h v : ℕ} {key : ValueSpan} → ItemsReach t kind n h → IsFoundHead t kind h v (Some key) → (kind ≡ Object) × IsOwnKey t n v key
 own_key {t} {n = n} {key = key} r (a_key x) =
     let before : ItemsReach t Object n key.start = rw x.start r in
     let string : IsString strict t key.start key.end x.bytes = rw x.start x.string in
-    let colon = rw (sym x.start) at x.colon in
+    let colon = rw (sym x.start) at x.key in
     (refl, record { bytes = x.bytes; before = before; string = string; head = key_head colon })
 
 -- it has a backslash exactly where the member's key has
-own_escapes : {t : List ℕ} {n v : ℕ} {key : StringSpan} → IsOwnKey t n v key → IsEscapedString t key.start key.end ↔ IsEscapedKey t n
+own_escapes : {t : List ℕ} {n v : ℕ} {key : ValueSpan} → IsOwnKey t n v key → IsEscapedString t key.start key.end ↔ IsEscapedKey t n
 own_escapes {t} {n} {key = key} own = (
   (λ s. record { start = key.start; end = key.end; bytes = own.bytes; before = own.before; string = own.string; escaped = s }),
   (λ x.
@@ -148,7 +148,7 @@ own_escapes {t} {n} {key = key} own = (
 
 -- a member was given, whose key was found
 shown_member : {Z : Type 0} {before now : Iterating} {x : Found} {text : CowStr Z} {value : LazyValue}
-    → IsGiven (λ t n y. IsFoundPart t before.kind n y) before now x → (key : Option StringSpan) → x.key ≡ key → IsKeyText now.text key text
+    → IsGiven (λ t n y. IsFoundPart t before.kind n y) before now x → (key : Option ValueSpan) → x.key ≡ key → IsKeyText now.text key text
     → raw_bytes value ≡ slice_range now.text x.value.start x.value.end → IsGiven (ShowsMember {Z = Z}) before now (text, value)
 shown_member g None k t shown = absurd t
 shown_member {Z} {before} {now} {x} {text} {value} g (Some key) k t shown =
@@ -187,7 +187,7 @@ no_key_in_array (no_key e) k = cc
 
 -- memory ran out for its key
 pub member_stuck : {before now : Iterating} {x : Found} {e : Error} → IsGiven (λ t n y. IsFoundPart t before.kind n y) before now x
-    → (key : Option StringSpan) → x.key ≡ key → before.kind ≡ Object → IfSome key (λ k. IsEscapedString now.text k.start k.end) → IsPlainError e NoMemory
+    → (key : Option ValueSpan) → x.key ≡ key → before.kind ≡ Object → IfSome key (λ k. IsEscapedString now.text k.start k.end) → IsPlainError e NoMemory
     → IsNextError before e
 member_stuck {before} g None k object s e = absurd (no_key_in_array (rw k at g.shown.found.head) object)
 member_stuck {before} {now} {x} g (Some key) k object s e =

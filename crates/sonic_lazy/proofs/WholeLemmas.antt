@@ -1,18 +1,15 @@
 -- A part of a text is a whole value, and what a lazy value holds as a bare fact is so.
-use Rattle.std.proofs.Common.{◌≡◌, ◌⊎◌, ◌↔◌, inl, inr, ap, codes, ℕ, zero, suc, ◌+◌, ◌-◌, ◌<◌, List, Bool, true, false, length, arith, refl, ◌≤◌}
+use Rattle.std.proofs.Common.{◌≡◌, ◌⊎◌, ◌↔◌, inl, inr, ap, codes, ℕ, zero, suc, ◌+◌, ◌-◌, ◌<◌, List, Bool, true, false, length, arith, refl}
 use Rattle.std.proofs.Math.Logic.{∥∥₁_elim, ∥∥₁_map}
 use Rattle.std.proofs.lemmas.Bool.{cases_eq, cases_lt}
 use Rattle.std.proofs.lemmas.Str.{IsUtf8-had, IsUtf8-from_ascii}
 use Rattle.std.specs.Prelude.{IsTrue, slice_range}
 use Rattle.sonic_input.specs.Slices.{slice_bytes}
 use Rattle.sonic_input.specs.declared.slice.JsonSlice.{JsonSlice}
-use Rattle.sonic_find.specs.Internal.Located.{IsStatus}
 use Rattle.sonic_lazy.specs.LazyValues.{raw_bytes, has_escapes}
 use Rattle.sonic_lazy.specs.Wholes.{IsWholeValue}
 use Rattle.sonic_find.specs.Parts.{IsPart}
 use Rattle.sonic_lazy.specs.declared.lazyvalue.LazyValue.{LazyValue}
-use Rattle.sonic_parser.specs.declared.status.ParseStatus.{ParseStatus}
-use Rattle.sonic_parser.specs.declared.status.ParseStatus.TheVariants.{HasEscaped}
 use Rattle.sonic_text.proofs.Outcomes.{value_some_outcome}
 use Rattle.sonic_text.proofs.ValueParts.{value_of_part, escaped_of_part}
 use Rattle.sonic_text.proofs.Values.{value-longer, value_end_one, value_never_both}
@@ -117,20 +114,14 @@ null_ascii (suc (suc (suc (suc i)))) = omega arith
 pub null_is_whole : IsWholeValue (codes "null") false
 null_is_whole = record { value = null_literal null_is; utf8 = IsUtf8-from_ascii (codes "null") null_ascii; escapes = null_has_none }
 
--- the status of a value is that of its own text
-status_of_part : (t b : List ℕ) (i j : ℕ) (status : ParseStatus) → b ≡ slice_range t i j → i < j → j ≤ length t → IsStatus t i j status
-    → (is : Bool) → IsTrue is ↔ (status ≡ HasEscaped) → IsTrue is ↔ IsEscapedString b 0 (length b)
-status_of_part t b i j status e l within (f, g) is (y, z) =
-    let (v, w) = escaped_of_part t i j l within in
-    rw e (λ h. v (f (y h)), λ h. z (g (w h)))
-
 -- a part of a text is a whole value
-pub whole_of_part : {t b : List ℕ} {i j : ℕ} {status : ParseStatus} {is : Bool} → b ≡ slice_range t i j → IsPart t i j → IsStatus t i j status
-    → (IsTrue is ↔ (status ≡ HasEscaped)) → IsWholeValue b is
-whole_of_part {t} {b} {i} {j} {status} {is} e p s m = record {
-  value = rw e (value_of_part p.value p.inside);
-  utf8 = rw e p.utf8;
-  escapes = status_of_part t b i j status e (value-longer p.value) p.inside s is m;
-}
+pub whole_of_part : {t b : List ℕ} {i j : ℕ} {escaped : Bool} → b ≡ slice_range t i j → IsPart t i j → IsTrue escaped ↔ IsEscapedString t i j → IsWholeValue b escaped
+whole_of_part {t} {b} {i} {j} e p (says, has) =
+    let (v, w) = escaped_of_part t i j (value-longer p.value) p.inside in
+    record {
+      value = rw e (value_of_part p.value p.inside);
+      utf8 = rw e p.utf8;
+      escapes = rw e (λ h. v (says h), λ h. has (w h));
+    }
 
 pub ruleset entries = (whole_of_part, value-longer)

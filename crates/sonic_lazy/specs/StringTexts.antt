@@ -2,7 +2,7 @@
 use Rattle.std.specs.Prelude.{ℕ, List, length}
 use Rattle.std.specs.declared.borrow.CowStr.{CowStr}
 use Rattle.sonic_text.specs.Strings.{IsEscapedString}
-use Rattle.sonic_parser.specs.StringSpans.{IsTextAt}
+use Rattle.sonic_parser.specs.ValueSpans.{IsTextAt}
 
 -- the whole text is a string with a backslash
 abbrev pub IsEscapedText : List ℕ → Type 0

@@ -5,20 +5,20 @@ ghost use Rattle.sonic_text.specs.Values.{ItemHead};
 ghost use Rattle.sonic_text.specs.Strings.{strict};
 ghost use Rattle.sonic_text.specs.Faults.{IsKeyFault};
 ghost use Rattle.sonic_parser.specs.Faults.{IsStopFor};
-ghost use Rattle.sonic_lazy.specs.Internal.Items.{IsAfterItems, IsFound, IsFoundHead, IsKeyAt};
+ghost use Rattle.sonic_lazy.specs.Internal.Items.{IsAfterItems, IsFound, IsFoundHead};
 ghost use Rattle.sonic_find.specs.Internal.Steps.{HasWhole, IsAtKey};
 ghost use Rattle.sonic_lazy.specs.Items.{ItemsReach, AreClosed, BeginsNoItem, AreStopped, code_of_start, code_before_item};
 
 use sonic_error::ErrorCode;
-use sonic_find::{Located, Steps};
-use sonic_parser::{Fault, StringSpan};
-use sonic_text::{Kind, Stop, StringEnd, byte_at};
+use sonic_find::Steps;
+use sonic_parser::{Fault, ValueSpan};
+use sonic_text::{Kind, Stop, byte_at};
 
 // An item: the key of a member, and where its value was found.
 #[derive(Clone, Copy)]
 pub(crate) struct Found {
-    pub(crate) key: Option<StringSpan>,
-    pub(crate) value: Located,
+    pub(crate) key: Option<ValueSpan>,
+    pub(crate) value: ValueSpan,
 }
 
 // Passes the item that comes after those that were given, if there is one.
@@ -45,10 +45,7 @@ pub(crate) fn find_item(
         return Err(Fault::At(Stop { place, code }));
     }
     let key = pass_head(steps, kind)?;
-    let start = steps.place();
-    let status = steps.skip()?;
-    let end = steps.place();
-    let value = Located { start, end, status };
+    let value = steps.skip()?;
     Ok(Some(Found { key, value }))
 }
 
@@ -114,7 +111,7 @@ fn begins_none(steps: &Steps<'_>, kind: Kind, given: usize) -> bool
 }
 
 // Passes what comes before the value of the item at the cursor.
-fn pass_head(steps: &mut Steps<'_>, kind: Kind) -> Result<Option<StringSpan>, Stop>
+fn pass_head(steps: &mut Steps<'_>, kind: Kind) -> Result<Option<ValueSpan>, Stop>
     requires { kind ≡ Kind.Object → IsAtKey steps.old }
     ensures ok { IfOk result (IsFoundHead steps.old.text kind steps.old.place steps.new.place) }
     ensures moved { steps.new ≡ record steps.old { place = steps.new.place } }
@@ -123,24 +120,8 @@ fn pass_head(steps: &mut Steps<'_>, kind: Kind) -> Result<Option<StringSpan>, St
 {
     match kind {
         Kind::Array => Ok(None),
-        Kind::Object => Ok(Some(pass_key(steps)?)),
+        Kind::Object => Ok(Some(steps.key()?)),
     }
-}
-
-// Passes the key at the cursor, and its colon.
-fn pass_key(steps: &mut Steps<'_>) -> Result<StringSpan, Stop>
-    requires { IsAtKey steps.old }
-    ensures ok { IfOk result (IsKeyAt steps.old.text steps.old.place steps.new.place) }
-    ensures moved { steps.new ≡ record steps.old { place = steps.new.place } }
-    ensures err { IfErr result (IsKeyFault strict steps.old.text steps.old.place) }
-{
-    let start = steps.place();
-    let StringEnd { end, escaped } = steps.key()?;
-    Ok(StringSpan {
-        start,
-        end,
-        escaped,
-    })
 }
 
 // The code where no item of a container of this kind begins after those that were given.

@@ -7,7 +7,7 @@ ghost use Rattle.sonic_text.specs.Documents.{StartsWithUtf8Value};
 ghost use Rattle.sonic_text.specs.Places.{after_space};
 ghost use Rattle.sonic_parser.specs.Faults.{IsStopFor};
 ghost use Rattle.sonic_lazy.specs.Internal.Items.{IsAfterItems, IsFound, IsFoundPart};
-ghost use Rattle.sonic_find.specs.Internal.Located.{IsStatus};
+ghost use Rattle.sonic_parser.specs.ValueSpans.{FlagsEscape};
 ghost use Rattle.sonic_find.specs.Internal.Steps.{HasWhole};
 ghost use Rattle.sonic_lazy.specs.Items.{stopped, AreClosed, EndsItems};
 ghost use Rattle.sonic_lazy.specs.Iterators.{iterator_over, IsGiven, IsOver};
@@ -16,9 +16,9 @@ ghost use Rattle.sonic_find.specs.Parts.{IsPart};
 
 use crate::items::{Found, find_item};
 use crate::lazyvalue::LazyValue;
-use sonic_find::{Located, Steps, check};
+use sonic_find::{Steps, check};
 use sonic_input::{JsonInput, JsonSlice, Read};
-use sonic_parser::Fault;
+use sonic_parser::{Fault, ValueSpan};
 use sonic_text::{Kind, Stop};
 use std::alloc::Global;
 use std::marker::Model;
@@ -130,13 +130,12 @@ impl<'de> Items<'de> {
     }
 
     // A value of the text.
-    pub(crate) fn lazy_value(&self, found: Located) -> LazyValue<'de>
+    pub(crate) fn lazy_value(&self, found: ValueSpan) -> LazyValue<'de>
         requires part { IsPart self.now.text found.start found.end }
-        requires status { IsStatus self.now.text found.start found.end found.status }
+        requires escaped { FlagsEscape self.now.text found }
         ensures { raw_bytes result ≡ slice_range self.now.text found.start found.end }
     {
-        let Located { start, end, status } = found;
-        LazyValue::whole(self.raw.part(start, end), status.has_escaped())
+        LazyValue::whole(self.raw.part(found.start, found.end), found.escaped)
     }
 }
 

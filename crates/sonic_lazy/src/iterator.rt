@@ -10,7 +10,7 @@ use crate::lazyvalue::LazyValue;
 use crate::value_trait::JsonValueTrait;
 use sonic_error::{ErrorCode, Result};
 use sonic_input::JsonInput;
-use sonic_parser::StringSpan;
+use sonic_parser::ValueSpan;
 use sonic_text::Kind;
 use std::alloc::Global;
 use std::borrow::CowStr;
@@ -51,7 +51,7 @@ impl<'de> ObjectJsonIter<'de> {
     ghost use Rattle.sonic_error.specs.Errors.{IsPlainError};
     ghost use Rattle.sonic_text.specs.Strings.{IsEscapedString};
     ghost use Rattle.sonic_lazy.specs.Internal.Items.{IsKeyOf, IsKeyText};
-    ghost use Rattle.sonic_find.specs.Internal.Located.{IsStatus};
+    ghost use Rattle.sonic_parser.specs.ValueSpans.{FlagsEscape};
     ghost use Rattle.sonic_lazy.specs.Iterators.{IsHonestNext, IsNext, ShowsMember};
     ghost use Rattle.sonic_lazy.specs.LazyValues.{raw_bytes};
     ghost use Rattle.sonic_find.specs.Parts.{IsPart};
@@ -82,7 +82,7 @@ impl<'de> ObjectJsonIter<'de> {
     // iterator.
     fn member(&mut self, found: Found) -> Result<(CowStr<'de>, LazyValue<'de>)>
         requires value { IsPart self.old.text found.value.start found.value.end }
-        requires status { IsStatus self.old.text found.value.start found.value.end found.value.status }
+        requires escaped { FlagsEscape self.old.text found.value }
         requires key { IsKeyOf self.old.text found.key }
         ensures kept { OnOk result (self.new ≡ self.old) }
         ensures text { IfOk result (λ member. IsKeyText self.old.text found.key member.0) }
@@ -103,7 +103,7 @@ impl<'de> ObjectJsonIter<'de> {
     }
 
     // What the key of a member denotes. The only error is `ErrorCode::NoMemory`.
-    fn text_of(&self, key: Option<StringSpan>) -> Result<CowStr<'de>>
+    fn text_of(&self, key: Option<ValueSpan>) -> Result<CowStr<'de>>
         requires { IsKeyOf self.now.text key }
         ensures ok { IfOk result (IsKeyText self.now.text key) }
         ensures err { IfErr result (λ error. IsPlainError error ErrorCode.NoMemory) }

@@ -7,7 +7,7 @@ ghost use Rattle.sonic_lazy.specs.Wholes.{IsWholeValue};
 use crate::value_trait::JsonValueTrait;
 use sonic_error::ErrorCode;
 use sonic_input::{FastStr, JsonSlice};
-use sonic_parser::StringSpan;
+use sonic_parser::ValueSpan;
 use std::alloc::{AllocError, Global};
 use std::borrow::CowStr;
 use std::cmp::Ordering;
@@ -97,7 +97,7 @@ impl<'a> LazyValue<'a> {
             return Ok(None);
         }
         let text = self.raw.bytes();
-        let string = StringSpan {
+        let string = ValueSpan {
             start: 0,
             end: text.len(),
             escaped: self.has_escaped,

@@ -6,7 +6,8 @@ ghost use Rattle.sonic_parser.specs.Honest.{IsHonest};
 ghost use Rattle.sonic_find.specs.Answers.{span_text};
 ghost use Rattle.sonic_find.specs.Causes.{IsAnswerable, IsAnswerableBy, IsRefusal, IsRefusalBy};
 ghost use Rattle.sonic_lazy.specs.LazyValues.{raw_bytes};
-ghost use Rattle.sonic_find.specs.Internal.Located.{IsStatus, HaveStatuses, AreParts, span_at, spans_of};
+ghost use Rattle.sonic_find.specs.Found.{FlagEscapes, AreParts, span_at, spans_of};
+ghost use Rattle.sonic_parser.specs.ValueSpans.{FlagsEscape};
 ghost use Rattle.sonic_lazy.specs.Shown.{AreValues, AreValuesBy};
 ghost use Rattle.sonic_lazy.specs.Internal.Shown.{HaveTexts};
 ghost use Rattle.sonic_find.specs.Parts.{IsPart};
@@ -14,8 +15,9 @@ ghost use Rattle.sonic_find.specs.Parts.{IsPart};
 use crate::entry::entry;
 use crate::lazyvalue::LazyValue;
 use sonic_error::{Error, ErrorCode};
-use sonic_find::{Located, locate_many};
+use sonic_find::locate_many;
 use sonic_input::JsonInput;
+use sonic_parser::ValueSpan;
 use sonic_pointer::{KeyRule, PointerTree};
 use std::alloc::{AllocError, Global};
 
@@ -23,30 +25,29 @@ use std::alloc::{AllocError, Global};
 fn values<'de, I: JsonInput<'de>>(
     alloc: Global,
     json: I,
-    found: &[Option<Located>],
+    found: &[Option<ValueSpan>],
 ) -> Result<Vec<Option<LazyValue<'de>>>, AllocError>
     requires parts { AreParts (I.JsonInput.content json) found.now }
-    requires statuses { HaveStatuses (I.JsonInput.content json) found.now }
+    requires escaped { FlagEscapes (I.JsonInput.content json) found.now }
     ensures { IfOk result (λ values.
         HaveTexts (I.JsonInput.content json) values.items (spans_of found.now)) }
 {
     let mut values = Vec::with_capacity(alloc, found.len())?;
-    for located in found {
-        values.push(value_at(json, *located))?;
+    for span in found {
+        values.push(value_at(json, *span))?;
     }
     Ok(values)
 }
 
 // The lazy value in an input where one was found.
-fn value_at<'de, I: JsonInput<'de>>(json: I, located: Option<Located>) -> Option<LazyValue<'de>>
-    requires part { IfSome located (λ x. IsPart (I.JsonInput.content json) x.start x.end) }
-    requires statuses { IfSome located (λ x.
-        IsStatus (I.JsonInput.content json) x.start x.end x.status) }
+fn value_at<'de, I: JsonInput<'de>>(json: I, span: Option<ValueSpan>) -> Option<LazyValue<'de>>
+    requires part { IfSome span (λ x. IsPart (I.JsonInput.content json) x.start x.end) }
+    requires escaped { IfSome span (FlagsEscape (I.JsonInput.content json)) }
     ensures { option_map raw_bytes result
-        ≡ option_map (span_text (I.JsonInput.content json)) (option_map span_at located) }
+        ≡ option_map (span_text (I.JsonInput.content json)) (option_map span_at span) }
 {
-    match located {
-        Some(located) => Some(entry(json, located)),
+    match span {
+        Some(span) => Some(entry(json, span)),
         None => None,
     }
 }

@@ -4,8 +4,7 @@ ghost use Rattle.sonic_error.specs.Errors.{IsPlainError};
 ghost use Rattle.sonic_text.specs.Documents.{StartsWithUtf8Value};
 ghost use Rattle.sonic_find.specs.Answers.{span_text};
 ghost use Rattle.sonic_find.specs.Causes.{IsAnswerable, IsRefusal};
-ghost use Rattle.sonic_find.specs.Internal.Located.{AreSpans};
-ghost use Rattle.sonic_find.specs.Parts.{IsPart};
+ghost use Rattle.sonic_find.specs.Parts.{IsPart, AreSpans};
 ghost use Rattle.sonic_find.specs.Spans.{pair_of, pairs_of};
 ghost use Rattle.sonic_lazy.specs.LazyValues.{raw_bytes};
 ghost use Rattle.sonic_lazy.specs.Shown.{AreValues};
@@ -14,7 +13,7 @@ ghost use Rattle.sonic_lazy.specs.Internal.Shown.{HaveTexts};
 use crate::entry::entry;
 use crate::lazyvalue::LazyValue;
 use sonic_error::{Error, ErrorCode};
-use sonic_find::{Span, find_many_unchecked, with_status};
+use sonic_find::{Span, find_many_unchecked, value_span};
 use sonic_input::JsonInput;
 use sonic_pointer::PointerTree;
 use std::alloc::{AllocError, Global};
@@ -26,7 +25,7 @@ fn value_of_span<'de, I: JsonInput<'de>>(json: I, span: Option<Span>) -> Option<
         ≡ option_map (span_text (I.JsonInput.content json)) (option_map pair_of span) }
 {
     match span {
-        Some(span) => Some(entry(json, with_status(json.to_u8_slice(), span))),
+        Some(span) => Some(entry(json, value_span(json.to_u8_slice(), span))),
         None => None,
     }
 }

@@ -17,9 +17,9 @@ ghost use Rattle.sonic_lazy.specs.RawNumbers.{IsNumberText, IsNumberDocument, Is
 use crate::lazyvalue::LazyValue;
 use crate::value_trait::JsonValueTrait;
 use sonic_error::{ErrorCode, Note, Result, Wanted};
-use sonic_find::{Located, pass_alone};
+use sonic_find::pass_alone;
 use sonic_input::{FastStr, JsonSlice, Read};
-use sonic_parser::Fault;
+use sonic_parser::{Fault, ValueSpan};
 use sonic_text::{Stop, skip_number, type_of, whole_i64, whole_u64};
 use std::alloc::Global;
 use std::fmt;
@@ -127,7 +127,7 @@ fn number_of(alloc: Global, text: &[u8]) -> std::result::Result<&str, Fault>
     ensures err { IfErr result (IsStopFor (IsNoNumber text.now)) }
     ensures within { IfErr result (IsStopFor (λ s. s.place ≤ length text.now)) }
 {
-    let Located { start, end, .. } = pass_alone(alloc, Read::unscanned(JsonSlice::Raw(text)))?;
+    let ValueSpan { start, end, .. } = pass_alone(alloc, Read::unscanned(JsonSlice::Raw(text)))?;
     let first = text[start];
     if first == b'"' {
         return match whole_number(&text[start + 1..end - 1]) {

@@ -5,7 +5,7 @@ ghost use Rattle.sonic_lazy.specs.LazyValues.{raw_bytes};
 ghost use Rattle.sonic_lazy.specs.Shown.{IsFoundIn, FindsNone};
 
 use crate::lazyvalue::LazyValue;
-use sonic_find::{Located, Steps, locate};
+use sonic_find::{Steps, locate};
 use sonic_input::Read;
 use sonic_pointer::PointerNode;
 
@@ -33,10 +33,7 @@ impl<'a> LazyValue<'a> {
         let raw = self.raw();
         let mut steps = Steps::unchecked(Read::of_slice(raw));
         match locate(&mut steps, path) {
-            Ok(Located { start, end, status }) => {
-                let part = raw.part(start, end);
-                Some(LazyValue::whole(part, status.has_escaped()))
-            }
+            Ok(found) => Some(LazyValue::whole(raw.part(found.start, found.end), found.escaped)),
             Err(_) => None,
         }
     }

@@ -1,6 +1,6 @@
 -- Rules by which the beginning of a value, a key and an item are read.
-use Rattle.std.proofs.Common.{◌≡◌, ◌≢◌, ◌↔◌, ℕ, ◌<◌, ◌≤◌, Bool, List, length, arith, refl}
-use Rattle.std.specs.Prelude.{Some, None}
+use Rattle.std.proofs.Common.{◌≡◌, ◌≢◌, ◌↔◌, ℕ, ◌<◌, ◌≤◌, Bool, false, List, length, arith, refl}
+use Rattle.std.specs.Prelude.{Some, None, IsTrue}
 use Rattle.sonic_text.specs.declared.kind.Kind.{Kind}
 use Rattle.sonic_text.specs.declared.kind.Kind.TheVariants.{Array, Object}
 use Rattle.sonic_text.specs.Places.{byte}
@@ -12,23 +12,22 @@ use Rattle.sonic_text.proofs.Items.{opening_no_quote}
 use Rattle.sonic_text.proofs.Values.{value-longer, items_open}
 use Rattle.sonic_parser.specs.declared.begin.Begun.TheVariants.{Inside}
 use Rattle.sonic_parser.specs.declared.container.Next.TheVariants.{Item, End}
-use Rattle.sonic_parser.specs.declared.status.ParseStatus.TheVariants.{HasEscaped, None as NoNeed}
 use Rattle.sonic_parser.specs.Internal.Containers.{IsAfterBracket}
 use Rattle.sonic_parser.specs.Internal.Skipping.{IsComplete, IsBegun}
 use Rattle.sonic_parser.specs.Parts.{IsItem}
 
 -- what begins with another byte is no string with a backslash
-pub no_escape : (t : List ℕ) (i e : ℕ) → byte t i ≢ 34 → (NoNeed ≡ HasEscaped) ↔ IsEscapedString t i e
+pub no_escape : (t : List ℕ) (i e : ℕ) → byte t i ≢ 34 → IsTrue false ↔ IsEscapedString t i e
 no_escape t i e other = (λ h. absurd (cc), λ h. absurd (other h.0))
 
 -- a value that is no string is complete
 pub plain_value : {m : Bool} {t : List ℕ} {i e : ℕ} → byte t i ≢ 34 → i < e → e ≤ length t → IsValue m t i e
-    → IsComplete m t i (record { end = e; status = NoNeed })
-plain_value {t = t} {i} {e} other later within x = record { later = later; within = within; value = x; status = no_escape t i e other }
+    → IsComplete m t i (record { start = i; end = e; escaped = false })
+plain_value {t = t} {i} {e} other later within x = record { start = refl; later = later; within = within; value = x; escaped = no_escape t i e other }
 
 -- so is an empty container
 pub empty_begun : {m : Bool} {t : List ℕ} {i e : ℕ} (kind : Kind) → byte t i ≡ opening kind → IsAfterBracket t kind i (End e)
-    → IsComplete m t i (record { end = e; status = NoNeed })
+    → IsComplete m t i (record { start = i; end = e; escaped = false })
 empty_begun kind b f = plain_value (λ q. opening_no_quote kind (omega arith)) f.0 f.1 (empty kind b f.2.0 f.2.1)
 
 -- and one with items goes on with the first
@@ -38,7 +37,7 @@ filled_begun b f = (f.0, f.1, first_item b f.2 f.3 refl)
 
 -- a container with items that was read to its end
 pub container_value : {m : Bool} {t : List ℕ} {i n h e : ℕ} {kind : Kind} → ItemsFit m t kind i n h → e ≤ length t → IsValue m t i e
-    → IsComplete m t i (record { end = e; status = NoNeed })
+    → IsComplete m t i (record { start = i; end = e; escaped = false })
 container_value {kind = kind} is within x =
     let b = items_open is in
     plain_value (λ q. opening_no_quote kind (omega arith)) (value-longer x) within x

@@ -5,7 +5,7 @@ use Rattle.std.specs.Prelude.{Option, Some, None}
 use Rattle.sonic_text.specs.declared.kind.Kind.{Kind}
 use Rattle.sonic_text.specs.declared.kind.Kind.TheVariants.{Array, Object}
 use Rattle.sonic_text.specs.declared.stop.Stop.{Stop}
-use Rattle.sonic_text.specs.declared.string.StringEnd.{StringEnd}
+use Rattle.sonic_parser.specs.declared.value_span.ValueSpan.{ValueSpan}
 use Rattle.sonic_parser.specs.declared.descent.Step.{Step}
 use Rattle.sonic_parser.specs.declared.descent.Step.TheVariants.{Passed, Entered}
 use Rattle.sonic_text.specs.Places.{byte, after_space, is_space}
@@ -85,7 +85,7 @@ value_walk {i} {before} {now} Passed e a s =
     rw f at (passed_at a s.1)
 value_walk {i} {before} {now} (Entered kind) e a s = rw (ap (λ w. w.lossy) e, ap (λ w. w.text) e, s.0) (entered_at a s.1)
 
-head_walk : {i : ℕ} {before now : Descending} (kind : Kind) (key : Option StringEnd) → IsMoved before now → IsTop before.opened kind → IsAtItem i before
+head_walk : {i : ℕ} {before now : Descending} (kind : Kind) (key : Option ValueSpan) → IsMoved before now → IsTop before.opened kind → IsAtItem i before
     → now.opened ≡ before.opened → IsHeadPassed kind before now key → IsAtValue i now
 head_walk Array None e last a o s = rw (ap (λ w. w.lossy) e, ap (λ w. w.text) e, o) (head_at last a (no_head s))
 head_walk Array (Some key) e last a o s = absurd s

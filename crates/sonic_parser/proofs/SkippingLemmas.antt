@@ -12,7 +12,7 @@ use Rattle.sonic_text.specs.Values.{ItemHead, no_head, IsValue, ItemsFit, first_
 use Rattle.sonic_text.specs.Faults.{IsFault, in_key, in_value, after_item}
 use Rattle.sonic_text.proofs.Places.{byte_within}
 use Rattle.sonic_parser.specs.declared.begin.Begun.TheVariants.{Inside}
-use Rattle.sonic_parser.specs.declared.begin.Skipped.{Skipped}
+use Rattle.sonic_parser.specs.declared.value_span.ValueSpan.{ValueSpan}
 use Rattle.sonic_parser.specs.declared.container.Next.TheVariants.{Item, End}
 use Rattle.sonic_parser.specs.declared.skip.Reached.TheVariants.{Expected, Closed}
 use Rattle.sonic_parser.specs.Containers.{IsSeparatorFault}
@@ -85,7 +85,7 @@ item_ended {h = h} {v} d last y x =
     record { h = h; v = v; label = head.0; item = d; head = head.1; value = x.2 }
 
 -- the value of an item is read
-pub item_complete : {m : Bool} {t : List ℕ} {i h v : ℕ} {kinds : List Kind} {kind : Kind} {x : Skipped} → IsItemExpected m t i kinds h → IsTop kinds kind
+pub item_complete : {m : Bool} {t : List ℕ} {i h v : ℕ} {kinds : List Kind} {kind : Kind} {x : ValueSpan} → IsItemExpected m t i kinds h → IsTop kinds kind
     → IsItem m t kind h v → IsComplete m t v x → IsItemEnded m t i kinds x.end
 item_complete {h = h} {v} d last y x =
     let head = head_top d last y in

@@ -23,7 +23,6 @@ use Rattle.sonic_text.proofs.Strings.{string_some}
 use Rattle.sonic_text.proofs.Values.{value-longer, value_end_one, value_never_both}
 use Rattle.sonic_text.proofs.QuotedLemmas.{StaysInside, last_inside, byte_inside}
 use Rattle.sonic_text.proofs.Within.{value_within}
-use Rattle.sonic_parser.specs.declared.status.ParseStatus.TheVariants.{None as NoNeed}
 use Rattle.sonic_parser.specs.Internal.Skipping.{IsComplete}
 use Rattle.sonic_parser.specs.Internal.Unchecked.{IsWholeString, IsInsideString}
 use Rattle.sonic_parser.proofs.BeginningLemmas.{plain_value}
@@ -120,7 +119,7 @@ value_number {m} {t} {i} {j} x quote object array null truth falsehood = elim (n
 ]
 
 -- a value that is no string, and ends here
-pub known_value : {m : Bool} {t : List ℕ} {i j e : ℕ} → IsValue m t i j → byte t i ≢ 34 → e ≡ j → IsComplete m t i (record { end = e; status = NoNeed })
+pub known_value : {m : Bool} {t : List ℕ} {i j e : ℕ} → IsValue m t i j → byte t i ≢ 34 → e ≡ j → IsComplete m t i (record { start = i; end = e; escaped = false })
 known_value x other same = rw same (plain_value other (value-longer x) (value_within x) x)
 
 -- what leaves the string that begins with a key's first quote ends with the key

@@ -1,15 +1,15 @@
 -- A walk through a value, from part to part.
-use Rattle.std.specs.Prelude.{◌≡◌, ◌↔◌, ℕ, ◌-◌, ◌<◌, Bool, true, false, List, [], ◌∷◌, ◌++◌, Option, Some, None, IsTrue, length, take}
+use Rattle.std.specs.Prelude.{◌≡◌, ℕ, ◌-◌, ◌<◌, Bool, true, false, List, [], ◌∷◌, ◌++◌, Option, Some, None, length, take}
 use Rattle.sonic_text.specs.declared.kind.Kind.{Kind}
 use Rattle.sonic_text.specs.declared.kind.Kind.TheVariants.{Array, Object}
-use Rattle.sonic_text.specs.declared.string.StringEnd.{StringEnd}
 use Rattle.sonic_text.specs.declared.stop.Stop.{Stop}
 use Rattle.sonic_text.specs.Faults.{IsFault, IsKeyFault}
-use Rattle.sonic_text.specs.Strings.{IsString, IsEscapedString}
-use Rattle.sonic_text.specs.Values.{IsKey, IsValue, ItemsFit}
+use Rattle.sonic_text.specs.Values.{IsValue, ItemsFit}
 use Rattle.sonic_parser.specs.declared.descent.Step.{Step}
+use Rattle.sonic_parser.specs.declared.value_span.ValueSpan.{ValueSpan}
 use Rattle.sonic_parser.specs.declared.descent.Step.TheVariants.{Passed, Entered}
 use Rattle.sonic_parser.specs.Containers.{IsEnd, IsSeparated, IsSeparatorFault}
+use Rattle.sonic_parser.specs.ValueSpans.{IsKeyAt}
 use Rattle.sonic_parser.specs.OpenContainers.{IsOpen, IsItemExpected, IsItemEnded, IsTop}
 
 -- a text, the place in it that is read next, how strings are read, and the kinds of the containers that are open, the outermost first
@@ -28,17 +28,10 @@ abbrev pub IsDescentStep : Descending → Descending → Step → Type 0
 IsDescentStep before now Passed = (now.opened ≡ before.opened) × IsValue before.lossy before.text before.place now.place
 IsDescentStep before now (Entered kind) = (now.opened ≡ before.opened ++ kind ∷ []) × ItemsFit before.lossy before.text kind before.place 0 now.place
 
--- of the member that is expected at the place the key was passed, which ends here, and its colon
-pub record IsMemberKeyPassed (before now : Descending) (found : StringEnd) : Type 0 where
-  pub bytes : List ℕ
-  pub string : IsString before.lossy before.text before.place found.end bytes
-  pub key : IsKey before.lossy before.text before.place now.place bytes
-  pub escaped : IsTrue found.escaped ↔ IsEscapedString before.text before.place found.end
-
 -- of the item of this kind that is expected at the place what comes before the value was passed: nothing, or a key with its colon
-abbrev pub IsHeadPassed : Kind → Descending → Descending → Option StringEnd → Type 0
+abbrev pub IsHeadPassed : Kind → Descending → Descending → Option ValueSpan → Type 0
 IsHeadPassed Array before now None = now.place ≡ before.place
-IsHeadPassed Object before now (Some key) = IsMemberKeyPassed before now key
+IsHeadPassed Object before now (Some key) = IsKeyAt before.lossy before.text before.place key now.place
 IsHeadPassed kind before now key = ⊥
 
 -- another item of the innermost container, which is of this kind, is expected at the place now, or the container was closed
@@ -72,7 +65,7 @@ IsAfterNext i walk false = IsAtEnd i walk
 -- what each step of a walk says of the value at i, which is walked through
 pub record KeepsTo (i : ℕ) (before now : Descending) : Type 0 where
   pub value : (step : Step) → IsAtValue i before → IsDescentStep before now step → IsAfterStep i now step
-  pub head : (kind : Kind) (key : Option StringEnd) → IsTop before.opened kind → IsAtItem i before → now.opened ≡ before.opened → IsHeadPassed kind before now key → IsAtValue i now
+  pub head : (kind : Kind) (key : Option ValueSpan) → IsTop before.opened kind → IsAtItem i before → now.opened ≡ before.opened → IsHeadPassed kind before now key → IsAtValue i now
   pub next : (kind : Kind) (more : Bool) → 0 < length before.opened → IsTop before.opened kind → IsAtEnd i before → IsNextOrClosed kind before now more → IsAfterNext i now more
 
 -- and what each fault says of it

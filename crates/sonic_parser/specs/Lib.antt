@@ -7,5 +7,5 @@ pub mod OpenContainers
 pub mod Parsers
 pub mod Parts
 pub mod Rows
-pub mod StringSpans
+pub mod ValueSpans
 pub mod Texts

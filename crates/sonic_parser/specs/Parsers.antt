@@ -7,13 +7,14 @@ use Rattle.sonic_error.specs.declared.json_type.Wanted.{Wanted}
 use Rattle.sonic_error.specs.Errors.{IsErrorAt, IsPlainError}
 use Rattle.sonic_text.specs.declared.kind.Kind.{Kind}
 use Rattle.sonic_text.specs.declared.stop.Stop.{Stop}
-use Rattle.sonic_text.specs.declared.string.StringEnd.{StringEnd}
 use Rattle.sonic_text.specs.Places.{byte, after_space}
 use Rattle.sonic_text.specs.Strings.{IsString, IsEscapedString}
 use Rattle.sonic_text.specs.Values.{opening, closing, type_at, IsKey, IsValue}
 use Rattle.sonic_text.specs.Faults.{IsFault}
 use Rattle.sonic_parser.specs.declared.status.ParseStatus.{ParseStatus}
 use Rattle.sonic_parser.specs.declared.status.ParseStatus.TheVariants.{HasEscaped}
+use Rattle.sonic_parser.specs.declared.value_span.ValueSpan.{ValueSpan}
+use Rattle.sonic_parser.specs.ValueSpans.{IsKeyAt}
 
 -- a text, the place in it that is read next, the reader's first invalid byte, whether the text came as bytes that may be no UTF-8, and whether strings
 -- are read in the lossy way, which takes surrogate escapes that aren't in pairs
@@ -74,17 +75,16 @@ pub record IsEntered (kind : Kind) (before now : Parsing) : Type 0 where
   pub item : byte before.text now.place ≢ closing kind
 
 -- the key at the cursor was passed with its colon, and the member's value is expected at the cursor now
-pub record IsKeyPassed (before now : Parsing) (found : StringEnd) : Type 0 where
-  pub bytes : List ℕ
-  pub string : IsString before.lossy before.text before.place found.end bytes
-  pub key : IsKey before.lossy before.text before.place now.place bytes
-  pub escaped : IsTrue found.escaped ↔ IsEscapedString before.text before.place found.end
+abbrev pub IsKeyPassed : Parsing → Parsing → ValueSpan → Type 0
+IsKeyPassed before now key = IsKeyAt before.lossy before.text before.place key now.place
 
--- the value at the cursor was skipped
-pub record IsPassed (before now : Parsing) (needs : ParseStatus) : Type 0 where
+-- the value at the cursor was skipped, and this is where it is
+pub record IsPassed (before now : Parsing) (passed : ValueSpan) : Type 0 where
+  pub start : passed.start ≡ before.place
+  pub end : passed.end ≡ now.place
   pub later : before.place < now.place
   pub value : IsValue before.lossy before.text before.place now.place
-  pub status : (needs ≡ HasEscaped) ↔ IsEscapedString before.text before.place now.place
+  pub escaped : IsTrue passed.escaped ↔ IsEscapedString before.text before.place now.place
 
 -- the value that begins before the cursor is of another type than is wanted, which the error says at its last byte, and the parser has come to its end
 pub record IsMismatch (wanted : Wanted) (before now : Parsing) (e : Error) : Type 0 where

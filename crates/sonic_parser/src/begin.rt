@@ -1,38 +1,29 @@
-ghost use Rattle.std.specs.Prelude.{◌≡◌, ◌≤◌, ◌⊎◌, Bool, length, IfOk, IfErr};
+ghost use Rattle.std.specs.Prelude.{◌≡◌, ◌≤◌, ◌⊎◌, Bool, false, length, IfOk, IfErr};
 ghost use Rattle.sonic_text.specs.Places.{byte, IsDigit};
 ghost use Rattle.sonic_text.specs.Values.{opening};
 ghost use Rattle.sonic_text.specs.Faults.{IsFault};
 ghost use Rattle.sonic_parser.specs.Internal.Skipping.{IsBegun};
 
 use crate::container::{Next, first_item};
-use crate::status::ParseStatus;
+use crate::value_span::ValueSpan;
 use sonic_error::ErrorCode;
 use sonic_text::{Kind, Stop, byte_at, literal_end, number_end, stop_at, string_end};
-
-// A value that was read.
-#[derive(Clone, Copy)]
-pub(crate) struct Skipped {
-    // The place after its last byte.
-    pub(crate) end: usize,
-    pub(crate) status: ParseStatus,
-}
 
 // How far the beginning of a value leads.
 #[derive(Clone, Copy)]
 pub(crate) enum Begun {
     // The value is read.
-    Complete(Skipped),
+    Complete(ValueSpan),
     // It is a container of this kind, whose first item is expected here.
     Inside(Kind, usize),
 }
 
-// A value that ends here and is no string with a backslash.
+// A value that is no string with a backslash.
 #[inline]
-fn plain(end: usize) -> Begun
-    ensures { result ≡ Begun.Complete (record { end = end; status = ParseStatus.None }) }
+fn plain(start: usize, end: usize) -> Begun
+    ensures { result ≡ Begun.Complete (record { start = start; end = end; escaped = false }) }
 {
-    let status = ParseStatus::None;
-    Begun::Complete(Skipped { end, status })
+    Begun::Complete(ValueSpan::plain(start, end))
 }
 
 // Begins the string whose quote is at a place.
@@ -44,9 +35,7 @@ fn begin_string(text: &[u8], place: usize, lossy: bool) -> Result<Begun, Stop>
     ensures err { IfErr result (λ s. IsFault lossy text.now place s) }
 {
     let string = string_end(text, place, lossy)?;
-    let status = ParseStatus::of_string(string.escaped);
-    let end = string.end;
-    Ok(Begun::Complete(Skipped { end, status }))
+    Ok(Begun::Complete(ValueSpan::of_string(place, string)))
 }
 
 // Begins the number at a place.
@@ -59,7 +48,7 @@ fn begin_number(text: &[u8], place: usize, lossy: bool) -> Result<Begun, Stop>
     ensures err { IfErr result (λ s. IsFault lossy text.now place s) }
 {
     match number_end(text, place) {
-        Ok(end) => Ok(plain(end)),
+        Ok(end) => Ok(plain(place, end)),
         Err(stop) => Err(stop),
     }
 }
@@ -74,7 +63,7 @@ fn begin_container(text: &[u8], place: usize, kind: Kind) -> Begun
 {
     match first_item(text, place, kind) {
         Next::Item(first) => Begun::Inside(kind, first),
-        Next::End(end) => plain(end),
+        Next::End(end) => plain(place, end),
     }
 }
 
@@ -91,9 +80,9 @@ pub(crate) fn begin(text: &[u8], place: usize, lossy: bool) -> Result<Begun, Sto
         b'{' => Ok(begin_container(text, place, Kind::Object)),
         b'[' => Ok(begin_container(text, place, Kind::Array)),
         b'-' | b'0'..=b'9' => begin_number(text, place, lossy),
-        b'n' => literal_end(text, place, "null").map(plain),
-        b't' => literal_end(text, place, "true").map(plain),
-        b'f' => literal_end(text, place, "false").map(plain),
+        b'n' => Ok(plain(place, literal_end(text, place, "null")?)),
+        b't' => Ok(plain(place, literal_end(text, place, "true")?)),
+        b'f' => Ok(plain(place, literal_end(text, place, "false")?)),
         _ => Err(stop_at(text, place, ErrorCode::InvalidJsonValue)),
     }
 }

@@ -1,13 +1,13 @@
 // The syntax of containers: what comes before the first item, before a member's value, and after
 // an item.
-ghost use Rattle.std.specs.Prelude.{◌≡◌, ◌+◌, ◌<◌, ◌≤◌, ◌↔◌, ℕ, Bool, List, length, IfOk, IfErr, IfSome, IsTrue};
+ghost use Rattle.std.specs.Prelude.{◌≡◌, ◌+◌, ◌<◌, ◌≤◌, ℕ, Bool, List, length, IfOk, IfErr, IfSome};
 ghost use Rattle.sonic_text.specs.Places.{byte};
-ghost use Rattle.sonic_text.specs.Strings.{IsString, IsEscapedString};
 ghost use Rattle.sonic_text.specs.Values.{opening, IsKey};
 ghost use Rattle.sonic_text.specs.Faults.{IsKeyFault};
 ghost use Rattle.sonic_parser.specs.Internal.Containers.{IsAfterBracket};
 ghost use Rattle.sonic_parser.specs.Containers.{IsSeparatorFault};
 ghost use Rattle.sonic_parser.specs.Parts.{IsAfterValue};
+ghost use Rattle.sonic_parser.specs.ValueSpans.{string_span, IsKeyAt};
 
 use sonic_error::ErrorCode;
 use sonic_text::{
@@ -70,23 +70,13 @@ pub fn next_item(text: &[u8], end: usize, kind: Kind) -> Result<Next, Stop>
     }
 }
 
-// The key of a member, and where the member's value is expected.
-#[derive(Clone, Copy)]
-pub(crate) struct KeyEnd {
-    pub(crate) string: StringEnd,
-    pub(crate) value: usize,
-}
-
-// The key that is expected at a place, with the colon after it.
+// The key that is expected at a place with the colon after it, and where the member's value is
+// expected.
 #[inline]
 #[tactic(auto, using(crate::proofs::BeginningLemmas::keys))]
-pub(crate) fn key_end(text: &[u8], place: usize, lossy: bool) -> Result<KeyEnd, Stop>
+pub(crate) fn key_end(text: &[u8], place: usize, lossy: bool) -> Result<(StringEnd, usize), Stop>
     requires { place ≤ length text.now }
-    ensures within { IfOk result (λ key. (place < key.value) × (key.value ≤ length text.now)) }
-    ensures ok { IfOk result (λ key. (b : List ℕ)
-        × IsString lossy text.now place key.string.end b × IsKey lossy text.now place key.value b) }
-    ensures escaped { IfOk result (λ key.
-        IsTrue key.string.escaped ↔ IsEscapedString text.now place key.string.end) }
+    ensures ok { IfOk result (λ key. IsKeyAt lossy text.now place (string_span place key.0) key.1) }
     ensures err { IfErr result (λ s. IsKeyFault lossy text.now place s) }
 {
     if byte_at(text, place) != b'"' {
@@ -98,7 +88,7 @@ pub(crate) fn key_end(text: &[u8], place: usize, lossy: bool) -> Result<KeyEnd, 
         return Err(stop_at(text, colon, ErrorCode::ExpectedColon));
     }
     let value = skip_space(text, colon + 1);
-    Ok(KeyEnd { string, value })
+    Ok((string, value))
 }
 
 // The same without the reason, where the key is short: `None` says nothing of the text.

@@ -10,7 +10,8 @@ ghost use Rattle.sonic_parser.specs.Parsers.{IsFilledContainer};
 
 use crate::fault::Fault;
 use crate::parser::Parser;
-use sonic_text::{Kind, Stop, StringEnd, byte_at};
+use crate::value_span::ValueSpan;
+use sonic_text::{Kind, Stop, byte_at};
 use std::alloc::Global;
 use std::marker::Model;
 
@@ -156,10 +157,10 @@ impl<'de> Descent<'de> {
     /// Passes what comes before the value of the item that is expected at the cursor, in a container
     /// of this kind: nothing before an element's, and a key with its colon before a member's.
     ///
-    /// Of `"a" : 1` the key ends at 3, and the cursor moves to the `1`. After an error it is where
-    /// it was.
+    /// Of `"a" : 1` the key is from 0 to 3, and the cursor moves to the `1`. After an error it is
+    /// where it was.
     #[inline(always)]
-    pub fn head(&mut self, kind: Kind) -> Result<Option<StringEnd>, Stop>
+    pub fn head(&mut self, kind: Kind) -> Result<Option<ValueSpan>, Stop>
         ensures ok { IfOk result (IsHeadPassed kind self.old self.new) }
         ensures cursor { self.new ≡ record self.old { place = self.new.place } }
         ensures err { IfErr result (λ s.

@@ -30,8 +30,8 @@ mod skip;
 mod space;
 // What a skipped value needs.
 mod status;
-// A string of a text, and what is made of it.
-mod string_span;
+// Where a value of a text is, and what a string denotes.
+mod value_span;
 // Where a value ends that is known to be there.
 mod unchecked;
 
@@ -45,4 +45,4 @@ pub use parts::{ValueAt, item_at, opens_nested_array, value_at};
 pub use quick::{after_comma, scalar_end, value_place};
 pub use reference::Reference;
 pub use status::ParseStatus;
-pub use string_span::StringSpan;
+pub use value_span::ValueSpan;

@@ -12,16 +12,13 @@ ghost use Rattle.sonic_parser.specs.Containers.{IsEnd, IsSeparated, IsSeparatorF
 ghost use Rattle.sonic_parser.specs.Faults.{IsStopFor};
 ghost use Rattle.sonic_parser.specs.Honest.{IsHonest};
 
-use crate::begin::{Begun, Skipped, begin};
 use crate::container::{Next, first_item, key_end, next_item};
 use crate::fault::Fault;
-use crate::quick::digits_ahead;
-use crate::skip::close;
 use crate::space::{SpaceBlock, words_from};
-use crate::status::ParseStatus;
+use crate::value_span::ValueSpan;
 use sonic_error::{Error, ErrorCode};
 use sonic_input::Read;
-use sonic_text::{Kind, Stop, StringEnd, byte_at, literal_end, number_end};
+use sonic_text::{Kind, Stop, byte_at, literal_end, number_end};
 use std::alloc::Global;
 use std::marker::Model;
 
@@ -309,22 +306,23 @@ impl<'de> Parser<'de> {
     }
 
     /// Passes the key that begins at the cursor, its colon and the white space round that, and
-    /// gives where the key ends and whether it has a backslash.
+    /// gives where the key is.
     ///
-    /// Of `"a" : 1` the key ends at 3, and the cursor moves to the `1`. After an error it is where
-    /// it was.
+    /// Of `"a" : 1` the key is from 0 to 3, and the cursor moves to the `1`. After an error it is
+    /// where it was.
     #[inline]
-    pub fn key(&mut self) -> Result<StringEnd, Stop>
-        ensures ok { IfOk result (λ key. IsKeyPassed self.old self.new key) }
+    pub fn key(&mut self) -> Result<ValueSpan, Stop>
+        ensures ok { IfOk result (IsKeyPassed self.old self.new) }
         ensures cursor { self.new ≡ moved self.old self.new.place }
         ensures err { IfErr result (λ s.
             IsKeyFault self.old.lossy self.old.text self.old.place s) }
         ensures within { IfErr result (λ s. s.place ≤ length self.old.text) }
         ensures kept { OnErr result (self.new ≡ self.old) }
     {
-        let key = key_end(self.read.as_u8_slice(), self.read.index(), self.lossy)?;
-        self.read.set_index(key.value);
-        Ok(key.string)
+        let start = self.read.index();
+        let (string, value) = key_end(self.read.as_u8_slice(), start, self.lossy)?;
+        self.read.set_index(value);
+        Ok(ValueSpan::of_string(start, string))
     }
 }
 

@@ -57,7 +57,7 @@ fn other_at(text: &[u8], place: usize, lossy: bool) -> Result<ValueAt, Stop>
     ensures err { IfErr result (λ s. IsFault lossy text.now place s) }
 {
     match begin(text, place, lossy)? {
-        Begun::Complete(skipped) => Ok(ValueAt::Ends(skipped.end)),
+        Begun::Complete(value) => Ok(ValueAt::Ends(value.end)),
         Begun::Inside(kind, first) => Ok(ValueAt::Opens(kind, first)),
     }
 }

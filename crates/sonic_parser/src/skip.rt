@@ -23,7 +23,7 @@ pub(crate) fn item_value(text: &[u8], place: usize, kind: Kind, lossy: bool) -> 
 {
     match kind {
         Kind::Array => Ok(place),
-        Kind::Object => Ok(key_end(text, place, lossy)?.value),
+        Kind::Object => Ok(key_end(text, place, lossy)?.1),
     }
 }
 

@@ -20,16 +20,4 @@ impl ParseStatus {
             ParseStatus::HasEscaped => true,
         }
     }
-
-    // The status of a string, by whether it has a backslash.
-    #[inline]
-    pub(crate) fn of_string(escaped: bool) -> ParseStatus
-        ensures { (result ≡ ParseStatus.HasEscaped) ↔ IsTrue escaped }
-    {
-        if escaped {
-            ParseStatus::HasEscaped
-        } else {
-            ParseStatus::None
-        }
-    }
 }

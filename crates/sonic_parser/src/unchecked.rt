@@ -9,17 +9,16 @@ ghost use Rattle.sonic_blocks.specs.Outside.{IsClear};
 ghost use Rattle.sonic_text.specs.Brackets.{LeavesString};
 ghost use Rattle.sonic_text.specs.Numbers.{IsNumber};
 ghost use Rattle.sonic_text.specs.Places.{byte, after_space};
-ghost use Rattle.sonic_text.specs.Strings.{IsString, IsEscapedString};
+ghost use Rattle.sonic_text.specs.Strings.{IsEscapedString};
 ghost use Rattle.sonic_text.specs.Values.{opening, IsKey, IsValue};
 ghost use Rattle.sonic_parser.specs.Containers.{GoesOn};
 ghost use Rattle.sonic_parser.specs.Internal.Skipping.{IsComplete};
 ghost use Rattle.sonic_parser.specs.Internal.Unchecked.{IsMark, IsWholeString};
 ghost use Rattle.sonic_parser.specs.Parts.{IsAfterValue};
+ghost use Rattle.sonic_parser.specs.ValueSpans.{string_span, IsKeyAt};
 
-use crate::begin::Skipped;
 use crate::blocks::{open_string, whole_container};
-use crate::container::{KeyEnd, Next};
-use crate::status::ParseStatus;
+use crate::container::Next;
 use sonic_blocks::first_of;
 use sonic_text::{Kind, StringEnd, skip_number, skip_space};
 
@@ -78,17 +77,14 @@ pub(crate) fn whole_next(text: &[u8], end: usize, kind: Kind) -> Next
 
 // The key of the member at a place, which is known to have one, and where its value begins.
 #[inline(always)]
-pub(crate) fn whole_key(text: &[u8], place: usize, lossy: bool) -> KeyEnd
+pub(crate) fn whole_key(text: &[u8], place: usize, lossy: bool) -> (StringEnd, usize)
     requires { (v : ℕ) × (b : List ℕ) × IsKey lossy text.now place v b }
-    ensures within { (place < result.value) × (result.value ≤ length text.now) }
-    ensures ok { (b : List ℕ) × IsString lossy text.now place result.string.end b
-        × IsKey lossy text.now place result.value b }
-    ensures escaped { IsTrue result.string.escaped ↔ IsEscapedString text.now place result.string.end }
+    ensures { IsKeyAt lossy text.now place (string_span place result.0) result.1 }
 {
     let string = whole_string(text, place);
     let colon = mark_after_space(text, string.end, b':', b':');
     let value = skip_space(text, colon + 1);
-    KeyEnd { string, value }
+    (string, value)
 }
 
 // The end of the number at a place.
@@ -103,29 +99,19 @@ fn whole_number(text: &[u8], start: usize) -> usize
     }
 }
 
-// A value that ends here and is no string with a backslash.
-#[inline(always)]
-fn plain(end: usize) -> Skipped
-    ensures { result ≡ record { end = end; status = ParseStatus.None } }
-{
-    let status = ParseStatus::None;
-    Skipped { end, status }
-}
-
-// The value at a place: its end, and whether it is a string with a backslash.
-pub(crate) fn whole_value(text: &[u8], start: usize, lossy: bool) -> Skipped
+// Where the value at a place ends, and whether it is a string with a backslash.
+pub(crate) fn whole_value(text: &[u8], start: usize, lossy: bool) -> (usize, bool)
     requires { (j : ℕ) × IsValue lossy text.now start j }
-    ensures { IsComplete lossy text.now start result }
+    ensures { IsComplete lossy text.now start (record { start = start; end = result.0; escaped = result.1 }) }
 {
     match text[start] {
         b'"' => {
             let StringEnd { end, escaped } = whole_string(text, start);
-            let status = ParseStatus::of_string(escaped);
-            Skipped { end, status }
+            (end, escaped)
         }
-        b'{' | b'[' => plain(whole_container(text, start)),
-        b'n' | b't' => plain(start + 4),
-        b'f' => plain(start + 5),
-        _ => plain(whole_number(text, start)),
+        b'{' | b'[' => (whole_container(text, start), false),
+        b'n' | b't' => (start + 4, false),
+        b'f' => (start + 5, false),
+        _ => (whole_number(text, start), false),
     }
 }

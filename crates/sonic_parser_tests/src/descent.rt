@@ -5,8 +5,8 @@ use crate::reference::text_of_number;
 use crate::same::{same, same_at};
 use sonic_error::ErrorCode;
 use sonic_input::Read;
-use sonic_parser::{Descent, Fault, Parser, Step};
-use sonic_text::{Kind, Stop, StringEnd};
+use sonic_parser::{Descent, Fault, Parser, Step, ValueSpan};
+use sonic_text::{Kind, Stop};
 use std::alloc::Global;
 use std::process::Abort;
 use std::test::Fail;
@@ -160,7 +160,7 @@ fn walks_through_deep_values(rt: HostRuntime) -> Result<(), Fail> {
 }
 
 // How many containers are open at a value, where it begins, and the key before it.
-type Row = (usize, usize, Option<StringEnd>);
+type Row = (usize, usize, Option<ValueSpan>);
 
 // The values of the one at the parser's cursor, in their order.
 fn rows(alloc: Global, parser: Parser<'_>) -> Result<Vec<Row>, Fault> {
@@ -181,12 +181,14 @@ fn rows(alloc: Global, parser: Parser<'_>) -> Result<Vec<Row>, Fault> {
     Err(Fault::OutOfMemory)
 }
 
-const PLAIN: StringEnd = StringEnd {
+const PLAIN: ValueSpan = ValueSpan {
+    start: 1,
     end: 4,
     escaped: false,
 };
 
-const ESCAPED: StringEnd = StringEnd {
+const ESCAPED: ValueSpan = ValueSpan {
+    start: 16,
     end: 21,
     escaped: true,
 };

@@ -5,7 +5,7 @@ ghost use Rattle.std.specs.Prelude.{◌≡◌};
 use crate::reference::text_of_number;
 use crate::same::{same, same_at};
 use sonic_input::Read;
-use sonic_parser::{ParseStatus, Parser};
+use sonic_parser::{ParseStatus, Parser, ValueSpan};
 use std::alloc::Global;
 use std::process::Abort;
 use std::test::Fail;
@@ -58,9 +58,9 @@ fn skips_a_value_at_the_cursor(rt: HostRuntime) {
     let mut checked = Parser::new(Read::from(&text[..]));
     let mut unchecked = Parser::new(Read::from(&text[..]));
     match checked.skip_value(alloc) {
-        Ok(status) => {
-            same(&rt, status, PLAIN);
-            same(&rt, unchecked.skip_value_unchecked(), PLAIN);
+        Ok(value) => {
+            same(&rt, value, ValueSpan::plain(0, 9));
+            same(&rt, unchecked.skip_value_unchecked(), value);
             same(&rt, unchecked.offset(), 9);
             same(&rt, unchecked.skip_space(), Some(b','));
         }

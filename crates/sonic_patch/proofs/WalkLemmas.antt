@@ -5,7 +5,7 @@ use Rattle.std.proofs.lemmas.List.{length-append}
 use Rattle.std.specs.Prelude.{Option, Some, None, slice_range}
 use Rattle.sonic_text.specs.declared.kind.Kind.{Kind}
 use Rattle.sonic_text.specs.declared.kind.Kind.TheVariants.{Array, Object}
-use Rattle.sonic_text.specs.declared.string.StringEnd.{StringEnd}
+use Rattle.sonic_parser.specs.declared.value_span.ValueSpan.{ValueSpan}
 use Rattle.sonic_text.specs.Places.{byte, after_space}
 use Rattle.sonic_text.specs.Strings.{IsString, strict}
 use Rattle.sonic_text.specs.Trees.{Tree, Items, Means, ItemsMean, type_of_tree}
@@ -77,7 +77,7 @@ first_of_items (more_items {v} {e} {l} {x} {xs} y m c q is) f =
     record { label = l; place = v; end = e; tree = x; others = xs; head = y; means = m; are = refl; follows = items_follow c q is f }
 
 -- the key is this part of the text, if there is one
-abbrev pub IsKeyOf : List ℕ → ℕ → Option StringEnd → Option (Bor (List ℕ)) → Type 0
+abbrev pub IsKeyOf : List ℕ → ℕ → Option ValueSpan → Option (Bor (List ℕ)) → Type 0
 IsKeyOf t start None None = Unit {0}
 IsKeyOf t start (Some key) (Some part) = part.now ≡ slice_range t start key.end
 IsKeyOf t start None (Some part) = ⊥
@@ -89,7 +89,7 @@ record PassedHead (w : Descending) (kind : Kind) (place : ℕ) (part : Option (B
   head : ItemHead strict w.text kind w.place place label
   is : IsKeyLabel part label
 
-head_of : (w now : Descending) (kind : Kind) (key : Option StringEnd) (part : Option (Bor (List ℕ))) → w.lossy ≡ strict → IsHeadPassed kind w now key
+head_of : (w now : Descending) (kind : Kind) (key : Option ValueSpan) (part : Option (Bor (List ℕ))) → w.lossy ≡ strict → IsHeadPassed kind w now key
     → IsKeyOf w.text w.place key part → PassedHead w kind now.place part
 head_of w now Array None None s p k = record { label = None; head = no_head p; is = tt }
 head_of w now Array None (Some part) s p k = absurd k
@@ -102,7 +102,7 @@ head_of w now Object (Some key) (Some part) s p k =
     record { label = Some p.bytes; head = key_head y; is = rw k (word_of string) }
 
 -- what comes before the value of an item was passed
-pub headed : {w now : Descending} {rest : List Tag} (kind : Kind) (key : Option StringEnd) (part : Option (Bor (List ℕ))) → w.lossy ≡ strict → 0 < length w.opened → IsTop w.opened kind
+pub headed : {w now : Descending} {rest : List Tag} (kind : Kind) (key : Option ValueSpan) (part : Option (Bor (List ℕ))) → w.lossy ≡ strict → 0 < length w.opened → IsTop w.opened kind
     → now ≡ record w { place = now.place } → IsHeadPassed kind w now key → IsKeyOf w.text w.place key part → RemainsFromItem w rest
     → (l : Option (List ℕ)) × IsKeyLabel part l × RemainsFromValue now l rest
 headed {w} kind key part s some top moved passed cut (root_expected o m r) = absurd (omega (arith, some, ap length o))
@@ -265,7 +265,7 @@ item_next {w} kind some h e step =
     next_at w.place h.frames (ap (λ o. o.text) e) (step.0 ∙ h.opened) (omega (arith, some, ap length h.opened)) step.1.0 step.1.1 h.are h.follows
 
 -- the cursor moves on
-pub head_later : (w now : Descending) (kind : Kind) (key : Option StringEnd) → IsHeadPassed kind w now key → w.place ≤ now.place
+pub head_later : (w now : Descending) (kind : Kind) (key : Option ValueSpan) → IsHeadPassed kind w now key → w.place ≤ now.place
 head_later w now Array None p = omega (arith, p)
 head_later w now Array (Some key) p = absurd p
 head_later w now Object None p = absurd p
@@ -279,7 +279,12 @@ started {w} {e = e} {x = x} same place opened m = let there : Means w.text w.pla
 pub means_renamed : {t u : List ℕ} {i j k l : ℕ} {x : Tree} → t ≡ u → i ≡ k → j ≡ l → Means u k l x → Means t i j x
 means_renamed e f g m = rw (e, f, g) m
 
--- a key that was passed is a part of the text
-pub key_bounds : (w now : Descending) (kind : Kind) (key : StringEnd) → IsHeadPassed kind w now (Some key) → (w.place ≤ key.end) × (key.end ≤ length w.text)
+-- a key that was passed begins where the walk was
+pub key_begins : (w now : Descending) (kind : Kind) (key : ValueSpan) → IsHeadPassed kind w now (Some key) → key.start ≡ w.place
+key_begins w now Array key p = absurd p
+key_begins w now Object key p = p.start
+
+-- and is a part of the text
+pub key_bounds : (w now : Descending) (kind : Kind) (key : ValueSpan) → IsHeadPassed kind w now (Some key) → (w.place ≤ key.end) × (key.end ≤ length w.text)
 key_bounds w now Array key p = absurd p
 key_bounds w now Object key p = let l = string_longer p.string in (omega arith, value_within (string p.string))

@@ -59,10 +59,9 @@ fn pass_key<'t>(walk: &mut Descent<'t>) -> Result<Option<&'t [u8]>, Stop>
     if walk.depth() == 0 {
         return Ok(None);
     }
-    let start = walk.offset();
     match walk.head(walk.kind())? {
         None => Ok(None),
-        Some(key) => Ok(Some(&walk.text()[start..key.end])),
+        Some(key) => Ok(Some(&walk.text()[key.start..key.end])),
     }
 }
 

@@ -8,7 +8,7 @@ ghost use Rattle.sonic_paths.specs.Lines.{IsNodeLine};
 ghost use Rattle.sonic_paths.specs.Internal.Reading.{IsNodeRead, IsArrayRead};
 
 use sonic_input::Read;
-use sonic_parser::{Fault, Parser, StringSpan};
+use sonic_parser::{Fault, Parser};
 use sonic_pointer::{MAX_NODES, OwnedNode, OwnedPath};
 use sonic_text::{Kind, byte_at, whole_u64};
 use std::alloc::{AllocError, Global};
@@ -94,16 +94,10 @@ fn key(alloc: Global, parser: &mut Parser<'_>) -> Result<Option<OwnedNode>, Allo
     ensures node { IfOk result (λ found. IsNodeRead parser.old parser.new found) }
     ensures cursor { parser.new ≡ moved parser.old parser.new.place }
 {
-    let start = parser.offset();
-    let status = match parser.skip_value(alloc) {
-        Ok(status) => status,
+    let string = match parser.skip_value(alloc) {
+        Ok(string) => string,
         Err(Fault::OutOfMemory) => return Err(AllocError),
         Err(Fault::At(_)) => return Ok(None),
-    };
-    let string = StringSpan {
-        start,
-        end: parser.offset(),
-        escaped: status.has_escaped(),
     };
     let key = string.owned_text(alloc, parser.text())?;
     Ok(Some(OwnedNode::Key(key)))

@@ -1,9 +1,8 @@
 -- What a string of a text is read as.
 use Rattle.std.proofs.Common.{◌≡◌, ◌∙◌, ap, refl, ℕ, ◌↔◌, List, Bool, true}
 use Rattle.std.specs.Prelude.{IsTrue, Some}
-use Rattle.sonic_parser.specs.StringSpans.{IsStringSpan}
-use Rattle.sonic_parser.specs.declared.status.ParseStatus.{ParseStatus}
-use Rattle.sonic_parser.specs.declared.status.ParseStatus.TheVariants.{HasEscaped}
+use Rattle.sonic_parser.specs.ValueSpans.{IsStringSpan}
+use Rattle.sonic_parser.specs.declared.value_span.ValueSpan.{ValueSpan}
 use Rattle.sonic_text.proofs.Strings.{string_one}
 use Rattle.sonic_text.specs.Places.{byte}
 use Rattle.sonic_text.specs.Strings.{strict, IsString, IsEscapedString}
@@ -13,8 +12,7 @@ use Rattle.sonic_text.specs.Values.{key_head, IsKey, IsValue}
 use Rattle.sonic_text.specs.declared.kind.Kind.TheVariants.{Object}
 use Rattle.sonic_value.proofs.ScalarLemmas.{string_there}
 use Rattle.sonic_value.specs.Internal.Keeping.{kept_text}
-use Rattle.sonic_value.specs.Internal.Readers.{Source, BeginsNoContainer, IsScalarToken, string_of_token, IsKeptText, IsKept, IsHeadRead}
-use Rattle.sonic_value.specs.declared.reader.Token.{Token}
+use Rattle.sonic_value.specs.Internal.Readers.{Source, BeginsNoContainer, IsScalarSpan, IsKeptText, IsKept, IsHeadRead}
 
 -- what it denotes is kept of a text in UTF-8
 pub text_kept : {s : Source} {i j : ℕ} {b : List ℕ} → s.is_utf8 ≡ true → IsString strict s.text i j b → IsKeptText s i j b
@@ -34,10 +32,10 @@ key_read {s} {b = b} denoted key k = record {
 }
 
 -- a value that begins with a quote is a string
-pub string_token : {t : List ℕ} {token : Token} → IsScalarToken t token → byte t token.start ≡ 34 → IsStringSpan t (string_of_token token)
-string_token x b = let s = string_there x.value b in record { bytes = s.0; is = s.1; escaped = x.escaped }
+pub scalar_string : {t : List ℕ} {x : ValueSpan} → IsScalarSpan t x → byte t x.start ≡ 34 → IsStringSpan t x
+scalar_string x b = let s = string_there x.value b in record { bytes = s.0; is = s.1; escaped = x.escaped }
 
--- what was passed is one, and whether it has a backslash
-pub scalar_token : {t : List ℕ} {i j : ℕ} {needs : ParseStatus} {escaped : Bool} → IsValue strict t i j → BeginsNoContainer t i
-    → (needs ≡ HasEscaped) ↔ IsEscapedString t i j → IsTrue escaped ↔ (needs ≡ HasEscaped) → IsScalarToken t (record { start = i; end = j; escaped = escaped })
-scalar_token value begins (f, g) (y, z) = record { value = value; begins = begins; escaped = (λ e. f (y e), λ e. z (g e)) }
+-- what was passed is one, where no container begins
+pub scalar_span : {t : List ℕ} {i j : ℕ} {x : ValueSpan} → x.start ≡ i → x.end ≡ j → IsValue strict t i j → BeginsNoContainer t i
+    → IsTrue x.escaped ↔ IsEscapedString t i j → IsScalarSpan t x
+scalar_span start end value begins escaped = record { value = rw (start, end) value; begins = rw start begins; escaped = rw (start, end) escaped }

@@ -4,7 +4,7 @@ ghost use Rattle.std.specs.Cow.{cow_str_bytes};
 ghost use Rattle.std.specs.Str.{IsUtf8};
 ghost use Rattle.sonic_parser.specs.Containers.{IsEnd, IsSeparated, IsSeparatorFault};
 ghost use Rattle.sonic_parser.specs.Faults.{IsStopFor};
-ghost use Rattle.sonic_parser.specs.StringSpans.{IsStringSpan};
+ghost use Rattle.sonic_parser.specs.ValueSpans.{IsKeyAt, IsStringSpan};
 ghost use Rattle.sonic_text.specs.Faults.{IsFault, IsKeyFault};
 ghost use Rattle.sonic_text.specs.Numbers.{IsNumber};
 ghost use Rattle.sonic_text.specs.Places.{byte, after_space};
@@ -12,13 +12,13 @@ ghost use Rattle.sonic_text.specs.Strings.{strict, IsString, IsEscapedString};
 ghost use Rattle.sonic_text.specs.Values.{opening, closing, IsValue};
 ghost use Rattle.sonic_text.specs.declared.kind.Kind.{Kind};
 ghost use Rattle.sonic_value.specs.Internal.Keeping.{spelling};
-ghost use Rattle.sonic_value.specs.Internal.Readers.{IsValueRead, IsUnreadValue, IsScalarToken, IsKeySpan, IsKeptText, IsKept, IsHeadRead};
+ghost use Rattle.sonic_value.specs.Internal.Readers.{IsValueRead, IsUnreadValue, IsScalarSpan, IsKeptText, IsKept, IsHeadRead};
 ghost use Rattle.sonic_value.specs.Views.{tree};
 
 use crate::Value;
 use sonic_input::{JsonSlice, Read};
-use sonic_parser::{Fault, Parser, StringSpan};
-use sonic_text::{Kind, Stop, StringEnd, byte_at};
+use sonic_parser::{Fault, Parser, ValueSpan};
+use sonic_text::{Kind, Stop, byte_at};
 use std::alloc::{AllocError, Global};
 use std::borrow::CowStr;
 use std::marker::Model;
@@ -141,18 +141,13 @@ impl<'de> Reader<'de> {
     }
 
     // Passes the key at the cursor, up to the member's value.
-    fn pass_key(&mut self) -> Result<StringSpan, Stop>
-        ensures ok { IfOk result (IsKeySpan self.old.source.text self.old.place self.new.place) }
+    fn pass_key(&mut self) -> Result<ValueSpan, Stop>
+        ensures ok { IfOk result (λ key.
+            IsKeyAt strict self.old.source.text self.old.place key self.new.place) }
         ensures moved { self.new ≡ record self.old { place = self.new.place } }
         ensures err { IfErr result (IsKeyFault strict self.old.source.text self.old.place) }
     {
-        let start = self.parser.offset();
-        let StringEnd { end, escaped } = self.parser.key()?;
-        Ok(StringSpan {
-            start,
-            end,
-            escaped,
-        })
+        self.parser.key()
     }
 
     // Passes the value at the cursor, however deep it is.
@@ -174,20 +169,13 @@ impl<'de> Reader<'de> {
         ensures err { IfErr result (IsStopFor (λ s. (room : ℕ)
             → IsUnreadValue self.old.source.text room self.old.place s)) }
     {
-        let start = self.parser.offset();
-        let escaped = self.parser.skip_value(self.alloc)?.has_escaped();
-        let end = self.parser.offset();
-        let value = Token {
-            start,
-            end,
-            escaped,
-        };
+        let value = self.parser.skip_value(self.alloc)?;
         Ok(self.scalar_value(value)?)
     }
 
     // A value of the text that is no container.
-    fn scalar_value(&self, value: Token) -> Result<Value, AllocError>
-        requires { IsScalarToken self.now.source.text value }
+    fn scalar_value(&self, value: ValueSpan) -> Result<Value, AllocError>
+        requires { IsScalarSpan self.now.source.text value }
         ensures { IfOk result (λ made. IsKept self.now.source value.start value.end (tree made)) }
     {
         let text = self.parser.text();
@@ -195,17 +183,13 @@ impl<'de> Reader<'de> {
             b'n' => Ok(Value::Null),
             b't' => Ok(Value::Bool(true)),
             b'f' => Ok(Value::Bool(false)),
-            b'"' => Ok(Value::String(self.string(StringSpan {
-                start: value.start,
-                end: value.end,
-                escaped: value.escaped,
-            })?)),
+            b'"' => Ok(Value::String(self.string(value)?)),
             _ => Ok(Value::Number(number_text(self.alloc, text, value)?)),
         }
     }
 
     // What a string of the text denotes, or how that is spelled.
-    fn string(&self, string: StringSpan) -> Result<String, AllocError>
+    fn string(&self, string: ValueSpan) -> Result<String, AllocError>
         requires { IsStringSpan self.now.source.text string }
         ensures { IfOk result (λ made.
             IsKeptText self.now.source string.start string.end (string_bytes made)) }
@@ -217,15 +201,6 @@ impl<'de> Reader<'de> {
         let bytes = string.bytes(self.alloc, text)?;
         spelled(self.alloc, &bytes)
     }
-}
-
-// A string, a number or a literal of a text: the place of its first byte, the place after its last,
-// and whether it is a string with a backslash.
-#[derive(Clone, Copy)]
-struct Token {
-    start: usize,
-    end: usize,
-    escaped: bool,
 }
 
 // Bytes spelled out, two letters for each.
@@ -241,7 +216,7 @@ pub(crate) fn spelled(alloc: Global, bytes: &[u8]) -> Result<String, AllocError>
 }
 
 // The text of a number.
-fn number_text(alloc: Global, text: &[u8], number: Token) -> Result<String, AllocError>
+fn number_text(alloc: Global, text: &[u8], number: ValueSpan) -> Result<String, AllocError>
     requires { IsNumber text.now number.start number.end }
     ensures { IfOk result (λ made. string_bytes made ≡ slice_range text.now number.start number.end) }
 {

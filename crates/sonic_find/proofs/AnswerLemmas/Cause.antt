@@ -15,11 +15,11 @@ use Rattle.sonic_find.proofs.PathLemmas.Rule.{by_named}
 use Rattle.sonic_find.proofs.Utf8Lemmas.{utf8_of_span}
 use Rattle.sonic_find.specs.Answers.{AllLeadBy, IsReach, to_the_root, to_the_furthest, Span, span_of, Answer, ComeTo, no_path, finding, IsAnswerBy}
 use Rattle.sonic_find.specs.Causes.{IsAnswerableBy, nothing_asked, all_reported, IsRefusalBy, out_of_memory, answered}
-use Rattle.sonic_find.specs.Internal.Located.{span_at, spans_of, AreParts}
+use Rattle.sonic_find.specs.Found.{span_at, spans_of, AreParts}
 use Rattle.sonic_find.specs.Internal.Walk.{IsError}
 use Rattle.sonic_find.specs.Paths.{Outcome, found, kind_of, EvaluatesBy}
 use Rattle.sonic_find.specs.Paths.EvaluatesBy.{found_here, goes_on, leads_nowhere}
-use Rattle.sonic_find.specs.declared.located.Located.{Located}
+use Rattle.sonic_parser.specs.declared.value_span.ValueSpan.{ValueSpan}
 use Rattle.sonic_parser.specs.Faults.{IsStopFor, IsErrorOf}
 use Rattle.sonic_parser.specs.declared.fault.Fault.{Fault}
 use Rattle.sonic_parser.specs.declared.fault.Fault.TheVariants.{OutOfMemory, At}
@@ -107,7 +107,7 @@ pub only_memory : (t : List ℕ) {e : Error} (fault : Fault) → fault ≡ OutOf
 only_memory t fault out e = rw out at e
 
 -- each value that is reported of an answer's spans is a part of the text
-pub parts_reported : {t : List ℕ} {is_bytes : Bool} {paths : List Path} {rule : KeyRule} (xs : List (Option Located)) → IsAnswerBy rule t is_bytes paths (Answer.spans (spans_of xs))
+pub parts_reported : {t : List ℕ} {is_bytes : Bool} {paths : List Path} {rule : KeyRule} (xs : List (Option ValueSpan)) → IsAnswerBy rule t is_bytes paths (Answer.spans (spans_of xs))
     → (is_bytes ≡ false → IsUtf8 t) → AreParts t xs
 parts_reported xs x text k y h =
     let p = part_of_answer k x text (slice_get-map (option_map span_at) xs k ∙ ap (option_map (option_map span_at)) h) in

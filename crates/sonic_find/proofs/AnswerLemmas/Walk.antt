@@ -13,11 +13,11 @@ use Rattle.sonic_find.proofs.PathLemmas.Outcome.{nowhere_ends, ends_before_end, 
 use Rattle.sonic_find.proofs.WalkLemmas.List.{some_there, first_of}
 use Rattle.sonic_find.proofs.WalkLemmas.Path.{contained}
 use Rattle.sonic_find.specs.Answers.{AllLeadBy, no_more, one_more, IsNearest, NoneFails, SomeLacks, IsReach, to_the_root, to_the_furthest, Span, span_of, Answer, ComeTo, no_path, failing, cutting, lacking, breaking, finding, IsAnswerBy}
-use Rattle.sonic_find.specs.Internal.Located.{HaveStatuses, span_at, spans_of}
+use Rattle.sonic_find.specs.Found.{FlagEscapes, span_at, spans_of}
 use Rattle.sonic_find.specs.Internal.Walk.{Findings, root_point, AllSettled, IsKnown, was_found, was_lacked, AreFindings, SomeLack, IsPathStop, fails_so, cut_so, NoneNearer, path_stops, value_stops, IsStop, IsFurthest, AllReached, IsError}
 use Rattle.sonic_find.specs.Paths.{Outcome, found, lacks, fails, cut, kind_of, EvaluatesBy, LeadsUnder}
 use Rattle.sonic_find.specs.Paths.EvaluatesBy.{found_here, goes_on, leads_nowhere}
-use Rattle.sonic_find.specs.declared.located.Located.{Located}
+use Rattle.sonic_parser.specs.declared.value_span.ValueSpan.{ValueSpan}
 use Rattle.sonic_pointer.specs.Paths.{HasPrefix}
 use Rattle.sonic_text.proofs.Outcomes.{value_some_outcome}
 use Rattle.sonic_text.proofs.Stops.{fault_within}
@@ -306,7 +306,7 @@ abbrev pub no_span : Option Span
 no_span = None
 
 -- and no value
-abbrev pub no_value : Option Located
+abbrev pub no_value : Option ValueSpan
 no_value = None
 
 -- and so nothing is read there
@@ -315,9 +315,9 @@ nothing_there zero k x h = absurd cc
 nothing_there (suc n) zero x h = absurd cc
 nothing_there (suc n) (suc k) x h = nothing_there n k x h
 
--- and no status is said
-pub no_statuses : (t : List ℕ) (n : ℕ) → HaveStatuses t (replicate n no_value)
-no_statuses t n = λ k x h. absurd (nothing_there n k x h)
+-- and nothing is said of one
+pub no_escapes : (t : List ℕ) (n : ℕ) → FlagEscapes t (replicate n no_value)
+no_escapes t n = λ k x h. absurd (nothing_there n k x h)
 
 -- before it nothing is reported
 pub root_reported : (rule : KeyRule) (t : List ℕ) (paths : List Path) (n : ℕ) → n ≡ length paths → AreFindings rule t paths (record { spans = replicate n no_span; lacking = false })
@@ -378,7 +378,7 @@ furthest_more {xs} {r} {q} x f l most one = record {
 }
 
 -- one more value
-pub furthest_value : (xs : List (Option Located)) {r q : ℕ} (x : Option Located) → IsFurthest (spans_of xs) r → r ≤ q
+pub furthest_value : (xs : List (Option ValueSpan)) {r q : ℕ} (x : Option ValueSpan) → IsFurthest (spans_of xs) r → r ≤ q
     → IfSome (option_map span_at x) (λ s. s.1 ≤ q) → (q ≡ r) ⊎ IsSomeAnd (option_map span_at x) (λ s. s.1 ≡ q) → IsFurthest (spans_of (xs ++ x ∷ [])) q
 furthest_value xs x f l most one = rw map-append (furthest_more (option_map span_at x) f l most one)
 

@@ -7,15 +7,13 @@ use Rattle.sonic_find.proofs.MarkLemmas.Kept.{with_marks, mark_one, says_kept, n
 use Rattle.sonic_find.proofs.MarkLemmas.Seen.{nothing_seen, seen_other, seen_last_next, seen_only_next, seen_twice_next, seen_twice_still, NoMore, none_of_all, one_of_all, two_of_all}
 use Rattle.sonic_find.proofs.PathLemmas.Lead.{node_or_other, named_kind, past_byte}
 use Rattle.sonic_find.proofs.WalkLemmas.Path.{contained, child_at}
-use Rattle.sonic_find.specs.Internal.Located.{IsStatus}
-use Rattle.sonic_find.specs.Internal.Marks.{Marking, IsMarkOf, AreMarks, KeptBeside, IsWholeMark, HasNoItems, ChildSays, says_none, says_twice, says_one, says_no_items, says_items, Says, SaysAll, IsPassedBy, IsMarked, Sight, none_seen, one_seen, two_seen, IsSeen, seen_none, seen_only, seen_twice, SightSays, sight_none, sight_one, sight_two, IsFollowing, AllFollowing, IsMarking, IsMarkedItem, IsClosed, IsWholeLevel}
+use Rattle.sonic_parser.specs.ValueSpans.{FlagsEscape}
+use Rattle.sonic_find.specs.Internal.Marks.{Marking, IsMarkOf, AreMarks, KeptBeside, HasNoItems, ChildSays, says_none, says_twice, says_one, says_no_items, says_items, Says, SaysAll, IsPassedBy, IsMarked, Sight, none_seen, one_seen, two_seen, IsSeen, seen_none, seen_only, seen_twice, SightSays, sight_none, sight_one, sight_two, IsFollowing, AllFollowing, IsMarking, IsMarkedItem, IsClosed, IsWholeLevel}
 use Rattle.sonic_find.specs.Internal.Walk.{Container}
 use Rattle.sonic_find.specs.Paths.{kind_of, IsNamed}
-use Rattle.sonic_find.specs.declared.located.Located.{Located}
+use Rattle.sonic_parser.specs.declared.value_span.ValueSpan.{ValueSpan}
 use Rattle.sonic_find.specs.declared.marks.Mark.{Mark}
 use Rattle.sonic_parser.specs.Containers.{IsEnd, IsSeparated}
-use Rattle.sonic_parser.specs.declared.status.ParseStatus.{ParseStatus}
-use Rattle.sonic_parser.specs.declared.status.ParseStatus.TheVariants.{None as NoNeed}
 use Rattle.sonic_pointer.specs.Paths.{IsChildren, HasNextNode}
 use Rattle.sonic_pointer.specs.declared.rule.KeyRule.{KeyRule}
 use Rattle.sonic_pointer.specs.declared.rule.KeyRule.TheVariants.{First, Last, Refuse}
@@ -172,7 +170,7 @@ pub repeated_marked : {g : Marking} {a : Container} {n h v e : ℕ} {node : Node
     → now.value ≡ m.value → (m.again ≡ None → now.again ≡ Some h) → (m.again ≢ None → now.again ≡ m.again) → IsNamed g.text a.kind n h v node
     → slice_get a.children c ≡ Some node → IsValue strict g.text v e → IsMarkedItem (with_marks g (set g.marks number now)) a n h e
 repeated_marked {g} {a} {n} {h} {v} {e} {node} {m} c now number level refuses inside x is mark same first later item there value =
-    let begins : now.value.start ≡ m.value.start = ap (λ (located : Located). located.start) same in
+    let begins : now.value.start ≡ m.value.start = ap (λ (value : ValueSpan). value.start) same in
     let before : now.value.start ≤ h = (let l = x.are.before number m mark in omega (arith, l, begins)) in
     record {
       are = later_are (set_are number now x.are is before) (omega (arith, head-later item.head, value-longer value));
@@ -229,14 +227,9 @@ closed_marking {g} {a} {n} {e = e} level x k =
           closed_child node value most y.seen y.says;
     }
 
--- the mark of a value that was passed
-pub whole_mark : (t : List ℕ) {m : Mark} {start place : ℕ} {status : ParseStatus} → m.value.start ≡ start → m.value.end ≡ place → m.value.status ≡ status
-    → IsValue strict t start place → IsStatus t start place status → IsWholeMark t m
-whole_mark t begins ends said value is = record { value = rw (begins, ends) value; status = rw (begins, ends, said) is }
-
 -- what begins with a bracket is no string with a backslash
-pub bracket_status : (t : List ℕ) {i j : ℕ} (kind : Kind) → byte t i ≡ opening kind → IsStatus t i j NoNeed
-bracket_status t kind b = (λ e. absurd cc, λ x. absurd (opening_no_quote kind (omega (arith, x.0, b))))
+pub bracket_plain : (t : List ℕ) {i j : ℕ} (kind : Kind) → byte t i ≡ opening kind → FlagsEscape t (record { start = i; end = j; escaped = false })
+bracket_plain t kind b = (λ e. absurd cc, λ x. absurd (opening_no_quote kind (omega (arith, x.0, b))))
 
 -- where there are no children, or no container of their kind begins, each finds none
 pub none_begins : (t : List ℕ) (i : ℕ) {count : ℕ} {kind : Kind} (children : List Node) → count ≡ length children
@@ -252,31 +245,32 @@ pub none_in_empty : (t : List ℕ) (i : ℕ) {kind : Kind} (children : List Node
 none_in_empty t i children kinds o k c node is = inr (rw (kinds c node is) (o, k))
 
 -- a value without items is passed, and each child finds none
-pub passed_without : {g : Marking} {prefix : Path} {children : List Node} {start place : ℕ} {m : Mark} → AreMarks g start
-    → IsChildren g.paths prefix children
-    → IsValue strict g.text start place → IsWholeMark g.text m → m.value.start ≡ start → m.value.end ≡ place → m.again ≡ None → m.has_items ≡ false
-    → ((c : ℕ) (node : Node) → slice_get children c ≡ Some node → HasNoItems g.text start (kind_of node)) → IsPassedBy g prefix children start place m
-passed_without are all value whole begins ends first none each = record {
+pub passed_without : {g : Marking} {prefix : Path} {children : List Node} {start place : ℕ} {x : ValueSpan} → AreMarks g start
+    → IsChildren g.paths prefix children → IsValue strict g.text start place → x.start ≡ start → x.end ≡ place → FlagsEscape g.text x
+    → ((c : ℕ) (node : Node) → slice_get children c ≡ Some node → HasNoItems g.text start (kind_of node))
+    → IsPassedBy g prefix children start place (record { value = x; has_items = false; again = None })
+passed_without are all value begins ends escaped each = record {
   are = later_are are (omega (arith, value-longer value));
   begins = begins;
   ends = ends;
-  first = first;
-  whole = whole;
+  first = refl;
+  whole = record { value = rw (begins, ends) value; escaped = escaped };
   all = all;
-  each = λ c node is. says_no_items none (rw begins (each c node is));
+  each = λ c node is. says_no_items refl (rw begins (each c node is));
 }
 
 -- one with items is passed when it has closed
-pub passed_with : {g : Marking} {a : Container} {place : ℕ} {m : Mark} → IsWholeLevel a → IsChildren g.paths a.point.prefix a.children → IsClosed g a place → IsWholeMark g.text m → m.value.start ≡ a.point.place
-    → m.value.end ≡ place → m.again ≡ None → m.has_items ≡ true → IsPassedBy g a.point.prefix a.children a.point.place place m
-passed_with level all x whole begins ends first has = record {
-  are = x.are;
+pub passed_with : {g : Marking} {a : Container} {place : ℕ} {x : ValueSpan} → IsWholeLevel a → IsChildren g.paths a.point.prefix a.children → IsClosed g a place
+    → x.start ≡ a.point.place → x.end ≡ place → FlagsEscape g.text x
+    → IsPassedBy g a.point.prefix a.children a.point.place place (record { value = x; has_items = true; again = None })
+passed_with level all closed begins ends escaped = record {
+  are = closed.are;
   begins = begins;
   ends = ends;
-  first = first;
-  whole = whole;
+  first = refl;
+  whole = record { value = rw (begins, ends) closed.value; escaped = escaped };
   all = all;
-  each = λ c node is. says_items has (rw (begins, level.kind c node is) x.items) (rw begins (x.each c node is));
+  each = λ c node is. says_items refl (rw (begins, level.kind c node is) closed.items) (rw begins (closed.each c node is));
 }
 
 -- once its own mark is set, it is marked

@@ -11,18 +11,18 @@ use Rattle.sonic_find.proofs.WalkLemmas.Path.{contained, path_of_child, still_se
 use Rattle.sonic_find.proofs.WalkLemmas.Start.{cut_at_end}
 use Rattle.sonic_find.proofs.WalkLemmas.Step.{OpenStopped, open_node, open_cause, open_stops, none_ahead}
 use Rattle.sonic_find.specs.Answers.{Span}
-use Rattle.sonic_find.specs.Internal.Located.{IsStatus, HaveStatuses}
+use Rattle.sonic_parser.specs.ValueSpans.{FlagsEscape}
+use Rattle.sonic_find.specs.Found.{FlagEscapes}
 use Rattle.sonic_find.specs.Internal.Walk.{Findings, Point, ComesTo, IsPath, AreFindings, IsLater, IsKnown, was_found, was_lacked, BelowSettled, IsCause, value_stops, path_stops, IsStop, fails_so, SomeLack, Container, Progress, SomeOpen, IsUnvisited, IsWanted, IsItemPassed, AreSetTo}
-use Rattle.sonic_find.specs.declared.located.Located.{Located}
+use Rattle.sonic_parser.specs.declared.value_span.ValueSpan.{ValueSpan}
 use Rattle.sonic_find.specs.Paths.{found, lacks, past_end, EvaluatesBy, LeadsUnder}
 use Rattle.sonic_find.specs.Paths.EvaluatesBy.{found_here, leads_nowhere}
 use Rattle.sonic_parser.specs.Containers.{IsEnd}
-use Rattle.sonic_parser.specs.declared.status.ParseStatus.TheVariants.{None as NoNeed}
 use Rattle.sonic_pointer.specs.Paths.{IsOrders}
 use Rattle.sonic_text.proofs.Items.{opening_no_quote, closing_no_comma}
 use Rattle.sonic_text.proofs.Values.{items_open, items_not_empty}
 use Rattle.sonic_text.specs.Paths.{Node, Path}
-use Rattle.sonic_text.specs.Strings.{strict}
+use Rattle.sonic_text.specs.Strings.{strict, IsEscapedString}
 use Rattle.sonic_text.specs.Values.{IsValue, ItemsFit, filled}
 use Rattle.sonic_text.specs.declared.kind.Kind.{Kind}
 use Rattle.sonic_text.specs.declared.kind.Kind.TheVariants.{Array, Object}
@@ -98,18 +98,18 @@ pub done_settled : {a : Container} {g : Progress} {e : ℕ} → IsItemPassed a g
 done_settled p none = λ k node rest h. elim (p.before.settled k node rest h) [ inr done ↦ done | inl o ↦ absurd (none (o.0, o.1)) ]
 
 -- a container is no string with a backslash
-pub container_status : {t : List ℕ} {kind : Kind} {i n h j : ℕ} → ItemsFit strict t kind i n h → IsStatus t i j NoNeed
-container_status {kind = kind} is = (λ e. absurd cc, λ x. let b = items_open is in absurd (opening_no_quote kind (omega (arith, x.0))))
+pub container_plain : {t : List ℕ} {kind : Kind} {i n h j : ℕ} → ItemsFit strict t kind i n h → ¬ IsEscapedString t i j
+container_plain {kind = kind} is x = let b = items_open is in absurd (opening_no_quote kind (omega (arith, x.0)))
 
 -- the number of an order is that of a path
 pub order_within : {t : List ℕ} {paths : List Path} {prefix : Path} {orders : List ℕ} {f : Findings} {rule : KeyRule} (k : ℕ) → IsOrders paths prefix orders
     → AreFindings rule t paths f → Contains orders k → k < length f.spans
 order_within {paths = paths} {prefix} k o are h = omega (arith, slice_get_within paths k prefix ((o.exact k).0 h), are.long)
 
--- where a value with its status is kept, each value has its status
-pub filled_statuses : (t : List ℕ) {orders : List ℕ} {before now : List (Option Located)} {x : Located} → AreSetTo orders before now x → HaveStatuses t before
-    → IsStatus t x.start x.end x.status → HaveStatuses t now
-filled_statuses t {x = x} fill have is = λ k y h. elim (fill.each k) [
+-- where a value is kept that says whether it is a string with a backslash, each value says it
+pub filled_escapes : (t : List ℕ) {orders : List ℕ} {before now : List (Option ValueSpan)} {x : ValueSpan} → AreSetTo orders before now x → FlagEscapes t before
+    → FlagsEscape t x → FlagEscapes t now
+filled_escapes t {x = x} fill have is = λ k y h. elim (fill.each k) [
   | inl same ↦ have k y (sym same ∙ h)
   | inr here ↦
       let one : x ≡ y = same_Some x y (same_Some (Some x) (Some y) (sym here.1 ∙ h)) in

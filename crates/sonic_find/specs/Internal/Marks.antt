@@ -10,7 +10,7 @@ use Rattle.sonic_pointer.specs.Views.{HaveOneNumber}
 use Rattle.sonic_pointer.specs.declared.rule.KeyRule.{KeyRule}
 use Rattle.sonic_pointer.specs.declared.rule.KeyRule.TheVariants.{First, Last, Refuse}
 use Rattle.sonic_find.specs.declared.marks.Mark.{Mark}
-use Rattle.sonic_find.specs.Internal.Located.{IsStatus}
+use Rattle.sonic_parser.specs.ValueSpans.{FlagsEscape}
 use Rattle.sonic_find.specs.Internal.Walk.{Container}
 use Rattle.sonic_find.specs.Paths.{kind_of, IsNamed, LeadsOn, Repeats, LeadsBy}
 
@@ -50,7 +50,7 @@ KeptBeside g marks prefix = (other : Path) → ((rest : Path) → other ≢ pref
 -- the mark is of a whole value
 pub record IsWholeMark (t : List ℕ) (m : Mark) : Type 0 where
   pub value : IsValue strict t m.value.start m.value.end
-  pub status : IsStatus t m.value.start m.value.end m.value.status
+  pub escaped : FlagsEscape t m.value
 
 -- no container of this kind with items begins at i
 abbrev pub HasNoItems : List ℕ → ℕ → Kind → Type 0

@@ -6,7 +6,7 @@ use Rattle.sonic_pointer.specs.Views.{View}
 use Rattle.sonic_find.specs.declared.state.Walk.TheInside.{Inside}
 use Rattle.sonic_find.specs.declared.marks.Mark.{Mark}
 use Rattle.sonic_find.specs.declared.walk.Level.{Level}
-use Rattle.sonic_find.specs.Internal.Located.{spans_of, HaveStatuses}
+use Rattle.sonic_find.specs.Found.{spans_of, FlagEscapes}
 use Rattle.sonic_find.specs.Internal.Marks.{Marking}
 use Rattle.sonic_find.specs.Internal.Walk.{Findings, Walking, Point, Container, Progress}
 
@@ -20,10 +20,10 @@ walking_of walk = record {
   marks = walk.marks.items;
 }
 
--- it looks at what it skips, and each value that was found has its status
+-- it looks at what it skips, and each value that was found says whether it is a string with a backslash
 pub record IsWalk (walk : Inside) : Type 0 where
   pub checks : walk.steps.checks ≡ true
-  pub statuses : HaveStatuses walk.steps.text walk.spans.items
+  pub escaped : FlagEscapes walk.steps.text walk.spans.items
 
 -- the prefix of a view, whose value is expected where the walk has come to
 abbrev pub point_at : Walking → View → Point

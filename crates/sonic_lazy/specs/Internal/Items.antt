@@ -1,5 +1,5 @@
 -- What the steps of an iterator know of the items that they pass.
-use Rattle.std.specs.Prelude.{◌≡◌, ◌↔◌, ℕ, ◌+◌, ◌<◌, ◌≤◌, true, false, List, length, IsTrue, IfSome}
+use Rattle.std.specs.Prelude.{◌≡◌, ℕ, ◌+◌, ◌<◌, ◌≤◌, true, false, List, length, IfSome}
 use Rattle.std.specs.Str.{IsUtf8}
 use Rattle.std.specs.declared.borrow.CowStr.{CowStr}
 use Rattle.std.specs.declared.option.Option.{Option}
@@ -8,14 +8,13 @@ use Rattle.sonic_text.specs.declared.kind.Kind.{Kind}
 use Rattle.sonic_text.specs.declared.kind.Kind.TheVariants.{Array, Object}
 use Rattle.sonic_text.specs.Documents.{StartsWithUtf8Value}
 use Rattle.sonic_text.specs.Places.{after_space}
-use Rattle.sonic_text.specs.Strings.{strict, IsString, IsEscapedString}
-use Rattle.sonic_text.specs.Values.{IsKey, IsValue}
+use Rattle.sonic_text.specs.Strings.{strict}
+use Rattle.sonic_text.specs.Values.{IsValue}
 use Rattle.sonic_input.specs.Slices.{slice_bytes}
 use Rattle.sonic_lazy.specs.declared.items.Found.{Found}
 use Rattle.sonic_lazy.specs.declared.iteration.Items.TheInside.{Inside}
-use Rattle.sonic_find.specs.Internal.Located.{IsStatus}
-use Rattle.sonic_parser.specs.declared.string_span.StringSpan.{StringSpan}
-use Rattle.sonic_parser.specs.StringSpans.{IsStringSpan, DenotesUtf8, IsTextAt}
+use Rattle.sonic_parser.specs.declared.value_span.ValueSpan.{ValueSpan}
+use Rattle.sonic_parser.specs.ValueSpans.{FlagsEscape, IsKeyAt, IsStringSpan, DenotesUtf8, IsTextAt}
 use Rattle.sonic_lazy.specs.Items.{Item, ItemsReach, IsItemAt}
 use Rattle.sonic_lazy.specs.Iterators.{Iterating}
 use Rattle.sonic_find.specs.Parts.{IsPart}
@@ -25,18 +24,10 @@ pub data IsAfterItems (t : List ℕ) (kind : Kind) (n p : ℕ) : Type 0 where
   before_all : n ≡ 0 → p ≡ after_space t 0 → IsAfterItems t kind n p
   after_last : {m : ℕ} {last : Item} → IsItemAt t kind m last → n ≡ m + 1 → p ≡ last.span.1 → IsAfterItems t kind n p
 
--- the key of a member is from its first quote to after its last, denotes these bytes, and has a backslash where it says so
-pub record IsKeyAt (t : List ℕ) (h v : ℕ) (key : StringSpan) : Type 0 where
-  pub bytes : List ℕ
-  pub start : key.start ≡ h
-  pub string : IsString strict t h key.end bytes
-  pub colon : IsKey strict t h v bytes
-  pub escaped : IsTrue key.escaped ↔ IsEscapedString t h key.end
-
 -- of the item that is expected at h the value is expected at v, and this is the key before it
-pub data IsFoundHead (t : List ℕ) : Kind → ℕ → ℕ → Option StringSpan → Type 0 where
+pub data IsFoundHead (t : List ℕ) : Kind → ℕ → ℕ → Option ValueSpan → Type 0 where
   no_key : {h v : ℕ} → v ≡ h → IsFoundHead t Array h v None
-  a_key : {h v : ℕ} {key : StringSpan} → IsKeyAt t h v key → IsFoundHead t Object h v (Some key)
+  a_key : {h v : ℕ} {key : ValueSpan} → IsKeyAt strict t h key v → IsFoundHead t Object h v (Some key)
 
 -- this is the item after n others
 pub record IsFound (t : List ℕ) (kind : Kind) (n : ℕ) (x : Found) : Type 0 where
@@ -44,10 +35,10 @@ pub record IsFound (t : List ℕ) (kind : Kind) (n : ℕ) (x : Found) : Type 0 w
   pub before : ItemsReach t kind n place
   pub head : IsFoundHead t kind place x.value.start x.key
   pub value : IsValue strict t x.value.start x.value.end
-  pub status : IsStatus t x.value.start x.value.end x.value.status
+  pub escaped : FlagsEscape t x.value
 
 -- a string is there that denotes bytes in UTF-8
-pub record IsTextSpan (t : List ℕ) (string : StringSpan) : Type 0 where
+pub record IsTextSpan (t : List ℕ) (string : ValueSpan) : Type 0 where
   pub span : IsStringSpan t string
   pub utf8 : DenotesUtf8 t string.start string.end
 
@@ -58,12 +49,12 @@ pub record IsFoundPart (t : List ℕ) (kind : Kind) (n : ℕ) (x : Found) : Type
   pub key : IfSome x.key (IsTextSpan t)
 
 -- a key is there, and a part of the text
-abbrev pub IsKeyOf : List ℕ → Option StringSpan → Type 0
+abbrev pub IsKeyOf : List ℕ → Option ValueSpan → Type 0
 IsKeyOf t None = ⊥
 IsKeyOf t (Some key) = IsTextSpan t key
 
 -- the text is what the key denotes, and borrowed exactly where no backslash is in it
-abbrev pub IsKeyText : {Z : Type 0} → List ℕ → Option StringSpan → CowStr Z → Type 0
+abbrev pub IsKeyText : {Z : Type 0} → List ℕ → Option ValueSpan → CowStr Z → Type 0
 IsKeyText t None text = ⊥
 IsKeyText t (Some key) text = IsTextAt t key.start key.end text
 

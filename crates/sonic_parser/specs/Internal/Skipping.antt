@@ -1,5 +1,5 @@
 -- What the loop knows that goes through a value from left to right: invariants, on which no public clause rests.
-use Rattle.std.specs.Prelude.{◌≡◌, ◌↔◌, ℕ, ◌<◌, ◌≤◌, Bool, List, length}
+use Rattle.std.specs.Prelude.{◌≡◌, ◌↔◌, ℕ, ◌<◌, ◌≤◌, Bool, List, length, IsTrue}
 use Rattle.sonic_text.specs.declared.kind.Kind.{Kind}
 use Rattle.sonic_text.specs.declared.kind.Kind.TheVariants.{Object}
 use Rattle.sonic_text.specs.declared.stop.Stop.{Stop}
@@ -8,22 +8,22 @@ use Rattle.sonic_text.specs.Values.{closing, IsValue, ItemsFit}
 use Rattle.sonic_text.specs.Faults.{IsKeyFault, NothingFits}
 use Rattle.sonic_parser.specs.declared.begin.Begun.{Begun}
 use Rattle.sonic_parser.specs.declared.begin.Begun.TheVariants.{Complete, Inside}
-use Rattle.sonic_parser.specs.declared.begin.Skipped.{Skipped}
 use Rattle.sonic_parser.specs.declared.quick.Ahead.{Ahead}
 use Rattle.sonic_parser.specs.declared.container.Next.TheVariants.{Item}
 use Rattle.sonic_parser.specs.declared.quick.Ahead.TheVariants.{Value, Next, Inside as Within, Other}
 use Rattle.sonic_parser.specs.declared.skip.Reached.{Reached}
 use Rattle.sonic_parser.specs.declared.skip.Reached.TheVariants.{Expected, Ended, Closed}
-use Rattle.sonic_parser.specs.declared.status.ParseStatus.TheVariants.{HasEscaped}
+use Rattle.sonic_parser.specs.declared.value_span.ValueSpan.{ValueSpan}
 use Rattle.sonic_parser.specs.Parts.{IsAfterValue, IsValueEnd}
 use Rattle.sonic_parser.specs.OpenContainers.{IsItemExpected, IsItemEnded, IsTop}
 
--- the value at i was read, and this is its end and its status
-pub record IsComplete (m : Bool) (t : List ℕ) (i : ℕ) (x : Skipped) : Type 0 where
+-- the value at i was read, and this is where it is
+pub record IsComplete (m : Bool) (t : List ℕ) (i : ℕ) (x : ValueSpan) : Type 0 where
+  pub start : x.start ≡ i
   pub later : i < x.end
   pub within : x.end ≤ length t
   pub value : IsValue m t i x.end
-  pub status : (x.status ≡ HasEscaped) ↔ IsEscapedString t i x.end
+  pub escaped : IsTrue x.escaped ↔ IsEscapedString t i x.end
 
 -- the value at i was read, or it is a container whose first item is expected
 abbrev pub IsBegun : Bool → List ℕ → ℕ → Begun → Type 0

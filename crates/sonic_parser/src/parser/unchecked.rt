@@ -4,11 +4,11 @@ ghost use Rattle.sonic_parser.specs.Containers.{GoesOn, IsEnd, IsSeparated};
 ghost use Rattle.sonic_parser.specs.Parsers.{moved, value_start, HasKey, HasValue, IsSkipped, IsKeyPassed, IsPassed};
 
 use super::Parser;
-use crate::begin::Skipped;
 use crate::container::Next;
 use crate::status::ParseStatus;
 use crate::unchecked::{whole_key, whole_next, whole_value};
-use sonic_text::{Kind, StringEnd};
+use crate::value_span::ValueSpan;
+use sonic_text::Kind;
 
 impl<'de> Parser<'de> {
     /// Goes on after an item as `next_item` does, where a comma or the closing bracket is known to
@@ -37,16 +37,17 @@ impl<'de> Parser<'de> {
 
     /// Passes the key that begins at the cursor as `key` does, where a key with a colon is known to be.
     ///
-    /// Of `"a" : 1` the key ends at 3, and the cursor moves to the `1`.
+    /// Of `"a" : 1` the key is from 0 to 3, and the cursor moves to the `1`.
     #[inline]
-    pub fn key_unchecked(&mut self) -> StringEnd
+    pub fn key_unchecked(&mut self) -> ValueSpan
         requires { HasKey self.old }
         ensures ok { IsKeyPassed self.old self.new result }
         ensures cursor { self.new ≡ moved self.old self.new.place }
     {
-        let key = whole_key(self.read.as_u8_slice(), self.read.index(), self.lossy);
-        self.read.set_index(key.value);
-        key.string
+        let start = self.read.index();
+        let (string, value) = whole_key(self.read.as_u8_slice(), start, self.lossy);
+        self.read.set_index(value);
+        ValueSpan::of_string(start, string)
     }
 
     /// Skips the value that begins at the cursor, which is known to be whole: as `skip_value` does,
@@ -56,18 +57,20 @@ impl<'de> Parser<'de> {
     /// Strings are passed up to their quotes, and only the brackets of the value's own kind are
     /// counted, which finds its end as RFC 8259 has it (sections 4, 5 and 7; the law is
     /// `value_balances`).
-    pub fn skip_value_unchecked(&mut self) -> ParseStatus
+    #[inline(always)]
+    pub fn skip_value_unchecked(&mut self) -> ValueSpan
         requires { HasValue self.old self.old.place }
         ensures ok { IsPassed self.old self.new result }
         ensures cursor { self.new ≡ moved self.old self.new.place }
     {
-        let Skipped { end, status } = whole_value(
-            self.read.as_u8_slice(),
-            self.read.index(),
-            self.lossy,
-        );
+        let start = self.read.index();
+        let (end, escaped) = whole_value(self.read.as_u8_slice(), start, self.lossy);
         self.read.set_index(end);
-        status
+        ValueSpan {
+            start,
+            end,
+            escaped,
+        }
     }
 
     /// Passes the value that is expected, which is known to be whole, and gives its text: as
@@ -79,8 +82,10 @@ impl<'de> Parser<'de> {
         ensures { IsSkipped self.old self.new result.0.now result.1 }
     {
         self.skip_space_peek();
-        let start = self.read.index();
-        let status = self.skip_value_unchecked();
-        (self.read.slice(start, self.read.index()), status)
+        let value = self.skip_value_unchecked();
+        (
+            self.read.slice(value.start, self.read.index()),
+            value.status(),
+        )
     }
 }

@@ -9,11 +9,12 @@ ghost use Rattle.sonic_parser.specs.Internal.Skipping.{IsReached};
 ghost use Rattle.sonic_parser.specs.Parsers.{moved, value_start, IsSkipped, IsUnskipped, IsFilledContainer, IsOutOfMemory, IsPassed};
 
 use super::Parser;
-use crate::begin::{Begun, Skipped, begin};
+use crate::begin::{Begun, begin};
 use crate::fault::Fault;
 use crate::quick::{digits_ahead, pass_items, scalar_end};
 use crate::skip::{Extent, Reached, close, separator_stop};
 use crate::status::ParseStatus;
+use crate::value_span::ValueSpan;
 use sonic_error::{Error, ErrorCode};
 use sonic_text::Kind;
 use std::alloc::Global;
@@ -39,14 +40,14 @@ impl<'de> Parser<'de> {
         }
     }
 
-    /// Skips the value that begins at the cursor, however deep it is.
+    /// Skips the value that begins at the cursor, however deep it is, and gives where it is.
     ///
     /// The cursor moves past the value's last byte. After an error it is where it was. Only a
     /// container with items takes memory, where it has a fault or more than 64 are open at once: one
     /// byte for each. What comes after the value isn't read, and nothing is said of its UTF-8.
     #[inline(always)]
-    pub fn skip_value(&mut self, alloc: Global) -> Result<ParseStatus, Fault>
-        ensures ok { IfOk result (λ needs. IsPassed self.old self.new needs) }
+    pub fn skip_value(&mut self, alloc: Global) -> Result<ValueSpan, Fault>
+        ensures ok { IfOk result (IsPassed self.old self.new) }
         ensures cursor { self.new ≡ moved self.old self.new.place }
         ensures err { IfErr result (IsStopFor (λ s.
             IsFault self.old.lossy self.old.text self.old.place s)) }
@@ -55,16 +56,24 @@ impl<'de> Parser<'de> {
         ensures within { IfErr result (IsStopFor (λ s. s.place ≤ length self.old.text)) }
         ensures kept { OnErr result (self.new ≡ self.old) }
     {
-        let Some(end) = digits_ahead(self.read.as_u8_slice(), self.read.index()) else {
-            return self.skip_other(alloc);
+        let start = self.read.index();
+        let Some(end) = digits_ahead(self.read.as_u8_slice(), start) else {
+            let escaped = self.skip_other(alloc)?;
+            let end = self.read.index();
+            return Ok(ValueSpan {
+                start,
+                end,
+                escaped,
+            });
         };
         self.read.set_index(end);
-        Ok(ParseStatus::None)
+        Ok(ValueSpan::plain(start, end))
     }
 
-    // The same, where the value may be any.
-    fn skip_other(&mut self, alloc: Global) -> Result<ParseStatus, Fault>
-        ensures ok { IfOk result (λ needs. IsPassed self.old self.new needs) }
+    // The same, where the value may be any: whether it is a string with a backslash.
+    fn skip_other(&mut self, alloc: Global) -> Result<bool, Fault>
+        ensures ok { IfOk result (λ escaped. IsPassed self.old self.new
+            (record { start = self.old.place; end = self.new.place; escaped = escaped })) }
         ensures cursor { self.new ≡ moved self.old self.new.place }
         ensures err { IfErr result (IsStopFor (λ s.
             IsFault self.old.lossy self.old.text self.old.place s)) }
@@ -76,14 +85,14 @@ impl<'de> Parser<'de> {
         let text = self.read.as_u8_slice();
         let start = self.read.index();
         match begin(text, start, self.lossy)? {
-            Begun::Complete(Skipped { end, status }) => {
-                self.read.set_index(end);
-                Ok(status)
+            Begun::Complete(value) => {
+                self.read.set_index(value.end);
+                Ok(value.escaped)
             }
             Begun::Inside(kind, first) => {
                 let end = self.close(alloc, kind, first)?;
                 self.read.set_index(end);
-                Ok(ParseStatus::None)
+                Ok(false)
             }
         }
     }
@@ -151,9 +160,11 @@ impl<'de> Parser<'de> {
     {
         let place = self.read.index();
         self.skip_space_peek();
-        let start = self.read.index();
         match self.skip_value(alloc) {
-            Ok(status) => Ok((self.read.slice(start, self.read.index()), status)),
+            Ok(value) => Ok((
+                self.read.slice(value.start, self.read.index()),
+                value.status(),
+            )),
             Err(Fault::OutOfMemory) => {
                 self.read.set_index(place);
                 Err(Error::plain(ErrorCode::NoMemory))

@@ -11,8 +11,8 @@ use Rattle.sonic_text.specs.declared.kind.Kind.{Kind}
 use Rattle.sonic_text.specs.declared.stop.Stop.{Stop}
 use Rattle.sonic_value.specs.Depths.{IsTooDeep, IsShallow}
 use Rattle.sonic_value.specs.Internal.Keeping.{kept_text, kept_label, kept}
-use Rattle.sonic_value.specs.declared.reader.Token.{Token}
-use Rattle.sonic_parser.specs.declared.string_span.StringSpan.{StringSpan}
+use Rattle.sonic_parser.specs.declared.value_span.ValueSpan.{ValueSpan}
+use Rattle.sonic_parser.specs.ValueSpans.{FlagsEscape}
 
 -- a text, and whether it is known to be UTF-8
 pub record Source : Type 0 where
@@ -29,22 +29,10 @@ abbrev pub BeginsNoContainer : List ℕ → ℕ → Type 0
 BeginsNoContainer t i = (kind : Kind) → byte t i ≢ opening kind
 
 -- a value of the text that is no container
-pub record IsScalarToken (t : List ℕ) (token : Token) : Type 0 where
-  pub value : IsValue strict t token.start token.end
-  pub begins : BeginsNoContainer t token.start
-  pub escaped : IsTrue token.escaped ↔ IsEscapedString t token.start token.end
-
--- the same as a string
-abbrev pub string_of_token : Token → StringSpan
-string_of_token token = record { start = token.start; end = token.end; escaped = token.escaped }
-
--- a key and its colon from h to v
-pub record IsKeySpan (t : List ℕ) (h v : ℕ) (key : StringSpan) : Type 0 where
-  pub bytes : List ℕ
-  pub start : key.start ≡ h
-  pub string : IsString strict t h key.end bytes
-  pub colon : IsKey strict t h v bytes
-  pub escaped : IsTrue key.escaped ↔ IsEscapedString t h key.end
+pub record IsScalarSpan (t : List ℕ) (x : ValueSpan) : Type 0 where
+  pub value : IsValue strict t x.start x.end
+  pub begins : BeginsNoContainer t x.start
+  pub escaped : FlagsEscape t x
 
 -- this is kept of what the string from i to j denotes
 pub record IsKeptText (s : Source) (i j : ℕ) (c : List ℕ) : Type 0 where

@@ -31,16 +31,16 @@ returns-in_ok-check-clause-ok g c =
     let utf8 = rw c.to_u8_slice-text.ensures.bytes at c.in_ok-check.ensures.ok in
     answers_spans reached (λ e. utf8)
 
-pub returns-in_ok-check-clause-statuses : goal.returns-in_ok-check-clause-statuses
-returns-in_ok-check-clause-statuses g c = rw (c.unscanned-read.ensures.text, c.to_json_slice.ensures.bytes) at c.in_ok-reach.ensures.statuses
+pub returns-in_ok-check-clause-escaped : goal.returns-in_ok-check-clause-escaped
+returns-in_ok-check-clause-escaped g c = rw (c.unscanned-read.ensures.text, c.to_json_slice.ensures.bytes) at c.in_ok-reach.ensures.escaped
 
 pub returns-else-need_utf8_valid-clause-ok : goal.returns-else-need_utf8_valid-clause-ok
 returns-else-need_utf8_valid-clause-ok g c =
     let reached = rw (c.unscanned-read.ensures.text, c.to_json_slice.ensures.bytes) at c.in_ok-reach.ensures.reached in
     answers_spans reached (λ e. (let clash : true ≡ false = sym e ∙ (sym c.need_utf8_valid.ensures ∙ c.if-need_utf8_valid.false) in absurd cc))
 
-pub returns-else-need_utf8_valid-clause-statuses : goal.returns-else-need_utf8_valid-clause-statuses
-returns-else-need_utf8_valid-clause-statuses g c = rw (c.unscanned-read.ensures.text, c.to_json_slice.ensures.bytes) at c.in_ok-reach.ensures.statuses
+pub returns-else-need_utf8_valid-clause-escaped : goal.returns-else-need_utf8_valid-clause-escaped
+returns-else-need_utf8_valid-clause-escaped g c = rw (c.unscanned-read.ensures.text, c.to_json_slice.ensures.bytes) at c.in_ok-reach.ensures.escaped
 
 pub returns-in_ok-check-clause-parts : goal.returns-in_ok-check-clause-parts
 returns-in_ok-check-clause-parts g c =

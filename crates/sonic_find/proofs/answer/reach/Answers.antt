@@ -2,7 +2,7 @@ use Rattle.sonic_find.proofs.answer.reach.Goals as goal
 use Rattle.std.proofs.Common.{◌∙◌, inr, length, arith, refl}
 use Rattle.sonic_find.proofs.AnswerLemmas.Walk.{is_reached, replicate_none, root_prefix, root_reported}
 use Rattle.sonic_find.proofs.MarkLemmas.Kept.{keeps_by}
-use Rattle.sonic_find.specs.Internal.Located.{span_at}
+use Rattle.sonic_find.specs.Found.{span_at}
 
 pub follow-followed-requires-clause-some : goal.follow-followed-requires-clause-some
 follow-followed-requires-clause-some c = rw (c.view-view.ensures.paths, c.view-view.ensures.prefix) (root_prefix c.args.tree.now c.requires.some)

@@ -1,5 +1,5 @@
 use Rattle.std.proofs.Common.{take}
-use Rattle.sonic_find.specs.Internal.Located.{spans_of}
+use Rattle.sonic_find.specs.Found.{spans_of}
 use Rattle.sonic_find.specs.Internal.Walk.{IsFurthest}
 use Rattle.sonic_find.proofs.answer.reach_of.Given as goal
 

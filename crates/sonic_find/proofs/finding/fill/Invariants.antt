@@ -1,5 +1,5 @@
 use Rattle.std.proofs.Common.{◌≡◌, map, option_map, take}
-use Rattle.sonic_find.specs.Internal.Located.{slot_at}
+use Rattle.sonic_find.specs.Found.{slot_at}
 use Rattle.sonic_find.proofs.finding.fill.Given as goal
 
 abbrev pub invariant-loop-i : goal.invariant-loop-i

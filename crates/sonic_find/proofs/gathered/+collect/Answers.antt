@@ -22,22 +22,22 @@ collect-loop-i-preserved t c =
           (rw kept at c.collect_child-stop.ensures.all);
     }
 
-pub collect-keep_value-requires-clause-known : goal.collect-keep_value-requires-clause-known
-collect-keep_value-requires-clause-known t c = λ k h. order_within k c.orders.ensures c.loop-i.invariant.later.are h
+pub collect-keep-requires-clause-known : goal.collect-keep-requires-clause-known
+collect-keep-requires-clause-known t c = λ k h. order_within k c.orders.ensures c.loop-i.invariant.later.are h
 
 pub collect-returns-clause-later : goal.collect-returns-clause-later
 collect-returns-clause-later t c =
     let later = c.loop-i.invariant.later in
-    rw c.keep_value.ensures.kept
-    (later_twice later (filled_later c.requires.comes c.requires.whole.value c.orders.ensures later.are c.keep_value.ensures.filled))
+    rw c.keep.ensures.kept
+    (later_twice later (filled_later c.requires.comes c.requires.whole.value c.orders.ensures later.are c.keep.ensures.filled))
 
 pub collect-returns-clause-all : goal.collect-returns-clause-all
 collect-returns-clause-all t c =
     let point = marked_at c.args.walk.now c.args.view.now c.args.mark in
     let value = c.requires.whole.value in
-    let later = filled_later c.requires.comes value c.orders.ensures c.loop-i.invariant.later.are c.keep_value.ensures.filled in
-    rw c.keep_value.ensures.kept
-    (kept_collected point c.requires.comes value c.orders.ensures c.keep_value.ensures.filled later c.count-i-end.ensures.children
+    let later = filled_later c.requires.comes value c.orders.ensures c.loop-i.invariant.later.are c.keep.ensures.filled in
+    rw c.keep.ensures.kept
+    (kept_collected point c.requires.comes value c.orders.ensures c.keep.ensures.filled later c.count-i-end.ensures.children
     (λ i node is.
     c.loop-i.invariant.below i node
     (omega (arith, slice_get_within c.args.view.now.children i node is, c.count-i-end.ensures.count, c.loop-i-test.false)) is))

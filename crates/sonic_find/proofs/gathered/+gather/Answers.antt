@@ -1,9 +1,9 @@
 use Rattle.sonic_find.proofs.gathered.+gather.Goals as goal
-use Rattle.std.proofs.Common.{◌≡◌, ◌∙◌, ap, ◌∷◌, ◌++◌, [], length, set, arith}
+use Rattle.std.proofs.Common.{◌≡◌, ◌∙◌, ap, ◌∷◌, ◌++◌, [], length, set, arith, refl}
 use Rattle.std.proofs.lemmas.Option.{slice_get_within}
 use Rattle.std.proofs.lemmas.Result.{err_from_is_err_and}
 use Rattle.sonic_find.proofs.MarkLemmas.Kept.{number_within, kept_beside, set_beside, kept_twice, later_are}
-use Rattle.sonic_find.proofs.MarkLemmas.Passed.{first_marking, none_marked, gathered_marked, repeated_marked, next_marking, closed_marking, whole_mark, bracket_status, none_begins, none_in_empty, passed_without, passed_with, passed_marked}
+use Rattle.sonic_find.proofs.MarkLemmas.Passed.{first_marking, none_marked, gathered_marked, repeated_marked, next_marking, closed_marking, bracket_plain, none_begins, none_in_empty, passed_without, passed_with, passed_marked}
 use Rattle.sonic_find.proofs.PathLemmas.Lead.{count_below}
 use Rattle.sonic_find.proofs.WalkLemmas.Step.{separated_later}
 use Rattle.sonic_find.specs.Internal.Marks.{IsMarkOf}
@@ -180,14 +180,11 @@ members-returns-clause-closed t c =
 
 pub pass-returns-then-not-begins-clause-passed : goal.pass-returns-then-not-begins-clause-passed
 pass-returns-then-not-begins-clause-passed t c =
-    let text = c.args.walk.now.text in
-    let start = c.passed.ensures.start ∙ c.place.ensures.place in
-    let whole = whole_mark text start c.passed.ensures.end c.passed.ensures.status c.in_ok-status.ensures.value c.in_ok-status.ensures.status in
-    let none = none_begins text c.args.walk.now.place c.args.view.now.children c.count-count.ensures.count c.kind_of_children.ensures
+    let value = c.in_ok-value.ensures in
+    let none = none_begins c.args.walk.now.text c.args.walk.now.place c.args.view.now.children c.count-count.ensures.count c.kind_of_children.ensures
     (c.begins.ensures.other c.if-not-begins.true) in
-    rw c.in_ok-status.ensures.moved
-    (passed_without c.requires.marks c.count-count.ensures.children c.in_ok-status.ensures.value whole start c.passed.ensures.end c.passed.ensures.first
-    c.passed.ensures.items none)
+    rw (value.moved, c.passed.ensures)
+    (passed_without c.requires.marks c.count-count.ensures.children value.value value.span.0 value.span.1 value.escaped none)
 
 pub pass-returns-then-not-open-clause-passed : goal.pass-returns-then-not-open-clause-passed
 pass-returns-then-not-open-clause-passed t c =
@@ -195,12 +192,9 @@ pass-returns-then-not-open-clause-passed t c =
     let kind = c.kind_of_children.result in
     let bracket = c.begins.ensures.begins c.if-not-begins.false in
     let end = c.open.ensures.empty c.if-not-open.true in
-    let value = empty kind bracket end.0 end.1 in
-    let said = c.passed-then-not-open.ensures in
-    let start = said.start ∙ c.place.ensures.place in
-    let whole = whole_mark text start said.end said.status value (bracket_status text kind bracket) in
     let none = none_in_empty text c.args.walk.now.place c.args.view.now.children c.kind_of_children.ensures bracket end.0 in
-    rw c.open.ensures.moved (passed_without c.requires.marks c.count-count.ensures.children value whole start said.end said.first said.items none)
+    rw (c.open.ensures.moved, c.passed-then-not-open.ensures, c.plain-empty.ensures, c.place-then-not-open.ensures.place, c.place.ensures.place)
+    (passed_without c.requires.marks c.count-count.ensures.children (empty kind bracket end.0 end.1) refl refl (bracket_plain text kind bracket) none)
 
 pub pass-members-requires : goal.pass-members-requires
 pass-members-requires t c =
@@ -216,9 +210,5 @@ pass-members-requires t c =
 pub pass-returns-clause-passed : goal.pass-returns-clause-passed
 pass-returns-clause-passed t c =
     let x = rw (c.open.ensures.moved, c.place.ensures.place) at c.in_ok-members.ensures.closed in
-    let kind = c.kind_of_children.result in
-    let said = c.passed-2.ensures in
-    let start = said.start ∙ c.place.ensures.place in
-    let text = c.members.new.walk.text in
-    let whole = whole_mark text start said.end said.status x.value (bracket_status text kind (items_open x.items.1)) in
-    passed_with record { rule = c.requires.rule; children = c.count-count.ensures.children; kind = c.kind_of_children.ensures } c.count-count.ensures.children x whole start said.end said.first said.items
+    rw (c.passed-2.ensures, c.plain-whole.ensures, c.place-2.ensures.place, c.place.ensures.place)
+    (passed_with record { rule = c.requires.rule; children = c.count-count.ensures.children; kind = c.kind_of_children.ensures } c.count-count.ensures.children x refl refl (bracket_plain c.members.new.walk.text c.kind_of_children.result (items_open x.items.1)))

@@ -29,16 +29,16 @@ fill-keep-requires t c = λ k h.
 
 pub fill-returns-clause-fuller : goal.fill-returns-clause-fuller
 fill-returns-clause-fuller t c =
-    let filled = rw c.located-start.ensures.start at c.keep.ensures in
+    let filled = rw c.span-start.ensures.start at c.keep.ensures in
     let begun = still_begun c.requires c.loop-i.invariant.fuller in
-    fuller_twice c.loop-i.invariant.fuller (kept_fuller begun c.located-start.ensures.value c.orders-orders.ensures filled)
+    fuller_twice c.loop-i.invariant.fuller (kept_fuller begun c.span-start.ensures.value c.orders-orders.ensures filled)
 
 pub fill-returns-clause-all : goal.fill-returns-clause-all
 fill-returns-clause-all t c =
     let point = origin_at c.args.origin c.args.view.now in
     let below = all_children point c.count-i-end.ensures.children (omega (arith, c.count-i-end.ensures.count, c.loop-i-test.false)) c.loop-i.invariant.below in
-    let filled = rw c.located-start.ensures.start at c.keep.ensures in
-    kept_slots point (still_begun c.requires c.loop-i.invariant.fuller) c.located-start.ensures.value c.orders-orders.ensures filled below
+    let filled = rw c.span-start.ensures.start at c.keep.ensures in
+    kept_slots point (still_begun c.requires c.loop-i.invariant.fuller) c.span-start.ensures.value c.orders-orders.ensures filled below
 
 pub fill_child-fill-requires : goal.fill_child-fill-requires
 fill_child-fill-requires t c =

@@ -6,7 +6,7 @@ use Rattle.sonic_find.proofs.MarkLemmas.Collect.{stop_anyway}
 use Rattle.sonic_find.proofs.MarkLemmas.Kept.{keeps_later}
 use Rattle.sonic_find.proofs.PathLemmas.Lead.{count_below}
 use Rattle.sonic_find.proofs.WalkLemmas.Child.{is_visit, child_comes, child_prefix, child_passed, child_stops, asked_or_lacks}
-use Rattle.sonic_find.proofs.WalkLemmas.End.{whole_there, close_stops, close_later, close_settled, done_settled, container_status, order_within, filled_later, filled_settled, early_settled, asked_stops}
+use Rattle.sonic_find.proofs.WalkLemmas.End.{whole_there, close_stops, close_later, close_settled, done_settled, container_plain, order_within, filled_later, filled_settled, early_settled, asked_stops}
 use Rattle.sonic_parser.proofs.FaultLemmas.{stop_weaker}
 use Rattle.sonic_find.proofs.WalkLemmas.Path.{not_later, later_twice}
 use Rattle.sonic_find.proofs.WalkLemmas.Start.{none_counted, leaf_settled, leaf_stops, entry_stops, first_followed, first_wanted}
@@ -17,36 +17,36 @@ use Rattle.sonic_text.proofs.Places.{after_space_later}
 use Rattle.sonic_text.proofs.Values.{items-later, value-longer}
 use Rattle.sonic_text.proofs.Within.{items_within}
 
-pub follow-returns-in_err-status-clause-err : goal.follow-returns-in_err-status-clause-err
-follow-returns-in_err-status-clause-err t c =
+pub follow-returns-in_err-value-clause-err : goal.follow-returns-in_err-value-clause-err
+follow-returns-in_err-value-clause-err t c =
     let p = err_from_is_err_and c.from_residual.result c.from_residual.ensures.1 in
     let none = none_counted c.args.view.now.children (sym c.count.ensures.count ∙ c.if-count-eq0.true) in
-    rw (p.1, p.2) (stop_weaker c.in_err-status.field-0.0
-    (λ s f. leaf_stops (point_at c.args.walk.now c.args.view.now) c.count.ensures.children none c.requires.some f) c.in_err-status.ensures.err)
+    rw (p.1, p.2) (stop_weaker c.in_err-value.field-0.0
+    (λ s f. leaf_stops (point_at c.args.walk.now c.args.view.now) c.count.ensures.children none c.requires.some f) c.in_err-value.ensures.err)
 
 pub follow-keep-requires-clause-known : goal.follow-keep-requires-clause-known
-follow-keep-requires-clause-known t c = λ k h. rw c.in_ok-status.ensures.moved (order_within k c.orders-orders.ensures c.requires.are h)
+follow-keep-requires-clause-known t c = λ k h. rw c.in_ok-value.ensures.moved (order_within k c.orders.ensures c.requires.are h)
 
 pub follow-returns-then-count-eq0-clause-later : goal.follow-returns-then-count-eq0-clause-later
 follow-returns-then-count-eq0-clause-later t c =
-    let filled = rw (c.place-start.ensures.place, c.in_ok-status.ensures.moved) at c.keep.ensures.filled in
-    rw (c.keep.ensures.kept, c.in_ok-status.ensures.moved)
-    (filled_later c.requires.comes c.in_ok-status.ensures.value c.orders-orders.ensures c.requires.are filled)
+    let filled = rw (c.in_ok-value.ensures.span.0, c.in_ok-value.ensures.span.1, c.in_ok-value.ensures.moved) at c.keep.ensures.filled in
+    rw (c.keep.ensures.kept, c.in_ok-value.ensures.moved)
+    (filled_later c.requires.comes c.in_ok-value.ensures.value c.orders.ensures c.requires.are filled)
 
 pub follow-returns-then-count-eq0-clause-settled : goal.follow-returns-then-count-eq0-clause-settled
 follow-returns-then-count-eq0-clause-settled t c =
-    let filled = rw (c.place-start.ensures.place, c.in_ok-status.ensures.moved) at c.keep.ensures.filled in
+    let filled = rw (c.in_ok-value.ensures.span.0, c.in_ok-value.ensures.span.1, c.in_ok-value.ensures.moved) at c.keep.ensures.filled in
     let point = point_at c.args.walk.now c.args.view.now in
-    let later = filled_later c.requires.comes c.in_ok-status.ensures.value c.orders-orders.ensures c.requires.are filled in
+    let later = filled_later c.requires.comes c.in_ok-value.ensures.value c.orders.ensures c.requires.are filled in
     let none = none_counted c.args.view.now.children (sym c.count.ensures.count ∙ c.if-count-eq0.true) in
     let below = leaf_settled point c.count.ensures.children none in
-    rw (c.keep.ensures.kept, c.in_ok-status.ensures.moved)
-    (filled_settled point c.requires.comes c.in_ok-status.ensures.value c.orders-orders.ensures filled later below)
+    rw (c.keep.ensures.kept, c.in_ok-value.ensures.moved)
+    (filled_settled point c.requires.comes c.in_ok-value.ensures.value c.orders.ensures filled later below)
 
 pub follow-returns-then-count-eq0-clause-marks : goal.follow-returns-then-count-eq0-clause-marks
 follow-returns-then-count-eq0-clause-marks t c =
-    let later = value-longer c.in_ok-status.ensures.value in
-    rw (c.keep.ensures.kept, c.in_ok-status.ensures.moved) (keeps_later c.requires.marks (omega (arith, later)))
+    let later = value-longer c.in_ok-value.ensures.value in
+    rw (c.keep.ensures.kept, c.in_ok-value.ensures.moved) (keeps_later c.requires.marks (omega (arith, later)))
 
 pub follow_children-returns-then-gathers-clause-err : goal.follow_children-returns-then-gathers-clause-err
 follow_children-returns-then-gathers-clause-err t c =
@@ -66,17 +66,22 @@ follow_children-returns-then-not-branch-clause-settled t c =
 pub follow_children-keep-requires-clause-known : goal.follow_children-keep-requires-clause-known
 follow_children-keep-requires-clause-known t c = λ k h. order_within k c.orders-orders.ensures c.in_ok-items.ensures.later.are h
 
+pub follow_children-keep-requires-clause-escaped : goal.follow_children-keep-requires-clause-escaped
+follow_children-keep-requires-clause-escaped t c =
+    let plain = c.in_ok-items.ensures.plain c.if-not-branch.false in
+    rw (c.plain.ensures, c.place-start.ensures.place, c.place.ensures.place, c.in_ok-items.ensures.text) (λ e. absurd cc, λ x. absurd (plain x))
+
 pub follow_children-returns-clause-later : goal.follow_children-returns-clause-later
 follow_children-returns-clause-later t c =
     let value = c.in_ok-items.ensures.whole c.if-not-branch.false in
-    let filled = rw c.place-start.ensures.place at c.keep.ensures.filled in
+    let filled = rw (c.plain.ensures, c.place-start.ensures.place, c.place.ensures.place) at c.keep.ensures.filled in
     let later = c.in_ok-items.ensures.later in
     rw c.keep.ensures.kept (later_twice later (filled_later c.requires.comes value c.orders-orders.ensures later.are filled))
 
 pub follow_children-returns-clause-settled : goal.follow_children-returns-clause-settled
 follow_children-returns-clause-settled t c =
     let value = c.in_ok-items.ensures.whole c.if-not-branch.false in
-    let filled = rw c.place-start.ensures.place at c.keep.ensures.filled in
+    let filled = rw (c.plain.ensures, c.place-start.ensures.place, c.place.ensures.place) at c.keep.ensures.filled in
     let point = point_at c.args.walk.now c.args.view.now in
     let later = filled_later c.requires.comes value c.orders-orders.ensures c.in_ok-items.ensures.later.are filled in
     rw c.keep.ensures.kept (filled_settled point c.requires.comes value c.orders-orders.ensures filled later c.in_ok-items.ensures.settled)
@@ -266,10 +271,10 @@ items-returns-clause-whole t c = λ e.
     let end = rw (c.in_ok-item.ensures.text, c.items.invariant.text) at (c.in_ok-next_item.ensures.end c.if-not-branch.true) in
     rw c.in_ok-close.ensures.kept (rw c.requires.start at (whole_there passed (c.is_wanted.ensures.more c.if-not-is_wanted.false) end))
 
-pub items-returns-clause-status : goal.items-returns-clause-status
-items-returns-clause-status t c = λ e.
+pub items-returns-clause-plain : goal.items-returns-clause-plain
+items-returns-clause-plain t c = λ e.
     let passed = rw (c.items.invariant.text, c.items.invariant.rule) at c.in_ok-item.ensures.passed in
-    rw c.requires.start at (container_status {j = c.close.new.walk.place} passed.before.fit)
+    rw c.requires.start at (container_plain {j = c.close.new.walk.place} passed.before.fit)
 
 pub items-returns-clause-marks : goal.items-returns-clause-marks
 items-returns-clause-marks t c =

@@ -37,35 +37,35 @@ returns-in_err-key-clause-err c =
 pub returns-then-key-clause-item : goal.returns-then-key-clause-item
 returns-then-key-clause-item c =
     let x = c.in_ok-key.ensures.ok in
-    let some = rw (c.text.ensures, c.in_ok-key.ensures.moved, c.place-start.ensures.place) at c.of_key.ensures.some in
-    let none = rw (c.text.ensures, c.in_ok-key.ensures.moved, c.place-start.ensures.place) at c.of_key.ensures.none in
+    let some = rw (c.text.ensures, c.in_ok-key.ensures.moved, c.in_ok-key.ensures.ok.start) at c.of_key.ensures.some in
+    let none = rw (c.text.ensures, c.in_ok-key.ensures.moved, c.in_ok-key.ensures.ok.start) at c.of_key.ensures.none in
     record {
-      node = key x.0;
-      head = rw c.in-Object.is record { label = Some x.0; head = key_head x.2; name = refl };
-      is = key_child (container_at c.args.walk.now c.args.level.now) c.of_key.result x.0 x.1 some none;
+      node = key x.bytes;
+      head = rw c.in-Object.is record { label = Some x.bytes; head = key_head x.key; name = refl };
+      is = key_child (container_at c.args.walk.now c.args.level.now) c.of_key.result x.bytes x.string some none;
     }
 
 pub returns-then-key-clause-later : goal.returns-then-key-clause-later
-returns-then-key-clause-later c = omega (arith, key-longer c.in_ok-key.ensures.ok.2)
+returns-then-key-clause-later c = omega (arith, key-longer c.in_ok-key.ensures.ok.key)
 
 pub of_plain_key-requires-clause-plain : goal.of_plain_key-requires-clause-plain
 of_plain_key-requires-clause-plain c =
-    rw (c.text-2.ensures, c.in_ok-key.ensures.moved, c.place-start.ensures.place)
-    (plain_key _ _ _ c.in_ok-key.key.escaped c.in_ok-key.ensures.escaped c.if-key.false)
+    rw (c.text-2.ensures, c.in_ok-key.ensures.moved, c.in_ok-key.ensures.ok.start)
+    (plain_key _ _ _ c.in_ok-key.key.escaped c.in_ok-key.ensures.ok.escaped c.if-key.false)
 
 pub returns-clause-item : goal.returns-clause-item
 returns-clause-item c =
     let x = c.in_ok-key.ensures.ok in
-    let some = rw (c.text-2.ensures, c.in_ok-key.ensures.moved, c.place-start.ensures.place) at c.of_plain_key.ensures.some in
-    let none = rw (c.text-2.ensures, c.in_ok-key.ensures.moved, c.place-start.ensures.place) at c.of_plain_key.ensures.none in
+    let some = rw (c.text-2.ensures, c.in_ok-key.ensures.moved, c.in_ok-key.ensures.ok.start) at c.of_plain_key.ensures.some in
+    let none = rw (c.text-2.ensures, c.in_ok-key.ensures.moved, c.in_ok-key.ensures.ok.start) at c.of_plain_key.ensures.none in
     record {
-      node = key x.0;
-      head = rw c.in-Object.is record { label = Some x.0; head = key_head x.2; name = refl };
-      is = key_child (container_at c.args.walk.now c.args.level.now) c.of_plain_key.result x.0 x.1 some none;
+      node = key x.bytes;
+      head = rw c.in-Object.is record { label = Some x.bytes; head = key_head x.key; name = refl };
+      is = key_child (container_at c.args.walk.now c.args.level.now) c.of_plain_key.result x.bytes x.string some none;
     }
 
 pub returns-clause-later : goal.returns-clause-later
-returns-clause-later c = omega (arith, key-longer c.in_ok-key.ensures.ok.2)
+returns-clause-later c = omega (arith, key-longer c.in_ok-key.ensures.ok.key)
 
 pub returns-then-passed-next_child-clause-item : goal.returns-then-passed-next_child-clause-item
 returns-then-passed-next_child-clause-item c = record {

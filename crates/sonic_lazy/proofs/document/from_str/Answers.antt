@@ -7,8 +7,8 @@ pub entry-requires : goal.entry-requires
 entry-requires c κs =
     let text = c.unscanned.ensures.text ∙ c.as_bytes-text.ensures.value in
     let alone = rw text at c.in-Ok.ensures.ok in
-    let status = rw text at c.in-Ok.ensures.status in
-    ((refl, tt), (alone_part c.utf8.json alone, status))
+    let escaped = rw text at c.in-Ok.ensures.escaped in
+    ((refl, tt), (alone_part c.utf8.json alone, escaped))
 
 pub returns-in-Err-clause-err : goal.returns-in-Err-clause-err
 returns-in-Err-clause-err c =

@@ -29,16 +29,16 @@ skip-requires c =
     let head = rw c.in_ok-go_on.ensures.moved at c.in_ok-key.ensures.ok in
     rw (c.in_ok-key.ensures.moved, c.in_ok-go_on.ensures.moved) (λ e. head_whole reach head (c.requires.whole e))
 
-pub returns-in_err-status-clause-err : goal.returns-in_err-status-clause-err
-returns-in_err-status-clause-err c =
-    let p = err_from_is_err_and c.from_residual-in_err-status.result c.from_residual-in_err-status.ensures.1 in
+pub returns-in_err-value-clause-err : goal.returns-in_err-value-clause-err
+returns-in_err-value-clause-err c =
+    let p = err_from_is_err_and c.from_residual-in_err-value.result c.from_residual-in_err-value.ensures.1 in
     let reach = c.in_ok-go_on.ensures.item c.if-not-branch.false in
     let begins : ¬ BeginsNoItem c.args.steps.now.text c.args.kind c.args.given c.go_on.new.steps.place = λ x. let y = c.begins_none.ensures.1 (rw c.in_ok-go_on.ensures.moved x) in cc (y, c.if-begins_none.false) in
     let head = rw c.in_ok-go_on.ensures.moved at c.in_ok-key.ensures.ok in
     let text : c.pass_head.new.steps.text ≡ c.args.steps.now.text =
     ap (λ (s : Stepping). s.text) c.in_ok-key.ensures.moved ∙ ap (λ (s : Stepping). s.text) c.in_ok-go_on.ensures.moved in
-    let fault = rw text at c.in_err-status.ensures.err in
-    rw (p.1, p.2) (stop_weaker c.in_err-status.field-0.0 (λ s f. value_stopped reach begins head f) fault)
+    let fault = rw text at c.in_err-value.ensures.err in
+    rw (p.1, p.2) (stop_weaker c.in_err-value.field-0.0 (λ s f. value_stopped reach begins head f) fault)
 
 pub pass_head-requires : goal.pass_head-requires
 pass_head-requires c =

@@ -8,4 +8,4 @@ returns-in_err-found-clause-complete g c = λ can.
     rw (p.1, p.2) (c.in_err-found.ensures.complete can)
 
 pub values-requires : goal.values-requires
-values-requires g c κs = ((refl, tt), (rw c.deref.ensures.value c.in_ok-found.ensures.parts, rw c.deref.ensures.value c.in_ok-found.ensures.statuses))
+values-requires g c κs = ((refl, tt), (rw c.deref.ensures.value c.in_ok-found.ensures.parts, rw c.deref.ensures.value c.in_ok-found.ensures.escaped))

@@ -1,8 +1,8 @@
 -- The values so far are shown.
 use Rattle.std.proofs.Common.{take}
-use Rattle.sonic_find.specs.Internal.Located.{spans_of}
+use Rattle.sonic_find.specs.Found.{spans_of}
 use Rattle.sonic_lazy.specs.Internal.Shown.{HaveTexts}
 use Rattle.sonic_lazy.proofs.many.values.Given as goal
 
-abbrev pub invariant-loop-located : goal.invariant-loop-located
-invariant-loop-located g l = HaveTexts (g.I.JsonInput.content l.json) l.values.items (spans_of (take l.located-index l.found))
+abbrev pub invariant-loop-span : goal.invariant-loop-span
+invariant-loop-span g l = HaveTexts (g.I.JsonInput.content l.json) l.values.items (spans_of (take l.span-index l.found))

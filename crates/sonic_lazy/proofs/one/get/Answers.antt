@@ -7,8 +7,8 @@ pub entry-requires : goal.entry-requires
 entry-requires g c κs =
     let answer = rw (c.unscanned-read.ensures.text, c.to_json_slice.ensures.bytes, c.need_utf8_valid.ensures) at c.in-Ok.ensures.ok in
     let value = rw (c.unscanned-read.ensures.text, c.to_json_slice.ensures.bytes) at c.in-Ok.ensures.value in
-    let status = rw (c.unscanned-read.ensures.text, c.to_json_slice.ensures.bytes) at c.in-Ok.ensures.status in
-    ((refl, tt), (part_alone g.I.JsonInput.is_bytes answer c.to_u8_slice-text.ensures.utf8 value, status))
+    let escaped = rw (c.unscanned-read.ensures.text, c.to_json_slice.ensures.bytes) at c.in-Ok.ensures.escaped in
+    ((refl, tt), (part_alone g.I.JsonInput.is_bytes answer c.to_u8_slice-text.ensures.utf8 value, escaped))
 
 pub returns-in-Ok-clause-lookup : goal.returns-in-Ok-clause-lookup
 returns-in-Ok-clause-lookup g c =

@@ -6,8 +6,8 @@ use Rattle.sonic_find.proofs.UncheckedLemmas.{found_part, found_answer, sure_wit
 pub entry-requires : goal.entry-requires
 entry-requires g c κs =
     let leads = rw (c.unchecked-steps.ensures, c.unscanned.ensures.text, c.unscanned.ensures.place, c.to_json_slice.ensures.bytes) at c.in-Ok.ensures.ok in
-    let status = rw (c.unchecked-steps.ensures, c.unscanned.ensures.text, c.to_json_slice.ensures.bytes) at c.in-Ok.ensures.status in
-    ((refl, tt), (found_part _ c.requires leads, status))
+    let escaped = rw (c.unchecked-steps.ensures, c.unscanned.ensures.text, c.to_json_slice.ensures.bytes) at c.in-Ok.ensures.escaped in
+    ((refl, tt), (found_part _ c.requires leads, escaped))
 
 pub returns-in-Ok : goal.returns-in-Ok
 returns-in-Ok g c =

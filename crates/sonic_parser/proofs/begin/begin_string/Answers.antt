@@ -1,3 +1,4 @@
+use Rattle.std.proofs.Common.{refl}
 use Rattle.std.proofs.lemmas.Result.{err_from_is_err_and}
 use Rattle.sonic_text.specs.Values.IsValue.{string}
 use Rattle.sonic_text.specs.Faults.IsFault.{string_fault}
@@ -11,6 +12,4 @@ returns-in_err-string-clause-err c =
 pub returns-clause-ok : goal.returns-clause-ok
 returns-clause-ok c =
     let ok = c.in_ok-string.ensures.ok in
-    let (f, g) = c.of_string-status.ensures in
-    let (k, l) = c.in_ok-string.ensures.escaped in
-    record { later = ok.0; within = ok.1; value = string ok.3; status = (λ e. k (f e), λ e. g (l e)) }
+    rw c.of_string.ensures record { start = refl; later = ok.0; within = ok.1; value = string ok.3; escaped = c.in_ok-string.ensures.escaped }

@@ -10,5 +10,5 @@ returns-in_err-key_end-in-Object-clause-err c =
 
 pub returns-in_ok-key_end-in-Object-clause-ok : goal.returns-in_ok-key_end-in-Object-clause-ok
 returns-in_ok-key_end-in-Object-clause-ok c =
-    let k = c.in_ok-key_end-in-Object.ensures in
-    rw c.in-Object.is (member_item k.within.0 k.within.1 k.ok.2)
+    let k = c.in_ok-key_end-in-Object.ensures.ok in
+    rw c.in-Object.is (member_item k.later k.within k.key)

@@ -1,7 +1,7 @@
 use Rattle.std.proofs.Common.{Bor, ◌≡◌, ◌∙◌, ◌<◌, ap, List, ℕ, length, arith}
 use Rattle.std.specs.Prelude.{Some, None, slice_range}
 use Rattle.sonic_parser.specs.Descents.{IsHeadPassed}
-use Rattle.sonic_patch.proofs.WalkLemmas.{IsKeyOf, key_bounds, rooted, headed, head_later}
+use Rattle.sonic_patch.proofs.WalkLemmas.{IsKeyOf, key_begins, key_bounds, rooted, headed, head_later}
 use Rattle.sonic_patch.proofs.walk.pass_key.Goals as goal
 
 pub returns-then-depth-eq0-clause-ok : goal.returns-then-depth-eq0-clause-ok
@@ -18,10 +18,10 @@ returns-in-Some-clause-ok c = λ s rest x.
     let some : 0 < length c.args.walk.now.opened = omega (arith, c.if-depth-eq0.false, c.depth.ensures) in
     let passed : IsHeadPassed c.kind.result c.args.walk.now c.head.new.self (Some c.in-Some.key) = rw c.in-Some.is at c.in_ok-head.ensures.ok in
     let text : c.text.result.now ≡ c.args.walk.now.text = c.text.ensures ∙ ap (λ w. w.text) c.head.ensures.cursor in
-    let part : Bor (List ℕ) = record { ref_ptr = c.text.result.ref_ptr; now = slice_range c.text.result.now c.offset-start.result c.in-Some.key.end } in
+    let part : Bor (List ℕ) = record { ref_ptr = c.text.result.ref_ptr; now = slice_range c.text.result.now c.in-Some.key.start c.in-Some.key.end } in
     let cut : IsKeyOf c.args.walk.now.text c.args.walk.now.place (Some c.in-Some.key) (Some part) =
-    ap (λ (t : List ℕ). slice_range t c.offset-start.result c.in-Some.key.end) text
-    ∙ ap (λ (p : ℕ). slice_range c.args.walk.now.text p c.in-Some.key.end) c.offset-start.ensures.place in
+    ap (λ (t : List ℕ). slice_range t c.in-Some.key.start c.in-Some.key.end) text
+    ∙ ap (λ (p : ℕ). slice_range c.args.walk.now.text p c.in-Some.key.end) (key_begins _ _ c.kind.result c.in-Some.key passed) in
     headed c.kind.result (Some c.in-Some.key) (Some part) s some c.kind.ensures c.head.ensures.cursor passed cut x
 
 pub returns-in-Some-clause-later : goal.returns-in-Some-clause-later
@@ -31,13 +31,13 @@ pub slice_bounds-result-count : goal.slice_bounds-result-count
 slice_bounds-result-count c =
     let passed : IsHeadPassed c.kind.result c.args.walk.now c.head.new.self (Some c.in-Some.key) = rw c.in-Some.is at c.in_ok-head.ensures.ok in
     let bounds = key_bounds _ _ c.kind.result c.in-Some.key passed in
-    omega (arith, c.offset-start.ensures.place, bounds.0)
+    omega (arith, key_begins _ _ c.kind.result c.in-Some.key passed, bounds.0)
 
 pub slice_bounds-result-start : goal.slice_bounds-result-start
 slice_bounds-result-start c =
     let passed : IsHeadPassed c.kind.result c.args.walk.now c.head.new.self (Some c.in-Some.key) = rw c.in-Some.is at c.in_ok-head.ensures.ok in
     let bounds = key_bounds _ _ c.kind.result c.in-Some.key passed in
-    omega (arith, c.offset-start.ensures.place, bounds.0)
+    omega (arith, key_begins _ _ c.kind.result c.in-Some.key passed, bounds.0)
 
 pub slice_bounds-result-end : goal.slice_bounds-result-end
 slice_bounds-result-end c =

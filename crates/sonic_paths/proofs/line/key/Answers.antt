@@ -7,9 +7,8 @@ pub owned_text-requires-clause-string : goal.owned_text-requires-clause-string
 owned_text-requires-clause-string c =
     let string = quoted c.requires.quote (rw c.requires.strictly at c.in-Ok.ensures.ok.value) in
     let text : c.text.result.now ≡ c.args.parser.now.text = rw (c.text.ensures) (ap (λ p. p.text) c.in-Ok.ensures.cursor) in
-    let (needs, has) = c.in-Ok.ensures.ok.status in
-    let (is, so) = c.has_escaped.ensures in
-    rw (text, c.offset-start.ensures.place, c.offset.ensures.place) (record { bytes = string.0; is = string.1; escaped = (λ e. needs (is e), λ e. so (has e)) })
+    let passed = c.in-Ok.ensures.ok in
+    rw (text, passed.start, passed.end) (record { bytes = string.0; is = string.1; escaped = passed.escaped })
 
 pub owned_text-requires-clause-utf8 : goal.owned_text-requires-clause-utf8
 owned_text-requires-clause-utf8 c =
@@ -19,7 +18,7 @@ owned_text-requires-clause-utf8 c =
 pub returns-clause-node : goal.returns-clause-node
 returns-clause-node c =
     let text : c.text.result.now ≡ c.args.parser.now.text = rw (c.text.ensures) (ap (λ p. p.text) c.in-Ok.ensures.cursor) in
-    string_node (rw (text, c.offset-start.ensures.place, c.offset.ensures.place) at c.in_ok-key.ensures)
+    string_node (rw (text, c.in-Ok.ensures.ok.start, c.in-Ok.ensures.ok.end) at c.in_ok-key.ensures)
 
 pub returns-in-Err-At-clause-node : goal.returns-in-Err-At-clause-node
 returns-in-Err-At-clause-node c = λ j node. fault_no_node (rw (c.in-Err-At.field-0-is, c.requires.strictly) at c.in-Err-At.ensures.err)

@@ -2,9 +2,9 @@ use Rattle.sonic_find.proofs.state.Walk.keep.Goals as goal
 use Rattle.std.proofs.Common.{arith}
 use Rattle.std.proofs.lemmas.List.{length-map}
 use Rattle.std.specs.Prelude.{option_map}
-use Rattle.sonic_find.proofs.WalkLemmas.End.{filled_statuses}
+use Rattle.sonic_find.proofs.WalkLemmas.End.{filled_escapes}
 use Rattle.sonic_find.proofs.WalkLemmas.List.{fill_mapped}
-use Rattle.sonic_find.specs.Internal.Located.{span_at}
+use Rattle.sonic_find.specs.Found.{span_at}
 
 pub fill-requires : goal.fill-requires
 fill-requires c = λ k h.
@@ -14,8 +14,8 @@ fill-requires c = λ k h.
 pub invariant_of-self : goal.invariant_of-self
 invariant_of-self c = record {
   checks = c.self.invariant.checks;
-  statuses = filled_statuses _ c.fill.ensures c.self.invariant.statuses (rw (← c.self.view_is, ← c.place-end.ensures.place) at c.requires.status);
+  escaped = filled_escapes _ c.fill.ensures c.self.invariant.escaped (rw (← c.self.view_is) at c.requires.escaped);
 }
 
 pub returns-clause-filled : goal.returns-clause-filled
-returns-clause-filled c = rw (← c.self.view_is, ← c.place-end.ensures.place) (fill_mapped span_at c.fill.ensures)
+returns-clause-filled c = rw (← c.self.view_is) (fill_mapped span_at c.fill.ensures)

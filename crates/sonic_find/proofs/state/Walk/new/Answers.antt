@@ -5,5 +5,5 @@ use Rattle.sonic_find.specs.Internal.Steps.{Stepping}
 pub invariant_of-result : goal.invariant_of-result
 invariant_of-result c = record {
   checks = ap (λ (s : Stepping). s.checks) c.checked-steps.ensures;
-  statuses = rw c.checked-steps.ensures c.requires.statuses;
+  escaped = rw c.checked-steps.ensures c.requires.escaped;
 }

@@ -7,8 +7,8 @@ use Rattle.sonic_index.proofs.CellLemmas.{read_entry}
 use Rattle.sonic_index.proofs.PathLemmas.{cell_within, entry_part}
 use Rattle.sonic_index.proofs.index.JsonIndex.value.Goals as goal
 
-pub with_status-status-requires : goal.with_status-status-requires
-with_status-status-requires c =
+pub value_span-value-requires : goal.value_span-value-requires
+value_span-value-requires c =
     let v = c.self.inside in
     let read = cell_within (slice_bytes v.json) v.cells.items c.args.i c.index-cell.result.now (rw (← c.self.view_is) at c.requires) c.index-cell.ensures in
     rw c.bytes.ensures (entry_part v.cells.items c.self.invariant.entries c.self.invariant.valid c.args.i c.index-cell.result.now read).value
@@ -31,8 +31,8 @@ whole-requires c =
     let v = c.self.inside in
     let read = cell_within (slice_bytes v.json) v.cells.items c.args.i c.index-cell.result.now (rw (← c.self.view_is) at c.requires) c.index-cell.ensures in
     let part = entry_part v.cells.items c.self.invariant.entries c.self.invariant.valid c.args.i c.index-cell.result.now read in
-    let status = rw c.bytes.ensures at c.with_status-status.ensures.status in
-    whole_of_part c.part.ensures.bytes part status c.has_escaped.ensures
+    let value = c.value_span-value.ensures in
+    whole_of_part c.part.ensures.bytes part (rw (c.bytes.ensures, value.start, value.end) at value.escaped)
 
 pub returns : goal.returns
 returns c =

@@ -9,4 +9,4 @@ part-requires-clause-order c = omega (arith, value-longer c.requires.part.value)
 pub whole-requires : goal.whole-requires
 whole-requires c =
     let bytes = rw (c.self.invariant.raw) at c.part.ensures.bytes in
-    whole_of_part bytes (rw (← c.self.view_is) at c.requires.part) (rw (← c.self.view_is) at c.requires.status) c.has_escaped.ensures
+    whole_of_part bytes (rw (← c.self.view_is) at c.requires.part) (rw (← c.self.view_is) at c.requires.escaped)

@@ -12,21 +12,21 @@ of_slice-requires c = rw c.raw-raw.ensures (lazy_is_whole c.args.self.now).utf8
 pub locate-requires : goal.locate-requires
 locate-requires c = rw (c.unchecked-steps.ensures, c.of_slice.ensures.text, c.of_slice.ensures.place, c.raw-raw.ensures) (λ _. lazy_start c.args.self.now)
 
-pub part-part-requires-clause-order : goal.part-part-requires-clause-order
-part-part-requires-clause-order c =
+pub part-requires-clause-order : goal.part-requires-clause-order
+part-requires-clause-order c =
     let value = rw (c.unchecked-steps.ensures, c.of_slice.ensures.text) at c.in-Ok.ensures.value in
     omega (arith, value-longer value)
 
-pub part-part-requires-clause-inside : goal.part-part-requires-clause-inside
-part-part-requires-clause-inside c =
+pub part-requires-clause-inside : goal.part-requires-clause-inside
+part-requires-clause-inside c =
     let value = rw (c.unchecked-steps.ensures, c.of_slice.ensures.text) at c.in-Ok.ensures.value in
     value_within value
 
 pub whole-requires : goal.whole-requires
 whole-requires c =
     let leads = rw (c.unchecked-steps.ensures, c.of_slice.ensures.text, c.of_slice.ensures.place, c.raw-raw.ensures) at c.in-Ok.ensures.ok in
-    let status = rw (c.unchecked-steps.ensures, c.of_slice.ensures.text, c.raw-raw.ensures) at c.in-Ok.ensures.status in
-    whole_of_part (rw c.raw-raw.ensures at c.part-part.ensures.bytes) (found_part _ (lazy_starts c.args.self.now) leads) status c.has_escaped.ensures
+    let escaped = rw (c.unchecked-steps.ensures, c.of_slice.ensures.text, c.raw-raw.ensures) at c.in-Ok.ensures.escaped in
+    whole_of_part (rw c.raw-raw.ensures at c.part.ensures.bytes) (found_part _ (lazy_starts c.args.self.now) leads) escaped
 
 pub returns-clause-none : goal.returns-clause-none
 returns-clause-none c =

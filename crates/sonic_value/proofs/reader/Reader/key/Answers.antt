@@ -7,4 +7,4 @@ pub returns-clause-ok : goal.returns-clause-ok
 returns-clause-ok c =
     let passed = c.in_ok-key.ensures.ok in
     let source : c.pass_key.new.self.source ≡ c.args.self.now.source = same_source c.in_ok-key.ensures.moved in
-    key_read passed.string passed.colon (rw (source, passed.start) at c.in_ok-string.ensures)
+    key_read passed.string passed.key (rw (source, passed.start) at c.in_ok-string.ensures)

@@ -4,7 +4,7 @@ use Rattle.sonic_text.specs.Trees.Tree.{null, truth, numeral}
 use Rattle.sonic_value.proofs.ReaderLemmas.{source_text}
 use Rattle.sonic_value.proofs.Folds.{tree_null, tree_bool, tree_number, tree_string}
 use Rattle.sonic_value.proofs.ScalarLemmas.{null_means, true_means, false_means, number_there}
-use Rattle.sonic_value.proofs.StringLemmas.{string_token, string_kept}
+use Rattle.sonic_value.proofs.StringLemmas.{scalar_string, string_kept}
 use Rattle.sonic_value.proofs.reader.Reader.scalar_value.Goals as goal
 
 pub returns-in-110 : goal.returns-in-110
@@ -31,7 +31,7 @@ returns-in-102 c =
 pub string-requires : goal.string-requires
 string-requires c =
     let text : c.text-text.result.now ≡ c.args.self.now.source.text = c.text-text.ensures ∙ source_text c.self.view_is in
-    string_token c.requires (rw (c.byte_at.ensures.value, text) at c.in-34.is)
+    scalar_string c.requires (rw (c.byte_at.ensures.value, text) at c.in-34.is)
 
 pub returns-in_ok-string-in-34 : goal.returns-in_ok-string-in-34
 returns-in_ok-string-in-34 c = rw (tree_string _) (string_kept c.in_ok-string-in-34.ensures)

@@ -1,27 +1,64 @@
-// A string of a text, and what is made of it (RFC 8259, section 7).
-ghost use Rattle.std.specs.Prelude.{◌≡◌, string_bytes, IfOk, OnErr};
+// Where a value of a text is, and what a string of a text denotes (RFC 8259, section 7).
+ghost use Rattle.std.specs.Prelude.{◌≡◌, ◌↔◌, false, string_bytes, IfOk, IsTrue, OnErr};
 ghost use Rattle.sonic_text.specs.Strings.{strict, IsString, IsEscapedString};
-ghost use Rattle.sonic_parser.specs.StringSpans.{IsStringSpan, DenotesUtf8, IsTextAt};
+ghost use Rattle.sonic_parser.specs.ValueSpans.{string_span, IsStringSpan, DenotesUtf8, IsTextAt};
 
-use sonic_text::unescape_into;
+use crate::status::ParseStatus;
+use sonic_text::{StringEnd, unescape_into};
 use std::alloc::{AllocError, Global};
 use std::borrow::CowStr;
 
-/// A string of a text that was passed: where it is, and whether it has a backslash.
+/// Where a value or a key of a text is, in bytes, and whether it is a string with a backslash.
 ///
-/// It is what a reader keeps of a key or a value, so that nobody looks at the string twice. Of
-/// `["a\n"]` the string is from 1 to 6 and has one.
+/// It is what a reader keeps of what it passed, so that nobody looks at a string twice. The string of
+/// `["a\n"]` is from 1 to 6 and has a backslash.
 #[derive(Clone, Copy, Debug, PartialEq)]
-pub struct StringSpan {
-    /// The index of the first quote.
+pub struct ValueSpan {
+    /// The index of the first byte.
     pub start: usize,
-    /// The index after the last quote.
+    /// The index after the last byte.
     pub end: usize,
-    /// Whether it has a backslash.
+    /// Whether it is a string with a backslash.
     pub escaped: bool,
 }
 
-impl StringSpan {
+impl ValueSpan {
+    /// The span of a value that is no string with a backslash.
+    #[inline(always)]
+    pub fn plain(start: usize, end: usize) -> ValueSpan
+        ensures { result ≡ record { start = start; end = end; escaped = false } }
+    {
+        ValueSpan {
+            start,
+            end,
+            escaped: false,
+        }
+    }
+
+    // The span of a string that begins at a place.
+    #[inline(always)]
+    pub(crate) fn of_string(start: usize, string: StringEnd) -> ValueSpan
+        ensures { result ≡ string_span start string }
+    {
+        ValueSpan {
+            start,
+            end: string.end,
+            escaped: string.escaped,
+        }
+    }
+
+    /// What the value needs before its text can be used.
+    #[inline]
+    pub fn status(self) -> ParseStatus
+        ensures { (result ≡ ParseStatus.HasEscaped) ↔ IsTrue self.escaped }
+    {
+        if self.escaped {
+            ParseStatus::HasEscaped
+        } else {
+            ParseStatus::None
+        }
+    }
+
     /// What the string denotes, borrowed exactly where it has no backslash.
     ///
     /// In a text in UTF-8 what each string denotes is UTF-8. The only error is that memory ran out,

@@ -3,7 +3,7 @@ use Rattle.sonic_text.proofs.PlainStrings.{plain_string}
 use Rattle.sonic_text.proofs.Strings.{chars_later}
 use Rattle.sonic_text.proofs.Within.{value_within}
 use Rattle.sonic_text.specs.Values.IsValue.{string}
-use Rattle.sonic_parser.proofs.string_span.StringSpan.contents.Goals as goal
+use Rattle.sonic_parser.proofs.value_span.ValueSpan.contents.Goals as goal
 
 -- the quotes are two
 pub slice_bounds-result-count : goal.slice_bounds-result-count
