@@ -1,15 +1,15 @@
 -- The text of a form is one value, and means the tree that the form means.
 use Rattle.std.proofs.Common.{◌≡◌, ◌≢◌, ◌∙◌, ℕ, ◌+◌, false, List, [], ◌∷◌, ◌++◌, length, Option, Some, None, arith, refl, sym, append_assoc, length-append}
-use Rattle.std.proofs.lemmas.Bool.Decides.{nat_tests}
-use Rattle.std.proofs.lemmas.List.Sums.{prefix_len-drop_no}
 use Rattle.std.proofs.Math.Seq.{get_or-append_seam}
-use Rattle.sonic_text.proofs.PlacedLemmas.{EndsNumber, value_placed}
+use Rattle.sonic_text.proofs.Items.{closing_no_space, closing_not_end}
+use Rattle.sonic_text.proofs.PlacedLemmas.{value_placed}
+use Rattle.sonic_text.proofs.Same.{EndsNumber, closing_ends, ends_number}
+use Rattle.sonic_text.proofs.SameValues.{value_starts_item}
 use Rattle.sonic_owned.specs.Forms.{Form, level, Members, no_member, member, text, label_text, members_text, FormMeans, raw_means, level_means, MembersMean, no_member_means, member_means, IsSound, raw_sound, level_sound, AreSound, none_sound, item_sound, IsLabel}
-use Rattle.sonic_text.proofs.Places.{byte_within}
+use Rattle.sonic_text.proofs.Places.{byte_within, space_stays}
 use Rattle.sonic_text.proofs.TreeLemmas.{value_of}
-use Rattle.sonic_text.proofs.Values.{value_never_both, value_starts}
+use Rattle.sonic_text.proofs.Values.{value_starts}
 use Rattle.sonic_text.proofs.WrittenLemmas.{string_stands}
-use Rattle.sonic_text.specs.Faults.{BeginsNone, no_value}
 use Rattle.sonic_text.specs.Places.{byte, is_space, after_space}
 use Rattle.sonic_text.specs.Quoting.{quoted}
 use Rattle.sonic_text.specs.Strings.{IsString, strict}
@@ -56,24 +56,16 @@ at_value u rest a h end =
 
 -- a byte that is neither white space nor past the end is where white space ends
 no_space : (t : List ℕ) (p : ℕ) → is_space (byte t p) ≡ false → byte t p ≢ 0 → after_space t p ≡ p
-no_space t p none some =
-    let first = prefix_len-drop_no is_space t p 0 (byte_within t p some) none in
-    omega arith
+no_space t p none some = space_stays t p (byte_within t p some) none
 
 -- white space ends at a closing bracket
 closing_starts : (t : List ℕ) (p : ℕ) (kind : Kind) → byte t p ≡ closing kind → after_space t p ≡ p
-closing_starts t p Array e = no_space t p (rw e refl) (λ z. omega (arith, e, z))
-closing_starts t p Object e = no_space t p (rw e refl) (λ z. omega (arith, e, z))
+closing_starts t p kind e = no_space t p (rw e (closing_no_space kind)) (λ z. closing_not_end kind (sym e ∙ z))
 
 -- neither a comma nor a closing bracket goes on with a number
 more_ends : (kind : Kind) (ms : Members) → EndsNumber (byte (members_text (44 ∷ []) ms ++ closing kind ∷ []) 0)
-more_ends Array no_member = ((λ h. omega (arith, h.1)), (λ h. omega arith), (λ h. omega arith), (λ h. omega arith))
-more_ends Object no_member = ((λ h. omega (arith, h.1)), (λ h. omega arith), (λ h. omega arith), (λ h. omega arith))
-more_ends kind (member l f ms) = ((λ h. omega (arith, h.0)), (λ h. omega arith), (λ h. omega arith), (λ h. omega arith))
-
--- no value begins with a closing bracket of an array
-value_no_end : {t : List ℕ} {i j : ℕ} {v : Tree} → Means t i j v → byte t i ≢ 93
-value_no_end {t} {i} x e = let none : BeginsNone (byte t i) = rw e (grind (arith, nat_tests)) in value_never_both (value_of x) (no_value none refl)
+more_ends kind no_member = closing_ends kind
+more_ends kind (member l f ms) = ends_number 44 refl
 
 -- where items begin there is neither white space nor the container's end
 abbrev Starts : List ℕ → Kind → ℕ → Type 0
@@ -81,7 +73,8 @@ Starts t kind h = (after_space t h ≡ h) × (byte t h ≢ closing kind)
 
 item_starts : {t : List ℕ} {kind : Kind} {h j v : ℕ} {l : Option (List ℕ)} {x : Tree} → ItemHead strict t kind h v l → Means t v j x → Starts t kind h
 item_starts {t} {kind} {h} {v = v} (no_head e) x =
-    let starts : Starts t Array v = (value_starts (value_of x), value_no_end x) in
+    let y = value_of x in
+    let starts : Starts t Array v = (value_starts y, (value_starts_item y).1 Array) in
     rw e at starts
 item_starts {t} {h = h} (key_head y) x = let o = y.string.opens in (no_space t h (rw o refl) (λ z. omega (arith, o, z)), λ z. omega (arith, o, z))
 

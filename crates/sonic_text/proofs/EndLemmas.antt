@@ -1,26 +1,14 @@
--- A value begins and ends with a byte that is no white space.
-use Rattle.std.proofs.Common.{◌≡◌, ◌⊎◌, ℕ, ◌+◌, ◌-◌, ◌<◌, ◌∙◌, Bool, true, false, List, inl, inr, refl, sym, ap, arith}
+-- A value ends with a byte that is no white space.
+use Rattle.std.proofs.Common.{◌≡◌, ℕ, ◌+◌, ◌-◌, ◌∙◌, Bool, true, false, List, inl, inr, refl, ap, arith}
 use Rattle.std.proofs.lemmas.Bool.Decides.{nat_tests}
 use Rattle.std.specs.Char.{is_ascii_digit}
 use Rattle.sonic_blocks.proofs.RunLemmas.{run_passes}
-use Rattle.sonic_text.specs.declared.kind.Kind.{Kind}
-use Rattle.sonic_text.specs.declared.kind.Kind.TheVariants.{Array, Object}
-use Rattle.sonic_text.specs.Literals.{IsLiteral}
 use Rattle.sonic_text.specs.Numbers.{IsInt, IsFraction, IsExponent, IsNumber, after_minus, after_sign}
 use Rattle.sonic_text.specs.Places.{byte, is_space, IsDigit, digits_end}
 use Rattle.sonic_text.specs.Values.{closing, IsValue}
 use Rattle.sonic_text.specs.Values.IsValue.{null_literal, true_literal, false_literal, number, string, empty, filled}
+use Rattle.sonic_text.proofs.Items.{closing_no_space}
 use Rattle.sonic_text.proofs.Places.{digits_end_later}
-use Rattle.sonic_text.proofs.Values.{space_begins_none, value_never_both}
-use Rattle.sonic_text.specs.Faults.IsFault.{no_value}
-
-begins_by_test : {m : Bool} {t : List ℕ} {i j : ℕ} (is : Bool) → is_space (byte t i) ≡ is → IsValue m t i j → is ≡ false
-begins_by_test {t = t} {i} true e x = absurd (value_never_both x (no_value (space_begins_none (byte t i) e) refl))
-begins_by_test false e x = refl
-
--- a value begins with no white space
-pub value_begins_solid : {m : Bool} {t : List ℕ} {i j : ℕ} → IsValue m t i j → is_space (byte t i) ≡ false
-value_begins_solid {t = t} {i} x = begins_by_test (is_space (byte t i)) refl x
 
 digit_is_solid : (b : ℕ) → IsDigit b → is_space b ≡ false
 digit_is_solid b h = grind (arith, nat_tests)
@@ -50,10 +38,6 @@ number_ends : (t : List ℕ) (i j : ℕ) → IsNumber t i j → IsDigit (byte t 
 number_ends t i j h =
     exponent_ends t h.fraction_end j (fraction_ends t h.int_end h.fraction_end (int_ends t (after_minus t i) h.int_end h.int) h.fraction) h.exponent
 
-closing_is_solid : (kind : Kind) → is_space (closing kind) ≡ false
-closing_is_solid Array = refl
-closing_is_solid Object = refl
-
 -- the byte at p is b, which is no white space, and the value ends behind it
 ends_at : (t : List ℕ) (p j b : ℕ) → j ≡ p + 1 → byte t p ≡ b → is_space b ≡ false → is_space (byte t (j - 1)) ≡ false
 ends_at t p j b end is solid = let same : j - 1 ≡ p = omega (arith, end) in ap (λ q. is_space (byte t q)) same ∙ ap is_space is ∙ solid
@@ -65,5 +49,5 @@ value_ends_solid {t = t} {i} {j} (true_literal h) = ends_at t (i + 3) j 101 (ome
 value_ends_solid {t = t} {i} {j} (false_literal h) = ends_at t (i + 4) j 101 (omega (arith, h.1)) (h.0.1 4 (omega arith)) refl
 value_ends_solid {t = t} {i} {j} (number h) = digit_is_solid (byte t (j - 1)) (number_ends t i j h)
 value_ends_solid {t = t} {j = j} (string h) = ends_at t h.close j 34 h.end h.closes refl
-value_ends_solid {t = t} {i} {j} (empty kind b c q) = ends_at t _ j (closing kind) q c (closing_is_solid kind)
-value_ends_solid {t = t} {i} {j} (filled {kind} is y x c q) = ends_at t _ j (closing kind) q c (closing_is_solid kind)
+value_ends_solid {t = t} {i} {j} (empty kind b c q) = ends_at t _ j (closing kind) q c (closing_no_space kind)
+value_ends_solid {t = t} {i} {j} (filled {kind} is y x c q) = ends_at t _ j (closing kind) q c (closing_no_space kind)

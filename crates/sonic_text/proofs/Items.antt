@@ -2,15 +2,16 @@
 use Rattle.std.proofs.Common.{◌≡◌, ◌≢◌, ◌⊎◌, ℕ, ◌+◌, ◌<◌, ◌≤◌, inl, inr, arith, refl, ap}
 use Rattle.std.proofs.Common.{Result, Ok, Err, MatchResult}
 use Rattle.std.proofs.lemmas.Bool.{cases_eq}
-use Rattle.std.specs.Prelude.{Bool, List, Option, Some, None}
+use Rattle.std.proofs.lemmas.Bool.Decides.{nat_tests}
+use Rattle.std.specs.Prelude.{Bool, false, List, Option, Some, None}
 use Rattle.sonic_error.specs.declared.code.ErrorCode.TheVariants.{ExpectedColon}
 use Rattle.sonic_text.specs.declared.kind.Kind.{Kind}
 use Rattle.sonic_text.specs.declared.kind.Kind.TheVariants.{Array, Object}
 use Rattle.sonic_text.specs.declared.stop.Stop.{Stop}
-use Rattle.sonic_text.specs.Places.{byte, after_space, bad}
+use Rattle.sonic_text.specs.Places.{byte, is_space, after_space, bad}
 use Rattle.sonic_text.specs.Values.{IsKey, opening, closing, ItemHead, IsValue}
 use Rattle.sonic_text.specs.Values.ItemHead.{no_head, key_head}
-use Rattle.sonic_text.specs.Faults.{NothingFits, code_after_item, IsKeyFault, IsFault}
+use Rattle.sonic_text.specs.Faults.{BeginsNone, NothingFits, code_after_item, IsKeyFault, IsFault}
 use Rattle.sonic_text.specs.Faults.IsKeyFault.{no_quote, key_fault, no_colon}
 use Rattle.sonic_text.proofs.Places.{after_space_later}
 use Rattle.sonic_text.proofs.Strings.{string_longer, string_one, string_never_both, string_fault_one, string_some}
@@ -113,6 +114,15 @@ closing_not_end Object e = omega arith
 pub closing_no_comma : (kind : Kind) → closing kind ≢ 44
 closing_no_comma Array e = omega arith
 closing_no_comma Object e = omega arith
+
+-- it is no white space, and no value begins with it
+pub closing_no_space : (kind : Kind) → is_space (closing kind) ≡ false
+closing_no_space Array = refl
+closing_no_space Object = refl
+
+pub closing_begins_none : (kind : Kind) → BeginsNone (closing kind)
+closing_begins_none Array = grind (arith, nat_tests)
+closing_begins_none Object = grind (arith, nat_tests)
 
 -- a value that is expected ends here, or it isn't there for this reason
 abbrev pub Outcome : Bool → List ℕ → ℕ → Result ℕ Stop → Type 0

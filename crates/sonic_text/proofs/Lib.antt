@@ -13,6 +13,7 @@ pub mod Items
 mod KeyLemmas
 pub mod LevelLemmas
 pub mod LiteralLemmas
+pub mod NumberBytes
 pub mod Numbers
 mod OrdinaryLemmas
 pub mod Outcomes

@@ -1,17 +1,18 @@
 -- White space, literals and numbers have no quote, no backslash and no bracket.
-use Rattle.std.proofs.Common.{◌≡◌, ◌≢◌, ℕ, zero, suc, ◌+◌, ◌<◌, ◌==◌, ◌||◌, ◌&&◌, Bool, true, false, not, inl, inr, List, [], ◌∷◌, length, drop, slice_index, if◌then◌else◌, refl, sym, ap, ◌∙◌, arith}
+use Rattle.std.proofs.Common.{◌≡◌, ◌≢◌, ℕ, zero, suc, ◌+◌, ◌-◌, ◌<◌, ◌==◌, ◌||◌, ◌&&◌, Bool, true, false, not, List, [], ◌∷◌, length, drop, slice_index, refl, sym, ap, ◌∙◌, arith}
 use Rattle.std.proofs.lemmas.Bool.{false≢true}
 use Rattle.std.proofs.lemmas.List.{get_or-drop}
 use Rattle.std.proofs.lemmas.List.Sums.{prefix_len_passes}
-use Rattle.std.specs.Char.{is_ascii_digit}
 use Rattle.std.specs.List.{prefix_len}
 use Rattle.sonic_blocks.specs.Outside.{IsClear}
 use Rattle.sonic_text.specs.declared.kind.Kind.{Kind}
 use Rattle.sonic_text.specs.declared.kind.Kind.TheVariants.{Array, Object}
-use Rattle.sonic_text.specs.Places.{byte, is_space, after_space, digits_end}
+use Rattle.sonic_text.specs.Places.{byte, is_space, after_space}
 use Rattle.sonic_text.specs.Literals.{IsLiteral}
-use Rattle.sonic_text.specs.Numbers.{IsInt, IsFraction, IsE, IsExponent, IsNumber}
+use Rattle.sonic_text.specs.Numbers.{IsNumber}
 use Rattle.sonic_text.proofs.LevelLemmas.{Rises, quiet, stays, chain}
+use Rattle.sonic_text.proofs.NumberBytes.{in_number, number_bytes}
+use Rattle.sonic_text.proofs.Numbers.{number_longer}
 
 -- no quote, no backslash and no bracket
 abbrev pub is_ordinary : ℕ → Bool
@@ -66,46 +67,12 @@ module _ (kind : Kind) (t : List ℕ) (s : ℕ) where
   pub spaces : {p : ℕ} → IsClear t s p → Rises kind t s 0 p (after_space t p)
   spaces h = run is_space (refl, refl, refl, refl, refl, refl) h
 
-  digits : {p : ℕ} → IsClear t s p → Rises kind t s 0 p (digits_end t p)
-  digits h = run is_ascii_digit (refl, refl, refl, refl, refl, refl) h
-
   -- a word
   pub letters : (word : List ℕ) → all_ordinary word ≡ true → {p q : ℕ} → IsClear t s p → IsLiteral word t p q → Rises kind t s 0 p q
   letters word all h l = stretch is_ordinary (refl, refl, refl, refl, refl, refl) (length word) h l.1 (λ k m. ap is_ordinary (l.0.1 k m) ∙ each word all k m)
 
-  -- a byte that may be there
-  optional : (test : ℕ → Bool) → OnlyOrdinary test → {i : ℕ} → IsClear t s i → Rises kind t s 0 i (if test (byte t i) then i + 1 else i)
-  optional test only {i} h = go (test (byte t i)) refl
-    where
-      go : (x : Bool) → test (byte t i) ≡ x → Rises kind t s 0 i (if x then i + 1 else i)
-      go true y = ordinary_byte test only h y
-      go false y = stays t s kind h
-
-  int : {i j : ℕ} → IsClear t s i → IsInt t i j → Rises kind t s 0 i j
-  int h (inl n) = rw n.2 (known_byte 48 (refl, refl, refl, refl, refl, refl) refl h n.0)
-  int h (inr n) = rw n.2 (digits h)
-
-  fraction : {i j : ℕ} → IsClear t s i → IsFraction t i j → Rises kind t s 0 i j
-  fraction h (inl n) =
-      let dot = known_byte 46 (refl, refl, refl, refl, refl, refl) refl h n.0 in
-      rw n.2 (chain t s dot (digits dot.clear))
-  fraction h (inr n) = rw n.1 (stays t s kind h)
-
-  an_e : {i : ℕ} → IsClear t s i → IsE (byte t i) → Rises kind t s 0 i (i + 1)
-  an_e h (inl e) = known_byte 101 (refl, refl, refl, refl, refl, refl) refl h e
-  an_e h (inr e) = known_byte 69 (refl, refl, refl, refl, refl, refl) refl h e
-
-  exponent : {i j : ℕ} → IsClear t s i → IsExponent t i j → Rises kind t s 0 i j
-  exponent h (inl n) =
-      let e = an_e h n.0 in
-      let g = chain t s e (optional (λ b. b == 43 || b == 45) (refl, refl, refl, refl, refl, refl) e.clear) in
-      rw n.2 (chain t s g (digits g.clear))
-  exponent h (inr n) = rw n.1 (stays t s kind h)
-
   -- a number
   pub number_level : {i j : ℕ} → IsClear t s i → IsNumber t i j → Rises kind t s 0 i j
-  number_level h n =
-      let a = optional (λ b. b == 45) (refl, refl, refl, refl, refl, refl) h in
-      let b = chain t s a (int a.clear n.int) in
-      let c = chain t s b (fraction b.clear n.fraction) in
-      chain t s c (exponent c.clear n.exponent)
+  number_level {i} {j} h n =
+      let l = number_longer n in
+      stretch in_number (refl, refl, refl, refl, refl, refl) (j - i) h (omega arith) (λ k m. number_bytes t i j n (i + k) (omega arith) (omega arith))

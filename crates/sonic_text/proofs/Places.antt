@@ -1,16 +1,20 @@
 -- Places of a text: how far white space and digits lead, and where a byte is.
-use Rattle.std.proofs.Common.{◌≡◌, ◌≢◌, ℕ, ◌<◌, ◌≤◌, true, inl, inr, length, arith}
+use Rattle.std.proofs.Common.{◌≡◌, ◌≢◌, ℕ, ◌<◌, ◌≤◌, true, false, inl, inr, length, arith}
 use Rattle.std.proofs.lemmas.Bool.{cases_lt}
 use Rattle.std.proofs.lemmas.Bool.Decides.{nat_tests}
 use Rattle.std.proofs.lemmas.List.{get_or_past}
-use Rattle.std.proofs.lemmas.List.Sums.{prefix_len-drop_yes}
+use Rattle.std.proofs.lemmas.List.Sums.{prefix_len-drop_yes, prefix_len-drop_no}
 use Rattle.std.specs.Prelude.{List}
 use Rattle.std.specs.Char.{is_ascii_digit}
-use Rattle.sonic_text.specs.Places.{byte, after_space, digits_end, IsDigit}
+use Rattle.sonic_text.specs.Places.{byte, is_space, after_space, digits_end, IsDigit}
 
 -- white space leads on
 pub after_space_later : (t : List ℕ) (i : ℕ) → i ≤ after_space t i
 after_space_later t i = omega arith
+
+-- another byte is where it is
+pub space_stays : (t : List ℕ) (i : ℕ) → i < length t → is_space (byte t i) ≡ false → after_space t i ≡ i
+space_stays t i l e = omega (arith, prefix_len-drop_no is_space t i 0 l e)
 
 -- after the end the byte is 0
 pub byte_after : (t : List ℕ) (p : ℕ) → length t ≤ p → byte t p ≡ 0

@@ -1,4 +1,4 @@
--- A text that holds the bytes of another one from a place on: strings that end there are in both, and so are wrong bytes of escapes.
+-- A text that holds bytes of another one: strings that end there are in both, and so are wrong bytes of escapes.
 use Rattle.std.proofs.Common.{◌≡◌, ◌≢◌, ◌⊎◌, ◌∙◌, ℕ, ◌+◌, ◌-◌, ◌<◌, ◌≤◌, Bool, inl, inr, List, arith, refl, sym}
 use Rattle.std.proofs.lemmas.Bool.{cases_lt}
 use Rattle.std.proofs.lemmas.Bool.Decides.{nat_tests}
@@ -57,24 +57,24 @@ record IsPaired (m : Bool) (t u : List ℕ) (j x k : ℕ) : Type 0 where
   low : IsLowEscape u k
   alone : ¬ IsLowEscape t j
 
-module _ {t u : List ℕ} {d k : ℕ} (h : Shared t u d k) where
+module _ {t u : List ℕ} {d added k : ℕ} (h : Shared t u d added k) where
   -- an escape
-  pub escape_same : (p x n : ℕ) → p ≡ d + x → x + 6 ≤ k → IsEscape t p n → IsEscape u x n
+  pub escape_same : (p x n : ℕ) → p + added ≡ d + x → x + 6 ≤ k → IsEscape t p n → IsEscape u x n
   escape_same p x n a l e = escape_as t p u x n (λ y z i s f g. h.bytes y z (omega arith) (omega arith)) e
 
   -- an escape of u is one of t
-  pub escape_back : (p x n : ℕ) → p ≡ d + x → x + 6 ≤ k → IsEscape u x n → IsEscape t p n
+  pub escape_back : (p x n : ℕ) → p + added ≡ d + x → x + 6 ≤ k → IsEscape u x n → IsEscape t p n
   escape_back p x n a l e = escape_as u x t p n (λ z y i s f g. sym (h.bytes y z (omega arith) (omega arith))) e
 
   -- where a whole char of t is, there is no new second half
-  low_before : {m : Bool} {p j : ℕ} {c : List ℕ} (x : ℕ) → p ≡ d + x → j ≡ d + k → IsChar m t p j c → NoNewLow m t u p x
+  low_before : {m : Bool} {p j : ℕ} {c : List ℕ} (x : ℕ) → p + added ≡ d + x → j + added ≡ d + k → IsChar m t p j c → NoNewLow m t u p x
   low_before {p = p} x a s (unescaped g e f) r z = absurd (g.2 (sym (h.bytes p x a (omega arith)) ∙ z.1.0))
   low_before {p = p} x a s (short_escape g o e f) r z =
       absurd ((escaped_letter _ _ o).1 (sym (h.bytes (p + 1) (x + 1) (omega arith) (omega arith)) ∙ z.1.1))
   low_before {p = p} x a s (unicode_escape g o) r z = (z.0, escape_back p x z.0 a (omega (arith, unicode_longer o)) z.1, z.2)
 
   -- an escape's char
-  unicode_same : {m : Bool} {p n x j : ℕ} {b : List ℕ} → p ≡ d + x → j ≡ d + k → IsEscape t p n → IsUnicodeChar m t p n j b
+  unicode_same : {m : Bool} {p n x j : ℕ} {b : List ℕ} → p + added ≡ d + x → j + added ≡ d + k → IsEscape t p n → IsUnicodeChar m t p n j b
       → IsChar m u x k b ⊎ IsPaired m t u j x k
   unicode_same {p = p} {n} {x} a s y (scalar g f e o) = inl (unicode_escape (escape_same p x n a (omega arith) y) (scalar g f (omega arith) o))
   unicode_same {p = p} {n} {x} a s y (pair {l = w} g z f e o) =
@@ -89,7 +89,7 @@ module _ {t u : List ℕ} {d k : ℕ} (h : Shared t u d k) where
   unicode_same {p = p} {n} {x} a s y (lone_low r g e o) = inl (unicode_escape (escape_same p x n a (omega arith) y) (lone_low r g (omega arith) o))
 
   -- a char, or the first half of a pair
-  char_or_pair : {m : Bool} {p x j : ℕ} {b : List ℕ} → p ≡ d + x → j ≡ d + k → IsChar m t p j b → IsChar m u x k b ⊎ IsPaired m t u j x k
+  char_or_pair : {m : Bool} {p x j : ℕ} {b : List ℕ} → p + added ≡ d + x → j + added ≡ d + k → IsChar m t p j b → IsChar m u x k b ⊎ IsPaired m t u j x k
   char_or_pair {p = p} {x} a s (unescaped g e o) =
       let b : byte u x ≡ byte t p = h.bytes p x a (omega arith) in
       inl (unescaped (rw b g) (omega arith) (rw b o))
@@ -99,18 +99,19 @@ module _ {t u : List ℕ} {d k : ℕ} (h : Shared t u d k) where
   char_or_pair a s (unicode_escape g o) = unicode_same a s g o
 
   -- a char
-  pub char_same : {m : Bool} {p x j : ℕ} {b : List ℕ} → p ≡ d + x → j ≡ d + k → NoNewLow m t u j k → IsChar m t p j b → IsChar m u x k b
+  pub char_same : {m : Bool} {p x j : ℕ} {b : List ℕ} → p + added ≡ d + x → j + added ≡ d + k → NoNewLow m t u j k → IsChar m t p j b → IsChar m u x k b
   char_same a s low c = elim (char_or_pair a s c) [ inl y ↦ y | inr g ↦ absurd (g.alone (low g.reads g.low)) ]
 
 -- chars
-pub chars_same : {m : Bool} {t u : List ℕ} {d i x j k : ℕ} {b : List ℕ} → Shared t u d k → i ≡ d + x → j ≡ d + k → NoNewLow m t u j k → AreChars m t i j b
+pub chars_same : {m : Bool} {t u : List ℕ} {d added i x j k : ℕ} {b : List ℕ} → Shared t u d added k → i + added ≡ d + x → j + added ≡ d + k → NoNewLow m t u j k → AreChars m t i j b
     → AreChars m u x k b
 chars_same h a s low (no_char e o) = no_char (omega arith) o
-chars_same {d = d} h a s low (one_more {p = p} us c o) =
+chars_same {d = d} {added} h a s low (one_more {p = p} us c o) =
     let n = chars_later us in
     let l = char_longer c in
-    let e : p ≡ d + (p - d) = omega arith in
-    one_more (chars_same (same_less (p - d) h (omega arith)) a e (low_before h (p - d) e s c) us) (char_same h e s low c) o
+    let q = p + added - d in
+    let e : p + added ≡ d + q = omega arith in
+    one_more (chars_same (same_less q h (omega arith)) a e (low_before h q e s c) us) (char_same h e s low c) o
 
 -- chars, and one more that is in u after them
 pub chars_then : {m : Bool} {t u : List ℕ} {i k q : ℕ} {b c : List ℕ} → Same t u k → AreChars m t i k b → IsChar m u k q c → (d : List ℕ) × AreChars m u i q d
@@ -129,12 +130,12 @@ chars_then {m} {t} {u} {i} {k} {q} h (one_more {p = p} {b = b} us v o) c =
     ]
 
 -- a string
-pub string_same : {m : Bool} {t u : List ℕ} {d i x j k : ℕ} {b : List ℕ} → Shared t u d k → i ≡ d + x → j ≡ d + k → IsString m t i j b → IsString m u x k b
-string_same {m} {t} {u} {d} {i} {x} h a s g =
+pub string_same : {m : Bool} {t u : List ℕ} {d added i x j k : ℕ} {b : List ℕ} → Shared t u d added k → i + added ≡ d + x → j + added ≡ d + k → IsString m t i j b → IsString m u x k b
+string_same {m} {t} {u} {d} {added} {i} {x} h a s g =
     let l = chars_later g.chars in
     let e = g.end in
-    let z = g.close - d in
-    let f : g.close ≡ d + z = omega arith in
+    let z = g.close + added - d in
+    let f : g.close + added ≡ d + z = omega arith in
     let c : byte u z ≡ 34 = h.bytes g.close z f (omega arith) ∙ g.closes in
     record {
       close = z;

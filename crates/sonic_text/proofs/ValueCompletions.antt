@@ -1,49 +1,29 @@
 -- A value that isn't there because the text ends is completed by some more bytes.
-use Rattle.std.proofs.Common.{◌≡◌, ◌≢◌, ◌∙◌, ℕ, ◌+◌, ◌≤◌, Bool, true, false, List, [], ◌∷◌, ◌++◌, length, append-nil, arith, refl}
-use Rattle.std.proofs.lemmas.Bool.Decides.{nat_tests}
+use Rattle.std.proofs.Common.{◌≡◌, ◌≢◌, ◌∙◌, ℕ, ◌+◌, ◌≤◌, Bool, List, [], ◌∷◌, ◌++◌, length, append-nil, arith, refl}
 use Rattle.std.proofs.lemmas.List.Sums.{prefix_len-drop_all}
 use Rattle.std.specs.Prelude.{Option}
 use Rattle.sonic_error.specs.declared.code.ErrorCode.{ErrorCode}
 use Rattle.sonic_error.specs.declared.code.ErrorCode.TheVariants.{EofWhileParsing}
 use Rattle.sonic_text.specs.declared.kind.Kind.{Kind}
-use Rattle.sonic_text.specs.declared.kind.Kind.TheVariants.{Array, Object}
+use Rattle.sonic_text.specs.declared.kind.Kind.TheVariants.{Object}
 use Rattle.sonic_text.specs.declared.stop.Stop.{Stop}
 use Rattle.sonic_text.specs.Places.{byte, after_space, bad, is_space}
 use Rattle.sonic_text.specs.Strings.{IsString}
 use Rattle.sonic_text.specs.Values.{closing, IsKey, ItemHead, IsValue, ItemsFit}
 use Rattle.sonic_text.specs.Values.ItemHead.{key_head}
 use Rattle.sonic_text.specs.Values.IsValue.{null_literal, true_literal, false_literal, number, string, filled}
-use Rattle.sonic_text.specs.Faults.{BeginsNone, IsKeyFault, IsFault}
+use Rattle.sonic_text.specs.Faults.{IsKeyFault, IsFault}
 use Rattle.sonic_text.specs.Faults.IsKeyFault.{no_quote, key_fault, no_colon}
 use Rattle.sonic_text.specs.Faults.IsFault.{no_value, null_fault, true_fault, false_fault, number_fault, string_fault, in_key, in_value, after_item}
+use Rattle.sonic_text.proofs.Items.{closing_no_space}
 use Rattle.sonic_text.proofs.Places.{after_space_later}
 use Rattle.sonic_text.proofs.Stops.{bad_end, after_known}
-use Rattle.sonic_text.proofs.Values.{value-longer, space_begins_none, value_never_both}
+use Rattle.sonic_text.proofs.Values.{value-longer, value_never_both}
 use Rattle.sonic_text.proofs.Within.{after_space_within, value_within, items_within, head_within}
-use Rattle.sonic_text.proofs.Same.{same_less, same_longer, same_whole, NoMore, NoSpace, agree_at, agree_other, up_to, space_same}
+use Rattle.sonic_text.proofs.Same.{same_less, same_longer, same_whole, closing_ends, agree_at, agree_other, up_to, space_same}
 use Rattle.sonic_text.proofs.SameStrings.{string_same}
-use Rattle.sonic_text.proofs.SameValues.{StartsItem, value_same, items_same, item_same}
+use Rattle.sonic_text.proofs.SameValues.{value_starts_item, value_same, items_same, item_same}
 use Rattle.sonic_text.proofs.Completions.{Completes, complete_more, complete_as, pushed, pushed_length, StringFrom, quotes, string_completes, number_completes, literal_completes}
-
--- no value begins with a closing bracket
-closing_begins_none : (kind : Kind) (b : ℕ) → b ≡ closing kind → BeginsNone b
-closing_begins_none Array b e = grind (arith, nat_tests)
-closing_begins_none Object b e = grind (arith, nat_tests)
-
-no_space : (is : Bool) (b : ℕ) → is_space b ≡ is → ¬ BeginsNone b → NoSpace b
-no_space true b e n = absurd (n (space_begins_none b e))
-no_space false b e n = e
-
--- a value begins as an item may
-value_starts_item : {m : Bool} {t : List ℕ} {i j : ℕ} → IsValue m t i j → StartsItem (byte t i)
-value_starts_item {t = t} {i} x =
-    let some : ¬ BeginsNone (byte t i) = λ z. value_never_both x (no_value z refl) in
-    (no_space (is_space (byte t i)) (byte t i) refl some, λ kind e. some (closing_begins_none kind (byte t i) e))
-
--- a closing bracket ends a number, and white space
-closing_ends : (kind : Kind) (b : ℕ) → b ≡ closing kind → NoMore b × NoSpace b
-closing_ends Array b e = (((λ z. omega arith), (λ z. omega arith), (λ z. grind arith)), rw e refl)
-closing_ends Object b e = (((λ z. omega arith), (λ z. omega arith), (λ z. grind arith)), rw e refl)
 
 -- at the end no white space follows
 end_space : (t : List ℕ) → length t ≡ after_space t (length t)
@@ -66,12 +46,11 @@ close_item {m} {t} {kind} {v = v} {e} is y x q =
     let n = length t in
     let s = same_whole t (bracket ∷ []) in
     let b : byte u n ≡ bracket = pushed t bracket n refl in
-    let (no_more, none) = closing_ends kind (byte u n) b in
     let l = value-longer x in
     let o = after_space_later t e in
-    let w : IsValue m u v e = value_same (up_to (agree_other s no_more) e e (omega arith) (omega arith)) (omega arith) x in
+    let w : IsValue m u v e = value_same (up_to (agree_other s (rw b (closing_ends kind))) e e (omega arith) (omega arith)) (omega arith) x in
     let (fs, z) = item_same (agree_at s v v (omega arith) (omega arith)) is y in
-    let f : n ≡ after_space u e = space_same e e (omega arith) (agree_other s none) q in
+    let f : n ≡ after_space u e = space_same e e (omega arith) (agree_other s (rw b (closing_no_space kind))) q in
     let g : byte u (after_space u e) ≡ bracket = rw f at b in
     record { missing = bracket ∷ []; complete = filled fs z w g (pushed_length t bracket ∙ rw f refl) }
 

@@ -1,6 +1,5 @@
 -- A value in a text is in each part of it that holds it, and so is a string with a backslash.
-use Rattle.std.proofs.Common.{◌≡◌, ◌∙◌, ◌↔◌, inl, inr, ℕ, ◌+◌, ◌-◌, ◌<◌, ◌≤◌, Bool, List, length, arith, refl, sym}
-use Rattle.std.proofs.lemmas.Bool.{cases_lt}
+use Rattle.std.proofs.Common.{◌≡◌, ◌∙◌, ◌↔◌, ℕ, ◌+◌, ◌-◌, ◌<◌, ◌≤◌, Bool, List, length, arith, refl, sym}
 use Rattle.std.specs.Prelude.{slice_range}
 use Rattle.sonic_text.specs.Places.{byte}
 use Rattle.sonic_text.specs.Numbers.{IsNumber}
@@ -12,23 +11,21 @@ use Rattle.sonic_text.proofs.Numbers.{number_longer}
 use Rattle.sonic_text.proofs.Places.{byte_after}
 use Rattle.sonic_text.proofs.Values.{value-longer}
 use Rattle.sonic_text.proofs.Parts.{IsPart, part_is, part_length}
-use Rattle.sonic_text.proofs.Same.{Agrees, NoMore, agree_at, same_less, number_same}
+use Rattle.sonic_text.proofs.Same.{Agrees, EndsNumber, ends_number, agree_end, up_to, number_same}
 use Rattle.sonic_text.proofs.SameValues.{StartsItem, value_same}
 use Rattle.sonic_text.proofs.Within.{value_within}
 
 -- up to each place of a part the two agree, where the end of the text is such a byte
-part_agrees : {P : ℕ → Type 0} {t u : List ℕ} {d j k : ℕ} → P 0 → IsPart t u d → j ≡ d + k → k ≤ length u → Agrees P t u d j k
-part_agrees {u = u} {j = j} {k} z part e l = elim (cases_lt k (length u)) [
-  | inl o ↦ agree_at part j k e o
-  | inr o ↦ record { place = e; before = same_less k part l; next = inr (rw (byte_after u k o) z) }
-]
+part_agrees : {P : ℕ → Type 0} {t u : List ℕ} {d j k : ℕ} → P 0 → IsPart t u d → j ≡ d + k → k ≤ length u → Agrees P t u d 0 j k
+part_agrees {u = u} {d} {j} {k} z part e l =
+    up_to (agree_end (d + length u) (omega arith) part (rw (byte_after u (length u) (omega arith)) z)) j k (omega arith) (omega arith)
 
 -- as it ends a number
-pub number_agrees : {t u : List ℕ} {d j k : ℕ} → IsPart t u d → j ≡ d + k → k ≤ length u → Agrees NoMore t u d j k
-number_agrees = part_agrees ((λ z. omega arith), (λ z. omega arith), (λ z. grind arith))
+pub number_agrees : {t u : List ℕ} {d j k : ℕ} → IsPart t u d → j ≡ d + k → k ≤ length u → Agrees EndsNumber t u d 0 j k
+number_agrees = part_agrees (ends_number 0 refl)
 
 -- and is no byte that an item never begins with
-pub item_agrees : {t u : List ℕ} {d j k : ℕ} → IsPart t u d → j ≡ d + k → k ≤ length u → Agrees StartsItem t u d j k
+pub item_agrees : {t u : List ℕ} {d j k : ℕ} → IsPart t u d → j ≡ d + k → k ≤ length u → Agrees StartsItem t u d 0 j k
 item_agrees = part_agrees (refl, λ kind e. closing_not_end kind (sym e))
 
 -- a value is in its own text, from the beginning to the end
@@ -55,5 +52,5 @@ escaped_of_part t i j l m =
     let part = part_is t i j (omega arith) m in
     let b : byte u 0 ≡ byte t i = part.bytes i 0 (omega arith) (omega arith) in (
       (λ h. (b ∙ h.0, h.1 - i, omega (arith, h.2), omega (arith, h.2, h.3), part.bytes h.1 (h.1 - i) (omega (arith, h.2)) (omega (arith, h.2, h.3)) ∙ h.4)),
-      (λ h. (sym b ∙ h.0, i + h.1, omega (arith, h.2), omega (arith, h.3), sym (part.bytes (i + h.1) h.1 refl (omega (arith, h.3))) ∙ h.4)),
+      (λ h. (sym b ∙ h.0, i + h.1, omega (arith, h.2), omega (arith, h.3), sym (part.bytes (i + h.1) h.1 (omega arith) (omega (arith, h.3))) ∙ h.4)),
     )

@@ -3,7 +3,6 @@ use Rattle.std.proofs.Common.{◌≡◌, ◌≢◌, ℕ, zero, suc, ◌+◌, ◌
 use Rattle.std.proofs.Common.{Result, Ok, Err, MatchResult}
 use Rattle.std.proofs.lemmas.Bool.{cases_order}
 use Rattle.std.proofs.lemmas.Bool.Decides.{nat_tests}
-use Rattle.std.proofs.lemmas.List.Sums.{prefix_len-drop_no}
 use Rattle.std.specs.Prelude.{Bool, true, false, List, Option}
 use Rattle.sonic_error.specs.declared.code.ErrorCode.TheVariants.{InvalidJsonValue}
 use Rattle.sonic_text.specs.declared.kind.Kind.{Kind}
@@ -19,7 +18,7 @@ use Rattle.sonic_text.specs.Faults.{BeginsNone, IsFault}
 use Rattle.sonic_text.specs.Faults.IsFault.{no_value, null_fault, true_fault, false_fault, number_fault, string_fault, in_key, in_value, after_item}
 use Rattle.sonic_text.proofs.FirstByteLemmas.{Sort, none, a_null, a_true, a_false, a_number, a_string, a_container, Begins, begins_one}
 use Rattle.sonic_text.proofs.Items.{Outcome, OneAt, OneAfter, LastItem, at_key, at_value, last_one, last_no_comma, opening_not_end, opening_one}
-use Rattle.sonic_text.proofs.Places.{after_space_later, byte_within}
+use Rattle.sonic_text.proofs.Places.{after_space_later, byte_within, space_stays}
 use Rattle.sonic_text.proofs.LiteralLemmas.{literal_never_both, literal_fault_one}
 use Rattle.sonic_text.proofs.Numbers.{match_one, number_longer, number_begins, number_outcome_one}
 use Rattle.sonic_text.proofs.Strings.{string_longer, string_one, string_never_both, string_fault_one}
@@ -232,13 +231,14 @@ items_one {m} {t} is fs = items_same (λ v l. outcome_one m t v) refl is fs
 pub space_begins_none : (b : ℕ) → is_space b ≡ true → BeginsNone b
 space_begins_none b e = grind (arith, nat_tests)
 
--- so where a value begins there is none, as the test says
-starts_by_test : {m : Bool} {t : List ℕ} {i j : ℕ} (is : Bool) → is_space (byte t i) ≡ is → IsValue m t i j → after_space t i ≡ i
-starts_by_test {t = t} {i} true e x = absurd (value_never_both x (no_value (space_begins_none (byte t i) e) refl))
-starts_by_test {t = t} {i} false e x =
-    let first = prefix_len-drop_no is_space t i 0 (omega (arith, value-longer x, value_within x)) e in
-    omega arith
+-- so a value begins with another byte
+no_space : (is : Bool) (b : ℕ) → is_space b ≡ is → ¬ BeginsNone b → is_space b ≡ false
+no_space true b e n = absurd (n (space_begins_none b e))
+no_space false b e n = e
 
--- no white space leads on from the place where a value begins
+pub value_no_space : {m : Bool} {t : List ℕ} {i j : ℕ} → IsValue m t i j → is_space (byte t i) ≡ false
+value_no_space {t = t} {i} x = no_space (is_space (byte t i)) (byte t i) refl (λ z. value_never_both x (no_value z refl))
+
+-- and no white space leads on from there
 pub value_starts : {m : Bool} {t : List ℕ} {i j : ℕ} → IsValue m t i j → after_space t i ≡ i
-value_starts {t = t} {i} x = starts_by_test (is_space (byte t i)) refl x
+value_starts {t = t} {i} x = space_stays t i (omega (arith, value-longer x, value_within x)) (value_no_space x)
