@@ -1,5 +1,5 @@
 -- The bytes of a number are no white space, no control bytes and no brackets, commas or colons.
-use Rattle.std.proofs.Common.{◌≡◌, ℕ, ◌<◌, ◌≤◌, true, false, List, arith, refl}
+use Rattle.std.proofs.Common.{◌≡◌, ℕ, ◌<◌, ◌≤◌, true, false, List, arith}
 use Rattle.std.proofs.lemmas.Bool.Decides.{nat_tests}
 use Rattle.sonic_text.proofs.NumberBytes as numbers
 use Rattle.sonic_text.proofs.NumberBytes.{in_number}
