@@ -42,7 +42,7 @@ COMMANDS = {
 # The calls of refused_calls.txt, by the words that ask for them.
 CALLS = """
 FastStr::new FastStr::clone FastStr::slice RawNumber::from_str validate get get_many get_many_with
-find_many find_many_in find_many_by fill_room append_rows Rows::feed Rows::finish
+find_many find_many_by fill_room append_rows Rows::feed Rows::finish
 LazyValue::as_str LazyValue::as_raw_faststr ObjectJsonIter::next ArrayJsonIter::next skip_one
 Descent::value JsonIndex::build minify indent OwnedLazyValue::from_str OwnedLazyValue::from_lazy
 OwnedLazyValue::clone OwnedLazyValue::to_string OwnedLazyValue::fmt LazyArray::fmt LazyObject::fmt load get_mut pointer_mut as_object_mut with_mut edit

@@ -44,7 +44,7 @@ pub use law::{
 };
 pub use many_unchecked::{find_many_unchecked, value_span};
 pub use path::{locate, locate_from};
-pub use room::{Room, fill_room, find_many_by, find_many_in};
+pub use room::{Room, fill_room, find_many_by};
 pub use span::Span;
 pub use steps::Steps;
 pub use utf8::check;

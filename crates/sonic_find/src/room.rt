@@ -4,8 +4,8 @@ ghost use Rattle.sonic_error.specs.Errors.{IsPlainError};
 ghost use Rattle.sonic_text.specs.Strings.{strict};
 ghost use Rattle.sonic_parser.specs.Faults.{IsStopFor};
 ghost use Rattle.sonic_parser.specs.Honest.{IsHonest};
-ghost use Rattle.sonic_find.specs.Answers.{IsAnswer, IsAnswerBy, Answer};
-ghost use Rattle.sonic_find.specs.Causes.{IsAnswerable, IsAnswerableBy, IsRefusal, IsRefusalBy};
+ghost use Rattle.sonic_find.specs.Answers.{IsAnswerBy, Answer};
+ghost use Rattle.sonic_find.specs.Causes.{IsAnswerableBy, IsRefusalBy};
 ghost use Rattle.sonic_find.specs.Found.{slot_at};
 ghost use Rattle.sonic_find.specs.Parts.{AreSpans};
 ghost use Rattle.sonic_find.specs.Spans.{pairs_of};
@@ -63,7 +63,7 @@ impl Room {
 
     /// What the path with this number, from 0, found in the last walk.
     ///
-    /// After `find_many_in` with the paths `["a", 1]` and `["z"]` over `{"a":[1,2]}` it is the span from
+    /// After `find_many_by` with the paths `["a", 1]` and `["z"]` over `{"a":[1,2]}` it is the span from
     /// 8 to 9 of the number 0, and `None` of 1.
     #[inline]
     pub fn at(&self, number: usize) -> Option<Span>
@@ -74,33 +74,11 @@ impl Room {
     }
 }
 
-/// The spans of the values to which the paths of a tree lead in an input, in room that is used again.
+/// The spans of the values to which the paths of a tree lead in an input under a rule for equal keys,
+/// in room that is used again.
 ///
-/// It is what [`find_many`](crate::find_many) answers, with its errors: after an error, the room holds
-/// no slot. Nothing of what the last walk found is left. Of the first of equal keys alone is a member
-/// followed, as by `find_many`.
-///
-/// With the paths `["a", 1]` and `["z"]` over `{"a":[1,2]}` the room holds the span from 8 to 9 and
-/// `None`.
-pub fn find_many_in<'de, I: JsonInput<'de>>(
-    alloc: Global,
-    room: &mut Room,
-    json: I,
-    tree: &PointerTree,
-) -> Result<(), Error>
-    ensures ok { OnOk result (IsAnswer (I.JsonInput.content json) I.JsonInput.is_bytes tree.now
-        (Answer.spans (pairs_of room.new))) }
-    ensures parts { OnOk result (AreSpans (I.JsonInput.content json) room.new) }
-    ensures err { IfErr result (IsRefusal (I.JsonInput.content json) I.JsonInput.is_bytes tree.now) }
-    ensures cleared { OnErr result (room.new ≡ []) }
-    ensures complete { IsAnswerable (I.JsonInput.content json) I.JsonInput.is_bytes tree.now
-        → IfErr result (λ error. IsPlainError error ErrorCode.NoMemory) }
-    ensures honest { IfErr result (IsHonest strict (I.JsonInput.content json) 0) }
-{
-    find_many_by(alloc, room, json, tree, KeyRule::First)
-}
-
-/// The same under a rule for equal keys.
+/// With `KeyRule::First` it is what [`find_many`](crate::find_many) answers, with its errors: after an
+/// error, the room holds no slot. Nothing of what the last walk found is left.
 ///
 /// With the path `["a"]` over `{"a":1,"a":2}` the room holds the span from 5 to 6 by `First`, and that
 /// from 11 to 12 by `Last`.
@@ -121,40 +99,19 @@ pub fn find_many_by<'de, I: JsonInput<'de>>(
     ensures honest { IfErr result (IsHonest strict (I.JsonInput.content json) 0) }
 {
     let text = json.to_u8_slice();
-    match fill_by(alloc, room, json, tree, rule) {
+    match fill_room(alloc, room, json, tree, rule) {
         Ok(()) => Ok(()),
         Err(fault) => Err(fault.error(text)),
     }
 }
 
-/// What [`find_many_in`] finds, or the place and the code of its error, for whom these suffice: neither
+/// What [`find_many_by`] finds, or the place and the code of its error, for whom these suffice: neither
 /// line nor column is counted. At the end of the input the place is its length.
 ///
 /// With the path `["a"]` over `{"a":tru}` it is `Fault::At` 8, with `ErrorCode::InvalidLiteral`, and
 /// over `{"a":` it is `Fault::At` 5, with `ErrorCode::EofWhileParsing`.
 #[inline(always)]
 pub fn fill_room<'de, I: JsonInput<'de>>(
-    alloc: Global,
-    room: &mut Room,
-    json: I,
-    tree: &PointerTree,
-) -> Result<(), Fault>
-    ensures ok { OnOk result (IsAnswer (I.JsonInput.content json) I.JsonInput.is_bytes tree.now
-        (Answer.spans (pairs_of room.new))) }
-    ensures parts { OnOk result (AreSpans (I.JsonInput.content json) room.new) }
-    ensures err { IfErr result (IsStopFor (λ s. IsAnswer (I.JsonInput.content json) I.JsonInput.is_bytes
-        tree.now (Answer.error s))) }
-    ensures within { IfErr result (IsStopFor (λ s. s.place ≤ length (I.JsonInput.content json))) }
-    ensures cleared { OnErr result (room.new ≡ []) }
-    ensures complete { IsAnswerable (I.JsonInput.content json) I.JsonInput.is_bytes tree.now
-        → IfErr result (λ fault. fault ≡ Fault.OutOfMemory) }
-{
-    fill_by(alloc, room, json, tree, KeyRule::First)
-}
-
-// The same under a rule for equal keys.
-#[inline(always)]
-fn fill_by<'de, I: JsonInput<'de>>(
     alloc: Global,
     room: &mut Room,
     json: I,

@@ -3,7 +3,7 @@
 use crate::lookups::{ANSWERED, Paths, REFUSED, tree_of};
 use crate::same::{same, same_at};
 use sonic_error::{ErrorCode, JsonType, Note, Wanted};
-use sonic_find::{Room, Span, fill_room, find_many, find_many_by, find_many_in};
+use sonic_find::{Room, Span, fill_room, find_many, find_many_by};
 use sonic_parser::Fault;
 use sonic_pointer::PointerNode::{Index, Key};
 use sonic_pointer::{KeyRule, PointerTree};
@@ -71,7 +71,10 @@ fn serves_lines_one_after_the_other(rt: HostRuntime) {
     let mut room = Room::new(alloc);
     check_slots(&rt, &room, &[]);
     for &(line, wanted) in &LINES {
-        match (find_many_in(alloc, &mut room, line, &tree), wanted) {
+        match (
+            find_many_by(alloc, &mut room, line, &tree, KeyRule::First),
+            wanted,
+        ) {
             (Ok(()), Ok(spans)) => check_slots(&rt, &room, &spans),
             (Err(error), Err((code, offset))) => {
                 same_at(&rt, error.code(), code, line);
@@ -99,7 +102,7 @@ fn fills_a_room_or_tells_the_fault(rt: HostRuntime) {
     let tree = tree_of(&rt, alloc, PATHS);
     let mut room = Room::new(alloc);
     for &(line, wanted) in &LINES {
-        let filled = fill_room(alloc, &mut room, line, &tree);
+        let filled = fill_room(alloc, &mut room, line, &tree, KeyRule::First);
         same_at(&rt, filled.is_ok(), wanted.is_ok(), line);
         match wanted {
             Ok(spans) => check_slots(&rt, &room, &spans),
@@ -107,7 +110,7 @@ fn fills_a_room_or_tells_the_fault(rt: HostRuntime) {
         }
     }
     for &(line, place, code) in &FAULTS {
-        let filled = fill_room(alloc, &mut room, line, &tree);
+        let filled = fill_room(alloc, &mut room, line, &tree, KeyRule::First);
         same_at(&rt, filled, Err(Fault::At(Stop { place, code })), line);
         check_slots(&rt, &room, &[]);
     }
@@ -194,7 +197,10 @@ fn compare(
     let tree = tree_of(rt, alloc, paths);
     let mut slots = vec![in alloc; None; tree.size()]?;
     let found = find_many(alloc, text, &tree, &mut slots);
-    match (find_many_in(alloc, room, text, &tree), found) {
+    match (
+        find_many_by(alloc, room, text, &tree, KeyRule::First),
+        found,
+    ) {
         (Ok(()), Ok(())) => check_slots(rt, room, &slots),
         (Err(error), Err(other)) => {
             same(rt, error.code(), other.code());
@@ -247,7 +253,7 @@ fn finds_few_children_and_many(rt: HostRuntime) -> Result<(), Fail> {
         }
         same_at(
             &rt,
-            find_many_in(alloc, &mut room, text.as_str(), &tree).is_ok(),
+            find_many_by(alloc, &mut room, text.as_str(), &tree, KeyRule::First).is_ok(),
             true,
             count,
         );

@@ -17,7 +17,7 @@ use memchr::memchr;
 use sonic_error::{Error, ErrorCode};
 use sonic_find::{Room, Span, fill_room};
 use sonic_parser::Fault;
-use sonic_pointer::PointerTree;
+use sonic_pointer::{KeyRule, PointerTree};
 use sonic_text::skip_space;
 use std::alloc::{AllocError, Global};
 
@@ -145,7 +145,7 @@ fn find_in_line(
     }
     // SAFETY: the line is UTF-8, as it says.
     let text = unsafe { std::str::from_utf8_unchecked(line.text) };
-    fill_room(alloc, room, text, tree)
+    fill_room(alloc, room, text, tree, KeyRule::First)
 }
 
 // The same in a line that may be no UTF-8, out of line.
@@ -161,7 +161,7 @@ fn find_in_bytes(
     ensures err { IfErr result (IsStopFor (λ s. IsAnswer text.now true tree.now (Answer.error s))) }
     ensures within { IfErr result (IsStopFor (λ s. s.place ≤ length text.now)) }
 {
-    fill_room(alloc, room, text, tree)
+    fill_room(alloc, room, text, tree, KeyRule::First)
 }
 
 // Appends the row of one line: whether it is an error. After running out of memory a part of it may

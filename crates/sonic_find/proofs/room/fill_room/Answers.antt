@@ -1,6 +1,6 @@
 use Rattle.std.proofs.lemmas.Result.{on_ok_weaker}
 use Rattle.sonic_find.proofs.FindingLemmas.{slots_say, slots_are_parts}
-use Rattle.sonic_find.proofs.room.fill_by.Goals as goal
+use Rattle.sonic_find.proofs.room.fill_room.Goals as goal
 
 pub returns-clause-ok : goal.returns-clause-ok
 returns-clause-ok g c = rw (slots_say c.locate_in.new.memory.found.items) c.locate_in.ensures.ok
