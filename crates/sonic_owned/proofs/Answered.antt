@@ -1,26 +1,43 @@
--- What is lent, and the answer that says so, as types. Assumes `Logic`.
-use Rattle.std.proofs.Common.{[], ◌∷◌, Result, MutBor}
+-- What is lent, and the answer that says so, as types, and the call that makes it. Assumes `Logic`.
+use Rattle.std.proofs.Common.{List, [], ◌∷◌, Result, MutBor}
 use Rattle.std.specs.contracts.option.Option as OP
 use Rattle.std.specs.contracts.result.Result as RS
 use Rattle.sonic_error.proofs.error.Error.TheLaws.{the_row_laws as error_laws}
 use Rattle.sonic_error.specs.contracts.error.Error.{the_row as ErrorRow}
 use Rattle.sonic_owned.proofs.value.lend.Stop.TheLaws.{the_row_laws as stop_laws}
+use Rattle.sonic_owned.specs.Internal.Lends.{IsLoanAnswer}
 use Rattle.sonic_owned.specs.Lends.{LoanAnswer}
 use Rattle.sonic_owned.specs.contracts.value.lend.Stop.{the_row as StopRow}
+use Rattle.sonic_owned.specs.contracts.value.lend.found_or_error as h
 use Rattle.sonic_owned.specs.declared.value.lend.Stop.{Stop}
-use base.Fml.{Lft}
+use base.Fml.{Lft, Share, ftrue, flft}
+use base.Fraction.{full_share}
+use base.Logic.{emp, id⊢}
+use contract.BorrowLft.{◌⊑◌, ⊑_static}
+use contract.Monad.{fact, fact_i}
+use contract.Running.{Running, tables}
 use denote.Enum.Declared.{Declared, shape}
 use denote.Enum.Enum.{Enum, Enum-Lawful}
-use denote.Laws.{Is, Lawful}
-use denote.Param.{layout}
+use denote.Laws.{shows, Is, Lawful}
+use denote.Param.{layout, param}
 use denote.RattleType.{RattleType}
 use denote.Ref.{MutRef, mut_Lawful}
+use denote.Steps.{nothing, peeks, heard}
 use denote.Struct.Recorded.{recorded_lawful}
+use denote.Triple.Call.{calls_at}
+use denote.Triple.Clauses.{lasts, Lasts}
+use denote.Triple.Spec.{triple_of, Meets}
+use denote.Triple.Statement.{Contract}
+use denote.Triple.Table.{framed}
 use lib.Dec.{T}
-use mir.Syntax.{named}
+use mir.Syntax.{Body, Callee, Opd, Place, named, seq, call}
 use mir.Val.{Val, has_ty, WT}
+use prog.Model.{Model}
+use prog.Wp.{Env, Calls, Loops}
 use seplogic.Ra.Ura.{Ura}
+use types.Kit.{Item, Post, Seq, ‵, raw, ◌⊛◌, some, later, runs, lands, ◌$◌, move, drop, use0, use1, use2, split, join, pick, await}
 use types.Logic.{Logic}
+use types.Run.{Opds}
 
 module _ (κ : Lft) (S : RattleType) where
   abbrev Part : RattleType
@@ -50,3 +67,40 @@ module _ (κ : Lft) (S : RattleType) where
 
     pub answer_typed : (a : LoanAnswer S.Denot) (v : Val) → Is Answer_at a (v ∷ []) → T (has_ty (layout Answer_at) v) × WT v
     answer_typed a v is = ((Enum-Lawful 𝓛 (shape (RS.the_type Maybe ErrorRow)) tt ((maybe_laws, tt), ((error_laws.lawful 𝓛, tt), tt))).typed _ (v ∷ []) is).0
+
+-- the call that answers, as a step of a walk
+module _ (A : RattleType) {M : Type 1} {𝓤 : Ura M} (𝓛 : Logic 𝓤) (𝓜 : Model 𝓤 𝓛.H) (𝓡 : Running 𝓤 𝓛.H 𝓜) where
+  open 𝓛 use {H}
+
+  abbrev C : Calls 𝓤 H
+  C = (tables 𝓤 H 𝓜 𝓡 𝓡.env).C
+
+  abbrev Λ : Loops 𝓤 H
+  Λ = (tables 𝓤 H 𝓜 𝓡 𝓡.env).Λ
+
+  abbrev N : Contract 𝓤
+  N = triple_of 𝓛 (h.signature A) (h.spec A 𝓛 𝓜.mem 𝓡.returns)
+
+  module _ (κ : Lft) (q : Share) (o : Result (MutBor A.Denot) Stop) (v : Val) where
+    abbrev z : N.Ghost
+    z = (((κ, ([], tt)), (q, (full_share, tt)), (⊑_static κ, tt), (o, tt), (v ∷ [], tt)), tt)
+
+    -- the token comes back with the answer
+    pub answers : {K : Type 0} {Γ : List (Item 𝓤)} {E : Env 𝓤 H} {f : Callee} {xs : List Opd} {d : Place} {rest : Body} {out : Post 𝓤 H} → K
+        → Meets 𝓛 (h.signature A) (C f) (h.spec A 𝓛 𝓜.mem 𝓡.returns) → [] ⊑ A.lives
+        → Opds K 𝓛 (raw (N.pre z) ∷ Γ) E xs (v ∷ [])
+        → ((v' : Val) (a : LoanAnswer A.Denot) → IsLoanAnswer o a → Is (Answer_at κ (param 0 A)) a (v' ∷ [])
+        → Seq K 𝓛 (‵ ((Answer_at κ (param 0 A)).own_val a (v' ∷ [])) ∷ ‵ (flft κ q) ∷ Γ) (lands C Λ E d v' rest out))
+        → Seq K 𝓛 (‵ (flft κ q) ∷ ‵ ((Lent_at κ (param 0 A)).own_val o (v ∷ [])) ∷ Γ) (runs C Λ E (seq (call f xs d) rest) out)
+    answers t met lives args k =
+        nothing t $ use0 𝓛 (‵ (flft [] full_share)) (𝓛.lfts.lft-nil full_share) $ join t $ move t (1 ∷ 0 ∷ []) $ join t $
+        -- [the tokens; what is lent]
+        nothing t $ move t (2 ∷ 0 ∷ []) $ join t $ move t (1 ∷ 0 ∷ []) $ join t $
+        nothing t $ use0 𝓛 (raw (fact 𝓤 ([] ⊑ A.lives))) (fact_i 𝓤 _ (emp 𝓤) lives) $ join t $ move t (1 ∷ 0 ∷ []) $
+        use2 𝓛 (raw (N.pre z)) (id⊢ 𝓤 _) $
+        calls_at t (framed 𝓤 H 𝓜 (tables 𝓤 H 𝓜 𝓡 𝓡.env)) N met z args (λ v'.
+        use1 𝓛 (later (some (λ (a : LoanAnswer A.Denot). ((‵ (flft κ q) ⊛ ‵ (flft [] full_share) ⊛ ‵ ftrue) ⊛ ‵ ((Answer_at κ (param 0 A)).own_val a (v' ∷ []))) ⊛
+        some (λ (ws : Lasts (h.ended A) z.0.0 z.0.3). ‵ (lasts (h.ended A) z.0.0 z.0.3 ws) ⊛ raw (fact 𝓤 (IsLoanAnswer o a)))))) (id⊢ 𝓤 _) $
+        await t tt $ pick t (λ a. split t $ split t $ move t (2 ∷ []) $ pick t (λ ws. split t $ drop t $ heard t (IsLoanAnswer o a) (λ is_a.
+        split t $ move t (1 ∷ []) $ drop t $ move t (1 ∷ 0 ∷ []) $
+        peeks t (Answer_at κ (param 0 A)) (Is (Answer_at κ (param 0 A))) (shows 𝓛 (Answer_at κ (param 0 A))) a (v' ∷ []) (λ is. k v' a is_a is)))))

@@ -1,6 +1,7 @@
 mod Answered
 mod AnswerLemmas
 pub mod BulkLemmas
+mod Calls
 mod ChangeLemmas
 pub mod CopyLemmas
 pub mod DocumentLemmas
@@ -14,6 +15,7 @@ pub mod LedPartLemmas
 mod Lent
 mod LentTexts
 mod LevelLemmas
+mod LevelWalk
 mod Lists
 mod Loans
 pub mod MeaningLemmas
