@@ -1,11 +1,11 @@
 -- The generic call at the type itself. Assumes `Logic`.
-use Rattle.std.proofs.Common.{[], ◌∷◌, refl}
+use Rattle.std.proofs.Common.{List, [], ◌∷◌, refl}
 use Rattle.std.proofs.raw_atomic.Walks.{proved}
 use Rattle.std.specs.Borrow.{LendsSoOk}
-use Rattle.std.specs.contracts.result.Result as RS
+use Rattle.sonic_owned.proofs.Answered.{Lent_at, lent_typed}
+use Rattle.sonic_owned.proofs.Calls.{and_static, closes, enters, loses, spent, told_last, tokens}
 use Rattle.sonic_owned.proofs.value.OwnedLazyValue.TheLaws.{the_row_laws}
 use Rattle.sonic_owned.proofs.value.lend.OwnedLazyValueOpens.TheImpl.Met.{passed}
-use Rattle.sonic_owned.proofs.value.lend.Stop.TheLaws.{the_row_laws as stop_laws}
 use Rattle.sonic_owned.proofs.value.lend.item_next.Code as code
 use Rattle.sonic_owned.proofs.value.lend.item_next.Statement.{statement}
 use Rattle.sonic_owned.proofs.value.lend.lend_next.Met.{met}
@@ -16,37 +16,34 @@ use Rattle.sonic_owned.specs.Reached.{IsOpenedAlong}
 use Rattle.sonic_owned.specs.Views.{form}
 use Rattle.sonic_owned.specs.contracts.value.OwnedLazyValue.{the_row as R}
 use Rattle.sonic_owned.specs.contracts.value.lend.OwnedLazyValueOpens.TheImpl.{ghosts, dict}
-use Rattle.sonic_owned.specs.contracts.value.lend.Stop.{the_row as StopRow}
 use Rattle.sonic_owned.specs.contracts.value.lend.Way.{the_row as Way_at}
 use Rattle.sonic_owned.specs.contracts.value.lend.item_next as f
 use Rattle.sonic_owned.specs.contracts.value.lend.lend_next as g
-use base.Fml.{Fml, Lft, ftrue, flft}
+use base.Fml.{Fml, Lft, Share, ftrue}
 use base.Fraction.{full_share}
-use base.Logic.{id⊢, emp}
-use contract.BorrowLft.{◌⊑◌, ⊑_static}
-use contract.Monad.{fact, fact_i}
+use base.Logic.{id⊢}
+use contract.BorrowLft.{⊑_static}
+use contract.Monad.{fact}
 use contract.Running.{tables}
 use denote.Builtin.{RefOf, usize}
-use denote.Enum.Declared.{shape}
-use denote.Enum.Enum.{Enum-Lawful}
 use denote.Exit.{yes, no}
 use denote.Laws.{shows, Is}
 use denote.Param.{arg, layout}
 use denote.Param.Laws.{Laws, arg_laws}
-use denote.Plain.{uint_Makes, uint_vals, uint_Tells}
+use denote.Plain.{uint_vals, uint_Tells}
 use denote.RattleType.{RattleType}
-use denote.Ref.{MutRef, mut_vals, mut_Tells, mut_Lawful, ShrRef, shr_vals, shr_Tells}
+use denote.Ref.{MutRef, mut_vals, mut_Tells, ShrRef, shr_vals, shr_Tells}
 use denote.Signature.{plain, mut_ref_to}
-use denote.Steps.{nothing, owned, peeks, heard}
+use denote.Steps.{peeks, heard}
 use denote.Triple.Call.{calls_at}
 use denote.Triple.Clauses.{lasts}
 use denote.Triple.Spec.{triple_of}
 use denote.Triple.Table.{framed}
-use denote.Triple.Walked.{Stays, walk_of, says, stay_dropped, Goes-dropped, Goes-spent_ref, ends_at}
+use denote.Triple.Walked.{Stays, walk_of, stay_dropped, Goes-dropped, Goes-spent_ref, ends_at}
 use mir.Raw.{raw as bare}
 use mir.Syntax.{named, w64}
 use types.ByLocal.{alloc_all, pass_all, free_all, look_at, get, through, sets, lands_as}
-use types.Kit.{‵, raw, ◌⊛◌, some, later, ◌$◌, ◌∵◌, !, qed, done, move, keep, drop, use0, use1, use2, split, join, fjoin, pick, await, suffices, frame}
+use types.Kit.{Item, ‵, raw, ◌⊛◌, some, later, ◌$◌, ◌∵◌, !, qed, move, drop, use1, use2, split, pick, await, suffices}
 use types.Run.{enter, addr, stop, no_more, and_then, returns}
 
 abbrev A : RattleType
@@ -99,31 +96,18 @@ item_next_spec {M} 𝓤 𝓛 𝓜 𝓡 wired =
       ),
       tt,
     ) in
-    let E : RattleType = RS.the_row Lent StopRow in
+    let E = Lent_at κ R in
     let path = p.now.nodes.now in
     let F : Lending → Fml = λ o. LendsSoOk R R r o (λ m w. OfPart o (λ i. AtNode n path (λ node. IsItemPut node (form r.now) i (form w) (form m))))
     (λ m. IsLeft (AtNode n path (λ node. IsOpenedAlong (node ∷ []) (form r.now) (form m))) o (form r.now) (form m)) in
     let V : Lending → Type 0 = λ o. IsLent (λ i. AtNode n path (λ node. HasItem node (form r.now) i))
     (AtNode n path (λ node. HasNoItem node (form r.now))) (IfAtNode n path (λ node. IsClosedOf (kind_of node) (form r.now))) o in
-    let fits = are.1.1.0.1 in
-    qed 𝓛 (((‵ (flft κ q) ⊛ ‵ (flft λ₁ q₁) ⊛ ‵ (flft κs' qs') ⊛ ‵ (flft κp qp) ⊛ ‵ ftrue) ⊛ ‵ (Lent.own_val r (mut_vals r)) ⊛ ‵ (Shown.own_val p (shr_vals p)) ⊛
-    ‵
-    (usize.own_val n (uint_vals w64 n)) ⊛ ‵ ftrue) ∷ ‵ ftrue ∷ []) ∵
-    split ! $ move ! (1 ∷ []) $ split ! $ move ! (1 ∷ []) $ split ! $ keep ! (3 ∷ 2 ∷ 0 ∷ []) $
-    -- [the tokens; r; p]
-    split ! $ move ! (1 ∷ []) $ split ! $ move ! (1 ∷ []) $ split ! $ move ! (1 ∷ []) $ split ! $ keep ! (5 ∷ 6 ∷ 4 ∷ 3 ∷ 2 ∷ 0 ∷ []) $
-    -- [r; p; the tokens one by one]
-    enter ! _ _ _ _ _ $ alloc_all ! (λ l. pass_all ! refl ((tt, tt), ((tt, tt), ((tt, record { fits = fits }), tt))) $
+    let ts : List (Lft × Share) = (κ, q) ∷ (λ₁, q₁) ∷ (κs', qs') ∷ (κp, qp) ∷ [] in
+    let own : Item 𝓤 = ‵ (Lent.own_val r (mut_vals r)) ⊛ ‵ (Shown.own_val p (shr_vals p)) ⊛ ‵ (usize.own_val n (uint_vals w64 n)) ⊛ ‵ ftrue in
+    qed 𝓛 ((tokens ts ⊛ own) ∷ ‵ ftrue ∷ []) ∵
+    use2 𝓛 (raw (G.pre z)) (enters 𝓛 ts own (λ x m. m)) $
+    enter ! _ _ _ _ _ $ alloc_all ! (λ l. pass_all ! refl ((tt, tt), ((tt, tt), ((tt, record { fits = are.1.1.0.1 }), tt))) $
     sets ! (addr ! (through ! refl (stop !))) refl (tt, tt) $
-    nothing ! $ use0 𝓛 (‵ (flft [] full_share)) (𝓛.lfts.lft-nil full_share) $ join ! $
-    move ! (6 ∷ 0 ∷ []) $ join ! $ move ! (5 ∷ 0 ∷ []) $ join ! $ move ! (4 ∷ 0 ∷ []) $ join ! $ move ! (3 ∷ 0 ∷ []) $ join ! $
-    -- [the tokens; r; p]
-    nothing ! $ owned ! usize _ (uint_Makes 𝓛 w64) n _ (refl, fits) $ join ! $ move ! (3 ∷ 0 ∷ []) $ join ! $ move ! (2 ∷ 0 ∷ []) $ join ! $
-    move ! (1 ∷ 0 ∷ []) $
-    join ! $
-    -- [what the callee has on entry]
-    nothing ! $ use0 𝓛 (raw (fact 𝓤 ([] ⊑ R.lives))) (fact_i 𝓤 _ (emp 𝓤) (λ x m. m)) $ join ! $ move ! (1 ∷ 0 ∷ []) $
-    use2 𝓛 (raw (G.pre z)) (id⊢ 𝓤 _) $
     calls_at ! (framed 𝓤 𝓛.H 𝓜 (tables 𝓤 𝓛.H 𝓜 𝓡 𝓡.env)) G
     (met 𝓤 𝓛 𝓜 𝓡 (code.calls-sonic_owned::value::lend::lend_next 𝓡.env wired) A L ghosts dict
     (passed 𝓡.env (code.calls-sonic_owned::value::lend::OwnedLazyValueOpens::is_for 𝓡.env wired)
@@ -131,21 +115,13 @@ item_next_spec {M} 𝓤 𝓛 𝓜 𝓡 wired =
     (code.calls-sonic_owned::value::lend::OwnedLazyValueOpens::array_level 𝓡.env wired)
     (code.calls-sonic_owned::value::lend::OwnedLazyValueOpens::object_level 𝓡.env wired) M 𝓤 𝓛 𝓜 𝓡)) z
     (and_then ! (get ! refl) (and_then ! (get ! refl) (and_then ! (get ! refl) (no_more !)))) (λ v.
-    use1 𝓛 (later (some (λ (o : Lending). ((‵ (flft κ q) ⊛ ‵ (flft λ₁ q₁) ⊛ ‵ (flft κs' qs') ⊛ ‵ (flft κp qp) ⊛ ‵ (flft [] full_share) ⊛ ‵ ftrue) ⊛ ‵
-    (E.own_val o (v ∷ []))) ⊛
+    use1 𝓛 (later (some (λ (o : Lending). (tokens (and_static ts) ⊛ ‵ (E.own_val o (v ∷ []))) ⊛
     some (λ (ws : Unit {0} × (Unit {0} × (Unit {0} × Unit {0}))). ‵ (lasts (g.ended A ghosts dict) z.0.0 z.0.3 ws) ⊛ ‵ (F o) ⊛ raw (fact 𝓤 (V o))))))
     (id⊢ 𝓤 _) $
-    await ! tt $ pick ! (λ o. split ! $ split ! $ split ! $ move ! (1 ∷ []) $ split ! $ move ! (1 ∷ []) $ split ! $ move ! (1 ∷ []) $ split ! $
-    move ! (5 ∷ []) $
-    -- [the result; the tokens of the nodes; another token; of the way's slice and of the way; the token of κ; the rest]
-    peeks ! E (Is E) (shows 𝓛 E) o (v ∷ []) (λ is.
-    lands_as ! refl refl ((Enum-Lawful 𝓛 (shape (RS.the_type Lent StopRow)) tt ((mut_Lawful 𝓛 (named 0) κ R, tt), ((stop_laws.lawful 𝓛, tt), tt))).typed _
-    (v ∷ [])
-    is).0 $
-    returns ! (look_at ! 0 refl) $ free_all ! refl $
-    move ! (6 ∷ []) $ pick ! (λ ws. split ! $ drop ! $ split ! $ move ! (1 ∷ []) $ heard ! (V o) (λ found. keep ! (1 ∷ 6 ∷ 5 ∷ 4 ∷ 2 ∷ 0 ∷ []) $
+    await ! tt $ pick ! (λ o. split ! $ split ! $ move ! (1 ∷ []) $
+    -- [the result; the tokens; the rest]
+    peeks ! E (Is E) (shows 𝓛 E) o (v ∷ []) (λ is. lands_as ! refl refl (lent_typed κ R 𝓛 o v is) $ returns ! (look_at ! 0 refl) $ free_all ! refl $
+    move ! (2 ∷ []) $ pick ! (λ ws. split ! $ drop ! $ split ! $ move ! (1 ∷ []) $ heard ! (V o) (λ found. move ! (2 ∷ []) $
+    use1 𝓛 (tokens ts) (loses 𝓛 ts) $ split ! $ move ! (2 ∷ 0 ∷ 1 ∷ []) $
     suffices ! _ (ends_at 𝓛 f.ended stayed c y v o (tt, (tt, (tt, tt))) (tt, (tt, (tt, tt)))) $
-    nothing ! $ nothing ! $ fjoin ! $ nothing ! $ fjoin ! $ nothing ! $ fjoin ! $ join ! $ nothing ! $ move ! (5 ∷ 0 ∷ []) $ join ! $ move ! (4 ∷ 0 ∷ []) $
-    join ! $
-    move ! (3 ∷ 0 ∷ []) $ join ! $ move ! (2 ∷ 0 ∷ []) $ join ! $
-    join ! $ frame ! $ says ! found $ done !)))))))
+    closes ! (spent 𝓤 (spent 𝓤 (spent 𝓤 (id⊢ 𝓤 _)))) (told_last 𝓤 found))))))))
