@@ -1,5 +1,5 @@
 -- What edits make of forms is what they make of the trees that the forms mean.
-use Rattle.std.proofs.Common.{◌≡◌, ◌⊎◌, ◌+◌, ◌∙◌, sym, refl, ap, nat_eq, ℕ, zero, suc, List, [], ◌∷◌, length, Option, Some, None, inl, inr, arith, codes}
+use Rattle.std.proofs.Common.{◌≡◌, ◌⊎◌, ◌+◌, ◌∙◌, sym, refl, ap, nat_eq, ℕ, zero, suc, List, [], ◌∷◌, length, Option, Some, None, IfSome, option_map, subst, inl, inr, arith, codes}
 use Rattle.std.proofs.lemmas.Bool.{cases_Bool}
 use Rattle.std.specs.Cmp.Lexicographic.{pointwise}
 use Rattle.std.specs.Prelude.{◌↔◌}
@@ -62,87 +62,51 @@ append_means : (l : Option (List ℕ)) {ms : Members} {xs : Items} {f : Form} {v
 append_means l no_member_means x = member_means x no_member_means
 append_means l (member_means y ys) x = member_means y (append_means l ys x)
 
--- what one item more, or one less, makes
+-- one item more, or one less, in the form and in the tree: there is one in both or in neither, and what is made means the same
+abbrev AreAlike : Option Members → Option Items → Type 0
+AreAlike (Some ms) (Some xs) = MembersMean ms xs
+AreAlike (Some ms) None = ⊥
+AreAlike None (Some xs) = ⊥
+AreAlike None None = Unit {0}
+
+alike_after : (l : Option (List ℕ)) {f : Form} {v : Tree} (o : Option Members) (p : Option Items) → FormMeans f v → AreAlike o p
+    → AreAlike (option_map (member l f) o) (option_map (item l v) p)
+alike_after l (Some ms) (Some xs) y alike = member_means y alike
+alike_after l (Some ms) None y alike = absurd alike
+alike_after l None (Some xs) y alike = absurd alike
+alike_after l None None y alike = tt
+
+insert_alike : (n : ℕ) {ms : Members} {xs : Items} {f : Form} {v : Tree} → MembersMean ms xs → FormMeans f v → AreAlike (insert_member n f ms) (insert_item n v xs)
+insert_alike zero y x = member_means x y
+insert_alike (suc n) no_member_means x = tt
+insert_alike (suc n) (member_means {l} y ys) x = alike_after l _ _ y (insert_alike n ys x)
+
+without_at_alike : (n : ℕ) {ms : Members} {xs : Items} → MembersMean ms xs → AreAlike (members_without_at n ms) (without_at n xs)
+without_at_alike n no_member_means = tt
+without_at_alike zero (member_means y ys) = ys
+without_at_alike (suc n) (member_means {l} y ys) = alike_after l _ _ y (without_at_alike n ys)
+
+without_of_alike : (k : List ℕ) {ms : Members} {xs : Items} → MembersMean ms xs → AreAlike (members_without_of k ms) (without_of k xs)
+without_of_alike k no_member_means = tt
+without_of_alike k (member_means {l = None} y ys) = alike_after None _ _ y (without_of_alike k ys)
+without_of_alike k (member_means {l = Some l} y ys) = elim (cases_Bool (pointwise nat_eq l k)) [
+  | inl same ↦ rw same ys
+  | inr other ↦ rw other (alike_after (Some l) _ _ y (without_of_alike k ys))
+]
+
+-- so what is made of the form is made of the tree, and the other way round
 data MakesItems (ns : Members) (o : Option Items) : Type 0 where
   makes_items : (ys : Items) → o ≡ Some ys → MembersMean ns ys → MakesItems ns o
 
-insert_means_items : (n : ℕ) {ms ns : Members} {xs : Items} {f : Form} {v : Tree} → MembersMean ms xs → FormMeans f v → insert_member n f ms ≡ Some ns
-    → MakesItems ns (insert_item n v xs)
-insert_means_items zero {ms} {ns} {f = f} y x e = let q : ns ≡ member None f ms = cc in makes_items _ refl (rw q (member_means x y))
-insert_means_items (suc n) no_member_means x e = absurd (none_not_some e)
-insert_means_items (suc n) {ns = ns} {f = f} (member_means {l} {f = g} {ms} {v = u} y ys) x e = elim (some_or_none (insert_member n f ms)) [
-  | inl none ↦ absurd (none_not_some (rw none at e))
-  | inr (ks, is) ↦
-      let made : ◌≡◌ {A = Option Members} (Some (member l g ks)) (Some ns) = rw is at e in
-      let q : ns ≡ member l g ks = cc in
-      elim (insert_means_items n ys x is) [ makes_items zs o means ↦ makes_items (item l u zs) (rw o refl) (rw q (member_means y means)) ]
-]
+items_made : (o : Option Members) (p : Option Items) {ns : Members} → AreAlike o p → o ≡ Some ns → MakesItems ns p
+items_made (Some ms) (Some xs) {ns} alike e = let q : ns ≡ ms = cc in makes_items xs refl (rw q alike)
+items_made (Some ms) None alike e = absurd alike
+items_made None p alike e = absurd (none_not_some e)
 
-without_at_means : (n : ℕ) {ms ns : Members} {xs : Items} → MembersMean ms xs → members_without_at n ms ≡ Some ns → MakesItems ns (without_at n xs)
-without_at_means n no_member_means e = absurd (none_not_some e)
-without_at_means zero {ns = ns} (member_means {ms = ms} y ys) e = let q : ns ≡ ms = cc in makes_items _ refl (rw q ys)
-without_at_means (suc n) {ns = ns} (member_means {l} {f = g} {ms} {v = u} y ys) e = elim (some_or_none (members_without_at n ms)) [
-  | inl none ↦ absurd (none_not_some (rw none at e))
-  | inr (ks, is) ↦
-      let made : ◌≡◌ {A = Option Members} (Some (member l g ks)) (Some ns) = rw is at e in
-      let q : ns ≡ member l g ks = cc in
-      elim (without_at_means n ys is) [ makes_items zs o means ↦ makes_items (item l u zs) (rw o refl) (rw q (member_means y means)) ]
-]
-
-without_of_means : (k : List ℕ) {ms ns : Members} {xs : Items} → MembersMean ms xs → members_without_of k ms ≡ Some ns → MakesItems ns (without_of k xs)
-without_of_means k no_member_means e = absurd (none_not_some e)
-without_of_means k {ns = ns} (member_means {l = None} {f = g} {ms} {v = u} y ys) e = elim (some_or_none (members_without_of k ms)) [
-  | inl none ↦ absurd (none_not_some (rw none at e))
-  | inr (ks, is) ↦
-      let made : ◌≡◌ {A = Option Members} (Some (member None g ks)) (Some ns) = rw is at e in
-      let q : ns ≡ member None g ks = cc in
-      elim (without_of_means k ys is) [ makes_items zs o means ↦ makes_items (item None u zs) (rw o refl) (rw q (member_means y means)) ]
-]
-without_of_means k {ns = ns} (member_means {l = Some l} {f = g} {ms} {v = u} {xs} y ys) e = elim (cases_Bool (pointwise nat_eq l k)) [
-  | inl same ↦
-      let made : ◌≡◌ {A = Option Members} (Some ms) (Some ns) = rw same at e in
-      let q : ns ≡ ms = cc in
-      makes_items xs (rw same refl) (rw q ys)
-  | inr other ↦ elim (some_or_none (members_without_of k ms)) [
-    | inl none ↦ absurd (none_not_some (rw (other, none) at e))
-    | inr (ks, is) ↦
-        let made : ◌≡◌ {A = Option Members} (Some (member (Some l) g ks)) (Some ns) = rw (other, is) at e in
-        let q : ns ≡ member (Some l) g ks = cc in
-        elim (without_of_means k ys is) [ makes_items zs o means ↦ makes_items (item (Some l) u zs) (rw (other, o) refl) (rw q (member_means y means)) ]
-  ]
-]
-
--- where there is one item more, or one less, in the tree, there is in the form
-some_inserted : (n : ℕ) {ms : Members} {xs ys : Items} (f : Form) (v : Tree) → MembersMean ms xs → insert_item n v xs ≡ Some ys
-    → (ns : Members) × (insert_member n f ms ≡ Some ns)
-some_inserted zero f v y e = (_, refl)
-some_inserted (suc n) f v no_member_means e = absurd (none_not_some e)
-some_inserted (suc n) f v (member_means {l} {f = g} {xs = xs} y ys) e = elim (some_or_none (insert_item n v xs)) [
-  | inl none ↦ absurd (none_not_some (rw none at e))
-  | inr (zs, is) ↦ let (ks, o) = some_inserted n f v ys is in (member l g ks, rw o refl)
-]
-
-some_without_at : (n : ℕ) {ms : Members} {xs ys : Items} → MembersMean ms xs → without_at n xs ≡ Some ys → (ns : Members) × (members_without_at n ms ≡ Some ns)
-some_without_at n no_member_means e = absurd (none_not_some e)
-some_without_at zero (member_means y ys) e = (_, refl)
-some_without_at (suc n) (member_means {l} {f = g} {xs = xs} y ys) e = elim (some_or_none (without_at n xs)) [
-  | inl none ↦ absurd (none_not_some (rw none at e))
-  | inr (zs, is) ↦ let (ks, o) = some_without_at n ys is in (member l g ks, rw o refl)
-]
-
-some_without_of : (k : List ℕ) {ms : Members} {xs ys : Items} → MembersMean ms xs → without_of k xs ≡ Some ys → (ns : Members) × (members_without_of k ms ≡ Some ns)
-some_without_of k no_member_means e = absurd (none_not_some e)
-some_without_of k (member_means {l = None} {f = g} {xs = xs} y ys) e = elim (some_or_none (without_of k xs)) [
-  | inl none ↦ absurd (none_not_some (rw none at e))
-  | inr (zs, is) ↦ let (ks, o) = some_without_of k ys is in (member None g ks, rw o refl)
-]
-some_without_of k (member_means {l = Some l} {f = g} {ms} {xs = xs} y ys) e = elim (cases_Bool (pointwise nat_eq l k)) [
-  | inl same ↦ (ms, rw same refl)
-  | inr other ↦ elim (some_or_none (without_of k xs)) [
-    | inl none ↦ absurd (none_not_some (rw (other, none) at e))
-    | inr (zs, is) ↦ let (ks, o) = some_without_of k ys is in (member (Some l) g ks, rw (other, o) refl)
-  ]
-]
+members_made : (o : Option Members) (p : Option Items) {ys : Items} → AreAlike o p → p ≡ Some ys → (ns : Members) × (o ≡ Some ns)
+members_made (Some ms) p alike e = (ms, refl)
+members_made None (Some xs) alike e = absurd alike
+members_made None None alike e = absurd (none_not_some e)
 
 -- null stands in its own text
 null_stands : IsLiteral (codes "null") (codes "null") 0 (length (codes "null"))
@@ -167,14 +131,14 @@ paired_makes k (level_means xs) x = (_, refl, level_means (append_means (Some k)
 
 inserted_makes : (n : ℕ) {ms ns : Members} {w : Form} {u x : Tree} → FormMeans (level Array ms) u → FormMeans w x → insert_member n w ms ≡ Some ns
     → Makes (change_tree (insert n x) u) (level Array ns)
-inserted_makes n (level_means xs) x e = elim (insert_means_items n xs x e) [ makes_items ys o means ↦ (container Array ys, rw o refl, level_means means) ]
+inserted_makes n (level_means xs) x e = elim (items_made _ _ (insert_alike n xs x) e) [ makes_items ys o means ↦ (container Array ys, rw o refl, level_means means) ]
 
 removed_makes : (node : Node) (kind : Kind) {ms ns : Members} {u : Tree} → FormMeans (level kind ms) u → members_without node kind ms ≡ Some ns
     → Makes (change_tree (remove node) u) (level kind ns)
-removed_makes (index n) Array (level_means xs) e = elim (without_at_means n xs e) [ makes_items ys o means ↦ (container Array ys, rw o refl, level_means means) ]
+removed_makes (index n) Array (level_means xs) e = elim (items_made _ _ (without_at_alike n xs) e) [ makes_items ys o means ↦ (container Array ys, rw o refl, level_means means) ]
 removed_makes (index n) Object (level_means xs) e = absurd (none_not_some e)
 removed_makes (key k) Array (level_means xs) e = absurd (none_not_some e)
-removed_makes (key k) Object (level_means xs) e = elim (without_of_means k xs e) [ makes_items ys o means ↦ (container Object ys, rw o refl, level_means means) ]
+removed_makes (key k) Object (level_means xs) e = elim (items_made _ _ (without_of_alike k xs) e) [ makes_items ys o means ↦ (container Object ys, rw o refl, level_means means) ]
 
 change_makes : {c : Change Form} {d : Change Tree} {m g : Form} {u : Tree} → ChangeMeans c d → FormMeans m u → IsChange m g c → Makes (change_tree d u) g
 change_makes (set_means x) there (is_set e) = (_, refl, rw e x)
@@ -214,14 +178,14 @@ some_removed (index n) (container Array xs) there e = elim (some_or_none (withou
   | inl none ↦ absurd (none_not_some (rw none at e))
   | inr (ys, is) ↦
       let (ms, o) = level_some there in
-      let (ns, made) = some_without_at n (members_of (opened_means o there)) is in
+      let (ns, made) = members_made _ _ (without_at_alike n (members_of (opened_means o there))) is in
       (_, is_removed o made refl)
 ]
 some_removed (key k) (container Object xs) there e = elim (some_or_none (without_of k xs)) [
   | inl none ↦ absurd (none_not_some (rw none at e))
   | inr (ys, is) ↦
       let (ms, o) = level_some there in
-      let (ns, made) = some_without_of k (members_of (opened_means o there)) is in
+      let (ns, made) = members_made _ _ (without_of_alike k (members_of (opened_means o there))) is in
       (_, is_removed o made refl)
 ]
 some_removed node u there e = absurd (none_not_some e)
@@ -232,11 +196,11 @@ change_some : {c : Change Form} {d : Change Tree} {m : Form} {u y : Tree} → Ch
 change_some (set_means x) there e = (_, is_set refl)
 change_some {u = u} (push_means {v = x} p) there e = let (ms, o) = level_some (rw (array_pushed x u e).1 at there) in (_, is_pushed o refl)
 change_some {u = u} (pair_means {k} {v = x} p) there e = let (ms, o) = level_some (rw (object_paired k x u e).1 at there) in (_, is_paired o refl)
-change_some {u = u} (insert_means {n} {w} {v = x} p) there e =
+change_some {u = u} (insert_means {n} {v = x} p) there e =
     let (xs, ys, is, made) = array_inserted n x u e in
     let own = rw is at there in
     let (ms, o) = level_some own in
-    let (ns, b) = some_inserted n w x (members_of (opened_means o own)) made in
+    let (ns, b) = members_made _ _ (insert_alike n (members_of (opened_means o own)) p) made in
     (_, is_inserted o b refl)
 change_some {u = u} (remove_means {node}) there e = some_removed node u there e
 change_some take_means there e = (_, is_taken refl)
@@ -276,59 +240,40 @@ level_appends : (l : Option (List ℕ)) {kind : Kind} {ms : Members} {f : Form} 
 level_appends l (level_sound ms) label s = level_sound (append_sound l ms label s)
 
 -- and so it is with one item more at a place, or one less
-insert_sound : (n : ℕ) {ms ns : Members} {f : Form} → AreSound Array ms → IsSound f → insert_member n f ms ≡ Some ns → AreSound Array ns
-insert_sound zero {ms} {ns} {f} s x e = let q : ns ≡ member None f ms = cc in rw q (item_sound refl x s)
-insert_sound (suc n) none_sound x e = absurd (none_not_some e)
-insert_sound (suc n) {ns = ns} {f} (item_sound {l = l} {f = g} {ms} label y s) x e = elim (some_or_none (insert_member n f ms)) [
-  | inl none ↦ absurd (none_not_some (rw none at e))
-  | inr (ks, is) ↦
-      let made : ◌≡◌ {A = Option Members} (Some (member l g ks)) (Some ns) = rw is at e in
-      let q : ns ≡ member l g ks = cc in
-      rw q (item_sound label y (insert_sound n s x is))
+sound_after : (l : Option (List ℕ)) (kind : Kind) {f : Form} (o : Option Members) → IsLabel kind l → IsSound f → IfSome o (AreSound kind)
+    → IfSome (option_map (member l f) o) (AreSound kind)
+sound_after l kind (Some ms) label y s = item_sound label y s
+sound_after l kind None label y s = tt
+
+insert_sound : (n : ℕ) {ms : Members} {f : Form} → AreSound Array ms → IsSound f → IfSome (insert_member n f ms) (AreSound Array)
+insert_sound zero s x = item_sound refl x s
+insert_sound (suc n) none_sound x = tt
+insert_sound (suc n) (item_sound {l = l} label y s) x = sound_after l _ _ label y (insert_sound n s x)
+
+without_at_sound : (n : ℕ) {kind : Kind} {ms : Members} → AreSound kind ms → IfSome (members_without_at n ms) (AreSound kind)
+without_at_sound n none_sound = tt
+without_at_sound zero (item_sound label y s) = s
+without_at_sound (suc n) (item_sound {l = l} label y s) = sound_after l _ _ label y (without_at_sound n s)
+
+without_of_sound : (k : List ℕ) {kind : Kind} {ms : Members} → AreSound kind ms → IfSome (members_without_of k ms) (AreSound kind)
+without_of_sound k none_sound = tt
+without_of_sound k (item_sound {l = None} label y s) = sound_after None _ _ label y (without_of_sound k s)
+without_of_sound k (item_sound {l = Some l} label y s) = elim (cases_Bool (pointwise nat_eq l k)) [
+  | inl same ↦ rw same s
+  | inr other ↦ rw other (sound_after (Some l) _ _ label y (without_of_sound k s))
 ]
 
-without_at_sound : (n : ℕ) {kind : Kind} {ms ns : Members} → AreSound kind ms → members_without_at n ms ≡ Some ns → AreSound kind ns
-without_at_sound n none_sound e = absurd (none_not_some e)
-without_at_sound zero {ns = ns} (item_sound {ms = ms} label y s) e = let q : ns ≡ ms = cc in rw q s
-without_at_sound (suc n) {ns = ns} (item_sound {l = l} {f = g} {ms} label y s) e = elim (some_or_none (members_without_at n ms)) [
-  | inl none ↦ absurd (none_not_some (rw none at e))
-  | inr (ks, is) ↦
-      let made : ◌≡◌ {A = Option Members} (Some (member l g ks)) (Some ns) = rw is at e in
-      let q : ns ≡ member l g ks = cc in
-      rw q (item_sound label y (without_at_sound n s is))
-]
-
-without_of_sound : (k : List ℕ) {kind : Kind} {ms ns : Members} → AreSound kind ms → members_without_of k ms ≡ Some ns → AreSound kind ns
-without_of_sound k none_sound e = absurd (none_not_some e)
-without_of_sound k {ns = ns} (item_sound {l = None} {f = g} {ms} label y s) e = elim (some_or_none (members_without_of k ms)) [
-  | inl none ↦ absurd (none_not_some (rw none at e))
-  | inr (ks, is) ↦
-      let made : ◌≡◌ {A = Option Members} (Some (member None g ks)) (Some ns) = rw is at e in
-      let q : ns ≡ member None g ks = cc in
-      rw q (item_sound label y (without_of_sound k s is))
-]
-without_of_sound k {ns = ns} (item_sound {l = Some l} {f = g} {ms} label y s) e = elim (cases_Bool (pointwise nat_eq l k)) [
-  | inl same ↦
-      let made : ◌≡◌ {A = Option Members} (Some ms) (Some ns) = rw same at e in
-      let q : ns ≡ ms = cc in
-      rw q s
-  | inr other ↦ elim (some_or_none (members_without_of k ms)) [
-    | inl none ↦ absurd (none_not_some (rw (other, none) at e))
-    | inr (ks, is) ↦
-        let made : ◌≡◌ {A = Option Members} (Some (member (Some l) g ks)) (Some ns) = rw (other, is) at e in
-        let q : ns ≡ member (Some l) g ks = cc in
-        rw q (item_sound label y (without_of_sound k s is))
-  ]
-]
+level_made : {kind : Kind} {ns : Members} (o : Option Members) → IfSome o (AreSound kind) → o ≡ Some ns → IsSound (level kind ns)
+level_made {kind} o s e = level_sound (subst (λ o. IfSome o (AreSound kind)) e s)
 
 inserted_sound : (n : ℕ) {ms ns : Members} {f : Form} → IsSound (level Array ms) → IsSound f → insert_member n f ms ≡ Some ns → IsSound (level Array ns)
-inserted_sound n (level_sound s) x e = level_sound (insert_sound n s x e)
+inserted_sound n (level_sound s) x e = level_made _ (insert_sound n s x) e
 
 removed_sound : (node : Node) (kind : Kind) {ms ns : Members} → IsSound (level kind ms) → members_without node kind ms ≡ Some ns → IsSound (level kind ns)
-removed_sound (index n) Array (level_sound s) e = level_sound (without_at_sound n s e)
+removed_sound (index n) Array (level_sound s) e = level_made _ (without_at_sound n s) e
 removed_sound (index n) Object s e = absurd (none_not_some e)
 removed_sound (key k) Array s e = absurd (none_not_some e)
-removed_sound (key k) Object (level_sound s) e = level_sound (without_of_sound k s e)
+removed_sound (key k) Object (level_sound s) e = level_made _ (without_of_sound k s) e
 
 -- so do changes, and edits
 change_sound : {c : Change Form} {m g : Form} → IsChange m g c → IsSoundChange c → IsSound m → IsSound g
