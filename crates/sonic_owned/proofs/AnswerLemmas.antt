@@ -6,7 +6,7 @@ use Rattle.sonic_error.specs.declared.code.ErrorCode.TheVariants as code
 use Rattle.sonic_find.specs.Paths.{kind_of}
 use Rattle.sonic_lazy.specs.Scalars.{container}
 use Rattle.sonic_owned.proofs.ChangeLemmas.{opened_kind}
-use Rattle.sonic_owned.proofs.Loans.{so_none, so_lent}
+use Rattle.sonic_owned.proofs.Loans.{so_weaker, so_lent}
 use Rattle.sonic_owned.proofs.ReachLemmas.{kept_along, kept_as_before}
 use Rattle.sonic_owned.proofs.WalkLemmas.{lost_nowhere}
 use Rattle.sonic_owned.specs.Forms.{Form, IsSound, level, Members, scalar_of_form}
@@ -29,6 +29,7 @@ use Rattle.std.specs.Borrow.{LendsSoOk}
 use base.Logic.{ent, SProp}
 use denote.Follow.{follows_so}
 use denote.RattleType.{RattleType}
+use mathlib.Core.Option as maybe
 use seplogic.Ra.Ura.{Ura}
 use types.Logic.{Logic, sem}
 
@@ -140,9 +141,9 @@ module _ {M : Type 1} {𝓤 : Ura M} (𝓛 : Logic 𝓤) (S : RattleType) (r : M
   none_answered : (stop : Stop) (a : LoanAnswer S.Denot) (P : R.Denot → S.Denot → Type 0) (P₀ : R.Denot → Type 0) (Q : S.Denot → R.Denot → Type 0)
       (Q₀ : R.Denot → Type 0)
       → IsRefusedLoan stop a → ((w : S.Denot) (m : R.Denot) → Q w m) → ((m : R.Denot) → P₀ m → Q₀ m) → ent 𝓤 (Lends (Err stop) P P₀) (Follows a Q Q₀)
-  none_answered Nowhere a P P₀ Q Q₀ is none left = rw is (so_none 𝓛 R S r.ghost_name _ _ Q Q₀ none left)
-  none_answered NoMemory a P P₀ Q Q₀ (e, is, plain) none left = rw is (so_none 𝓛 R S r.ghost_name _ _ Q Q₀ none left)
-  none_answered TooDeep a P P₀ Q Q₀ (e, is, plain) none left = rw is (so_none 𝓛 R S r.ghost_name _ _ Q Q₀ none left)
+  none_answered Nowhere a P P₀ Q Q₀ is none left = rw is (so_weaker 𝓛 R S r.ghost_name maybe.none _ Q _ Q₀ (λ w m _. none w m) left)
+  none_answered NoMemory a P P₀ Q Q₀ (e, is, plain) none left = rw is (so_weaker 𝓛 R S r.ghost_name maybe.none _ Q _ Q₀ (λ w m _. none w m) left)
+  none_answered TooDeep a P P₀ Q Q₀ (e, is, plain) none left = rw is (so_weaker 𝓛 R S r.ghost_name maybe.none _ Q _ Q₀ (λ w m _. none w m) left)
 
   -- of a level
   pub level_back : (kind : Kind) (items : S.Denot → Members) (o : Result (MutBor S.Denot) Stop) (a : LoanAnswer S.Denot) → IsLoanAnswer o a

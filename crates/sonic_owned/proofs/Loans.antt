@@ -1,4 +1,4 @@
--- How proofs by hand pass on a loan from a type to itself. They assume `Logic`.
+-- How proofs by hand pass on a loan, above all from a type to itself. They assume `Logic`.
 use Rattle.std.proofs.Common.{◌≡◌, ℕ, zero, suc, ◌-◌, List, [], ◌∷◌, ◌++◌, refl, ap, ◌∙◌, subst, MutBor, Result, Ok, Err, arith}
 use mathlib.Core.Option as maybe
 use mathlib.Core.Bool.{not}
@@ -97,13 +97,12 @@ module _ {M : Type 1} {𝓤 : Ura M} (𝓛 : Logic 𝓤) (R S : RattleType) wher
   abbrev Says : GName → maybe.Option GName → (P : Part → Whole → Type 0) (P₀ : Whole → Type 0) → Kept P P₀ → Fml
   Says γ m P P₀ s = follows_by Whole Part R.coded.code S.coded.code γ m s.0.0 s.0.1
 
-  -- nothing is lent, with other words
-  pub so_none : (γ : GName) (P₁ : Part → Whole → Type 0) (P₁₀ : Whole → Type 0) (P : Part → Whole → Type 0) (P₀ : Whole → Type 0)
-      → ((w : Part) (n : Whole) → P w n)
-      → ((v : Whole) → P₁₀ v → P₀ v) → ent 𝓤 (sem 𝓛 (follows_so R S γ maybe.none P₁ P₁₀)) (sem 𝓛 (follows_so R S γ maybe.none P P₀))
+  -- what is said of a loan's end, in fewer words
+  pub so_weaker : (γ : GName) (m : maybe.Option GName) (P Q : Part → Whole → Type 0) (P₀ Q₀ : Whole → Type 0) → ((w : Part) (n : Whole) → P w n → Q w n)
+      → ((v : Whole) → P₀ v → Q₀ v) → ent 𝓤 (sem 𝓛 (follows_so R S γ m P P₀)) (sem 𝓛 (follows_so R S γ m Q Q₀))
   unfolding such_by follows_by
-  so_none γ P₁ P₁₀ P P₀ p p₀ = qed 𝓛 (‵ (follows_so R S γ maybe.none P₁ P₁₀) ∷ []) ∵ fpick !
-      (λ s. fpack ! (Kept P P₀) (Says γ maybe.none P P₀) (s.0, (λ w. p w (s.0.0 w)), p₀ s.0.1 s.2) $ done !)
+  so_weaker γ m P Q P₀ Q₀ p p₀ = qed 𝓛 (‵ (follows_so R S γ m P P₀) ∷ []) ∵ fpick !
+      (λ s. fpack ! (Kept Q Q₀) (Says γ m Q Q₀) (s.0, (λ w. p w (s.0.0 w) (s.1 w)), p₀ s.0.1 s.2) $ done !)
 
   -- a part is lent, with other words
   pub so_lent : (γ δ : GName) (P Q : Part → Whole → Type 0) (P₀ Q₀ : Whole → Type 0) → ((w : Part) (n : Whole) → P w n → Q w n) → (v : Whole) → Q₀ v

@@ -4,7 +4,7 @@ use Rattle.std.proofs.ResultValues.{ok_of, err_of, and_tt}
 use Rattle.std.proofs.VecSteps.Shapes.{arm_body}
 use Rattle.std.specs.Borrow.{LendsSoOk, name_if_ok}
 use Rattle.std.specs.contracts.result.Result as RS
-use Rattle.sonic_owned.proofs.Loans.{is_zero, is_suc, so_self, so_none, so_then, by_result}
+use Rattle.sonic_owned.proofs.Loans.{is_zero, is_suc, so_self, so_then, so_weaker, by_result}
 use Rattle.sonic_owned.proofs.Lent.{of_part}
 use Rattle.sonic_owned.proofs.ValueLemmas.{value_sound}
 use Rattle.sonic_owned.proofs.WalkLemmas.{put_none, put_further, found_further, found_stop, IsWalked, left_along, along_further}
@@ -52,6 +52,7 @@ use denote.Triple.Table.{framed}
 use denote.Triple.Walked.{says, Stays, walk_of, stay_dropped, Goes-dropped, Goes-spent_ref, ends_at, walked_at, walk_meets_at}
 use lib.Dec.{T}
 use lib.WfN.{lt-wf_rel}
+use mathlib.Core.Option as maybe
 use mir.Syntax.{Body, Fn, named, w64}
 use mir.Val.{Val, of_list, has_ty, WT}
 use prog.Model.{Model}
@@ -280,8 +281,8 @@ module _ {M : Type 1} (𝓤 : Ura M) (𝓛 : Logic 𝓤) (𝓜 : Model 𝓤 𝓛
         returns ! (look_at ! 0 refl) $ free_all ! refl $
         move ! (2 ∷ []) $ pick ! (λ ws. split ! $ drop ! $ split ! $ move ! (1 ∷ []) $
         heard ! (KidV p n r o) (λ was. rewrite ! 0 (λ (u : Lending). ‵ (Kid p n r u)) en refl $
-        use1 𝓛 (‵ (Down p n r (Err e))) (so_none 𝓛 R R r.ghost_name (λ w m. KidP p n r (Err e) w m) (λ m. KidN p n r (Err e) m) (λ w m. DownP p n r (Err e) w m)
-        (λ m. DownN p n r (Err e) m) (λ w m _. tt) (λ m left. left_along n path e old (form m) left)) $
+        use1 𝓛 (‵ (Down p n r (Err e))) (so_weaker 𝓛 R R r.ghost_name maybe.none (λ w m. KidP p n r (Err e) w m) (λ w m. DownP p n r (Err e) w m)
+        (λ m. KidN p n r (Err e) m) (λ m. DownN p n r (Err e) m) (λ w m _ _. tt) (λ m left. left_along n path e old (form m) left)) $
         move ! (1 ∷ []) $ use1 𝓛 (‵ (E.own_val (Err e) (live 1 (of_list (stop_told.val e ∷ [])) ∷ []))) (err_of 𝓛 Lent StopRow e (stop_told.val e)) $
         keep ! (0 ∷ 2 ∷ 1 ∷ []) $ by ! (out r n (Err e) (live 1 (of_list (stop_told.val e ∷ [])))
         (found_stop n path e (λ i. AtNode n path (λ node. HasItem node old i)) (value_sound r.now) (omega (arith, less)) (subst (λ u. KidV p n r u) en was)))))))))))
