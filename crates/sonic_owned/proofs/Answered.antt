@@ -1,4 +1,5 @@
 -- What is lent, and the answer that says so, as types, and the call that makes it. Assumes `Logic`.
+use Rattle.sonic_owned.proofs.Steps.{Lft, Share, ftrue, flft, full_share, emp, id⊢, ◌⊑◌, ⊑_static, fact, fact_i, Running, tables, shape, Enum-Lawful, shows, Is, layout, param, RattleType, MutRef, mut_Lawful, nothing, peeks, heard, calls_at, lasts, triple_of, Meets, Contract, framed, T, Body, Callee, named, seq, call, Val, has_ty, WT, Model, Env, Calls, Loops, Ura, Item, Post, Seq, ‵, raw, ◌⊛◌, some, later, ◌$◌, move, drop, use0, use1, use2, split, join, pick, await, Logic}
 use Rattle.std.proofs.Common.{List, [], ◌∷◌, Result, MutBor}
 use Rattle.std.specs.contracts.option.Option as OP
 use Rattle.std.specs.contracts.result.Result as RS
@@ -10,33 +11,13 @@ use Rattle.sonic_owned.specs.Lends.{LoanAnswer}
 use Rattle.sonic_owned.specs.contracts.value.lend.Stop.{the_row as StopRow}
 use Rattle.sonic_owned.specs.contracts.value.lend.found_or_error as h
 use Rattle.sonic_owned.specs.declared.value.lend.Stop.{Stop}
-use base.Fml.{Lft, Share, ftrue, flft}
-use base.Fraction.{full_share}
-use base.Logic.{emp, id⊢}
-use contract.BorrowLft.{◌⊑◌, ⊑_static}
-use contract.Monad.{fact, fact_i}
-use contract.Running.{Running, tables}
-use denote.Enum.Declared.{Declared, shape}
-use denote.Enum.Enum.{Enum, Enum-Lawful}
-use denote.Laws.{shows, Is, Lawful}
-use denote.Param.{layout, param}
-use denote.RattleType.{RattleType}
-use denote.Ref.{MutRef, mut_Lawful}
-use denote.Steps.{nothing, peeks, heard}
+use denote.Enum.Declared.{Declared}
+use denote.Enum.Enum.{Enum}
+use denote.Laws.{Lawful}
 use denote.Struct.Recorded.{recorded_lawful}
-use denote.Triple.Call.{calls_at}
-use denote.Triple.Clauses.{lasts, Lasts}
-use denote.Triple.Spec.{triple_of, Meets}
-use denote.Triple.Statement.{Contract}
-use denote.Triple.Table.{framed}
-use lib.Dec.{T}
-use mir.Syntax.{Body, Callee, Opd, Place, named, seq, call}
-use mir.Val.{Val, has_ty, WT}
-use prog.Model.{Model}
-use prog.Wp.{Env, Calls, Loops}
-use seplogic.Ra.Ura.{Ura}
-use types.Kit.{Item, Post, Seq, ‵, raw, ◌⊛◌, some, later, runs, lands, ◌$◌, move, drop, use0, use1, use2, split, join, pick, await}
-use types.Logic.{Logic}
+use denote.Triple.Clauses.{Lasts}
+use mir.Syntax.{Opd, Place}
+use types.Kit.{runs, lands}
 use types.Run.{Opds}
 
 module _ (κ : Lft) (S : RattleType) where

@@ -1,12 +1,8 @@
 -- The two ends of a walk: what the callee is given, and what the caller is left with.
+use Rattle.sonic_owned.proofs.Steps.{Lft, Share, ftrue, flft, full_share, SProp, ent, sep, emp, id⊢, fact, fact_i, Ura, Item, Seq, ‵, raw, mean, ◌⊛◌, ◌$◌, ◌∵◌, !, qed, done, move, use0, join, Logic, sem}
 use Rattle.std.proofs.Common.{List, [], ◌∷◌, ◌++◌}
-use base.Fml.{Lft, Share, ftrue, flft}
-use base.Fraction.{full_share}
-use base.Logic.{SProp, ent, sep, emp, id⊢, via, emp∗, mono∗, mono_l, mono_r, snd∗}
-use contract.Monad.{fact, fact_i}
-use seplogic.Ra.Ura.{Ura}
-use types.Kit.{Item, Seq, ‵, raw, mean, prop, ◌⊛◌, ◌$◌, ◌∵◌, !, qed, done, move, use0, join}
-use types.Logic.{Logic, sem}
+use base.Logic.{via, emp∗, mono∗, mono_l, mono_r, snd∗}
+use types.Kit.{prop}
 
 module _ {M : Type 1} (𝓤 : Ura M) where
   -- a fact holds, before what else does

@@ -1,4 +1,5 @@
 -- The walk of a call that lends the first level of a value, of either kind. Assumes `Logic`.
+use Rattle.sonic_owned.proofs.Steps.{Fml, Lft, Share, ftrue, flft, SProp, ent, id⊢, ◌⊑◌, fact, Running, tables, follows_so, shows, Is, param, RattleType, MutRef, mut_vals, nothing, peeks, heard, Meets, framed, T, Callee, Fn, named, seq, call, Val, has_ty, WT, Model, Calls, Loops, WpFn, Ura, alloc_all, pass_all, free_all, look_at, get, through, sets, lands_as, Item, ‵, raw, mean, ◌⊛◌, some, later, ◌$◌, ◌∵◌, !, qed, move, drop, use1, split, pick, await, suffices, Logic, enter, addr, stop, no_more, and_then, returns}
 use Rattle.std.proofs.Common.{List, [], ◌∷◌, ◌++◌, refl, Result, IfOk, IfErr, IfSome, IsSome, OnErr, OnSome, ◌↔◌, ◌≡◌, MutBor}
 use Rattle.std.proofs.alloc.Global.TheLaws.{the_laws as global_laws}
 use Rattle.std.specs.Borrow.{LendsSoOk}
@@ -18,31 +19,10 @@ use Rattle.sonic_owned.specs.contracts.value.OwnedLazyValue.{the_row as R}
 use Rattle.sonic_owned.specs.contracts.value.lend.found_or_error as h
 use Rattle.sonic_owned.specs.declared.value.lend.Stop.{Stop}
 use Rattle.sonic_text.specs.declared.kind.Kind.{Kind}
-use base.Fml.{Fml, Lft, Share, ftrue, flft}
-use base.Logic.{SProp, ent, id⊢}
-use contract.BorrowLft.{◌⊑◌}
-use contract.Monad.{fact}
-use contract.Running.{Running, tables}
-use denote.Follow.{follows_so}
-use denote.Laws.{shows, Is}
-use denote.Param.{param}
-use denote.RattleType.{RattleType}
-use denote.Ref.{MutRef, mut_vals}
-use denote.Steps.{nothing, peeks, heard}
 use denote.Struct.Laws.{val as struct_val}
 use denote.Triple.Call.{calls_from}
-use denote.Triple.Spec.{Meets}
-use denote.Triple.Table.{framed}
-use lib.Dec.{T}
-use mir.Syntax.{Callee, Fn, Ty, named, local, value_local, place, deref, addr_of, copy, assign, seq, call, return}
-use mir.Val.{Val, vptr, has_ty, WT}
-use prog.Model.{Model}
-use prog.Wp.{Calls, Loops, WpFn}
-use seplogic.Ra.Ura.{Ura}
-use types.ByLocal.{alloc_all, pass_all, free_all, look_at, get, through, sets, lands_as}
-use types.Kit.{Item, ‵, raw, mean, ◌⊛◌, some, later, ◌$◌, ◌∵◌, !, qed, move, drop, use1, split, pick, await, suffices}
-use types.Logic.{Logic}
-use types.Run.{enter, addr, stop, no_more, and_then, returns}
+use mir.Syntax.{Ty, local, value_local, place, deref, addr_of, copy, assign, return}
+use mir.Val.{vptr}
 
 -- the code of such a call, whatever its types and the two calls in it
 abbrev code_at : (t₀ t₁ t₂ t₃ t₄ τ : Ty) (g k : Callee) → Fn

@@ -27,6 +27,7 @@ mod PartTextLemmas
 mod PutLawLemmas
 mod PutLemmas
 mod ReachLemmas
+mod Steps
 mod TextLemmas
 pub mod UntouchedLemmas
 pub mod UnwrittenLemmas

@@ -1,21 +1,14 @@
 -- How proofs by hand pass on a loan, above all from a type to itself. They assume `Logic`.
+use Rattle.sonic_owned.proofs.Steps.{T, Ura, ent, sep, emp, Fml, Lft, named, Val, of_list, Logic, sem, Item, Seq, ‵, ◌$◌, ◌∵◌, !, qed, done, move, keep, use0, use1, use2, rewrite, fjoin, live, RattleType, shows, Is, MutRef, mut_vals, mut_Tells, follows_so, peeks}
 use Rattle.std.proofs.Common.{◌≡◌, ℕ, zero, suc, ◌-◌, List, [], ◌∷◌, ◌++◌, refl, ap, ◌∙◌, subst, MutBor, Result, Ok, Err, arith}
 use mathlib.Core.Option as maybe
 use mathlib.Core.Bool.{not}
-use lib.Dec.{T, eqb, eqb-suc-zero}
-use seplogic.Ra.Ura.{Ura}
-use base.Logic.{ent, sep, emp, wand, guard}
-use base.Fml.{Fml, Lft, GName, fex, feq, fsep, fres, fauth}
-use mir.Syntax.{named}
-use mir.Val.{Val, of_list}
-use types.Logic.{Logic, sem}
-use types.Kit.{Item, Seq, Goal, ‵, given, learn, check, each, assume, ◌$◌, ◌∵◌, !, qed, done, move, keep, use0, use1, use2, rewrite, fsplit, fjoin, fpick, fpack, feq_l, feq_i}
-use types.Match.{live}
-use denote.RattleType.{RattleType}
-use denote.Laws.{shows, Is}
-use denote.Ref.{MutRef, mut_vals, mut_Tells}
-use denote.Follow.{follows, follows_by, follows_so, such_by, followed, follows_then}
-use denote.Steps.{only, peeks}
+use lib.Dec.{eqb, eqb-suc-zero}
+use base.Logic.{wand, guard}
+use base.Fml.{GName, fex, feq, fsep, fres, fauth}
+use types.Kit.{Goal, given, learn, check, each, assume, fsplit, fpick, fpack, feq_l, feq_i}
+use denote.Follow.{follows, follows_by, such_by, followed, follows_then}
+use denote.Steps.{only}
 use Rattle.std.specs.contracts.result.Result as RS
 use denote.Param.Laws.{Told}
 

@@ -1,7 +1,7 @@
 -- The call that lends the object, and its answer. Assumes `Logic`.
+use Rattle.sonic_owned.proofs.Steps.{proved, yes, no, Laws, arg_laws, arg, layout, RattleType, mut_vals, mut_Tells, plain, mut_ref_to, struct_tells, lasts, Stays, walk_of, stay_dropped, Goes-dropped, Goes-spent_ref, ends_at, bare, named}
 use Rattle.std.proofs.Common.{[], ◌∷◌, refl}
 use Rattle.std.proofs.alloc.Global.TheLaws.{the_laws as global_laws}
-use Rattle.std.proofs.raw_atomic.Walks.{proved}
 use Rattle.std.specs.contracts.alloc.Global as GL
 use Rattle.sonic_owned.proofs.Answered.{lent_typed, answer_typed}
 use Rattle.sonic_owned.proofs.LevelWalk.{alloc_vals, level_walk}
@@ -17,17 +17,6 @@ use Rattle.sonic_owned.specs.contracts.value.OwnedLazyValue.{the_row as R}
 use Rattle.sonic_owned.specs.contracts.value.OwnedLazyValue.as_object_mut as f
 use Rattle.sonic_owned.specs.contracts.value.lend_level.lend_object as g
 use Rattle.sonic_text.specs.declared.kind.Kind.TheVariants.{Object}
-use denote.Exit.{yes, no}
-use denote.Param.Laws.{Laws, arg_laws}
-use denote.Param.{arg, layout}
-use denote.RattleType.{RattleType}
-use denote.Ref.{mut_vals, mut_Tells}
-use denote.Signature.{plain, mut_ref_to}
-use denote.Struct.Laws.{tells as struct_tells}
-use denote.Triple.Clauses.{lasts}
-use denote.Triple.Walked.{Stays, walk_of, stay_dropped, Goes-dropped, Goes-spent_ref, ends_at}
-use mir.Raw.{raw as bare}
-use mir.Syntax.{named}
 
 abbrev A : RattleType
 A = arg (bare (layout S)) no S

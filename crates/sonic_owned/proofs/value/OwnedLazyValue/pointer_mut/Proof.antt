@@ -1,7 +1,7 @@
 -- The call that lends, and its answer. Assumes `Logic`.
+use Rattle.sonic_owned.proofs.Steps.{proved, Fml, Lft, Share, ftrue, full_share, id⊢, ⊑_static, fact, tables, yes, no, follows_so, shows, Is, Laws, arg_laws, arg, layout, RattleType, MutRef, mut_vals, mut_Tells, plain, mut_ref_to, peeks, heard, struct_tells, calls_at, lasts, triple_of, framed, Stays, walk_of, stay_dropped, Goes-dropped, Goes-spent_ref, ends_at, bare, named, alloc_all, pass_all, free_all, look_at, get, through, sets, lands_as, Item, ‵, raw, ◌⊛◌, some, later, ◌$◌, ◌∵◌, !, qed, move, drop, use1, use2, split, pick, await, suffices, Logic, enter, addr, stop, no_more, and_then, returns}
 use Rattle.std.proofs.Common.{List, [], ◌∷◌, refl, MutBor}
 use Rattle.std.proofs.alloc.Global.TheLaws.{the_laws as global_laws}
-use Rattle.std.proofs.raw_atomic.Walks.{proved}
 use Rattle.std.specs.Borrow.{LendsSoOk}
 use Rattle.std.specs.contracts.alloc.Global as GL
 use Rattle.sonic_owned.proofs.AnswerLemmas.{path_says, path_back}
@@ -25,35 +25,8 @@ use Rattle.sonic_owned.specs.contracts.value.lend.lend_part as g
 use Rattle.sonic_pointer.specs.Nodes.{path_of}
 use Rattle.sonic_pointer.specs.contracts.node.PointerNode.{the_row as PointerNode_at}
 use Rattle.sonic_pointer.specs.declared.node.PointerNode.{PointerNode}
-use base.Fml.{Fml, Lft, Share, ftrue}
-use base.Fraction.{full_share}
-use base.Logic.{id⊢}
-use contract.BorrowLft.{⊑_static}
-use contract.Monad.{fact}
-use contract.Running.{tables}
 use denote.Builtin.{SliceRefOf}
-use denote.Exit.{yes, no}
-use denote.Follow.{follows_so}
-use denote.Laws.{shows, Is}
-use denote.Param.Laws.{Laws, arg_laws}
-use denote.Param.{arg, layout}
-use denote.RattleType.{RattleType}
-use denote.Ref.{MutRef, mut_vals, mut_Tells}
-use denote.Signature.{plain, mut_ref_to}
 use denote.Slice.{ShrSlice, shr_slice_vals, shr_slice_Tells, shr_slice_Lawful}
-use denote.Steps.{peeks, heard}
-use denote.Struct.Laws.{tells as struct_tells}
-use denote.Triple.Call.{calls_at}
-use denote.Triple.Clauses.{lasts}
-use denote.Triple.Spec.{triple_of}
-use denote.Triple.Table.{framed}
-use denote.Triple.Walked.{Stays, walk_of, stay_dropped, Goes-dropped, Goes-spent_ref, ends_at}
-use mir.Raw.{raw as bare}
-use mir.Syntax.{named}
-use types.ByLocal.{alloc_all, pass_all, free_all, look_at, get, through, sets, lands_as}
-use types.Kit.{Item, ‵, raw, ◌⊛◌, some, later, ◌$◌, ◌∵◌, !, qed, move, drop, use1, use2, split, pick, await, suffices}
-use types.Logic.{Logic}
-use types.Run.{enter, addr, stop, no_more, and_then, returns}
 
 abbrev D : Type 0
 D = R.Denot

@@ -1,6 +1,6 @@
 -- The generic call at the type itself. Assumes `Logic`.
+use Rattle.sonic_owned.proofs.Steps.{proved, Fml, Lft, Share, ftrue, full_share, id⊢, ⊑_static, fact, tables, RefOf, usize, yes, no, shows, Is, arg, layout, Laws, arg_laws, uint_vals, uint_Tells, RattleType, MutRef, mut_vals, mut_Tells, ShrRef, shr_vals, shr_Tells, plain, mut_ref_to, peeks, heard, calls_at, lasts, triple_of, framed, Stays, walk_of, stay_dropped, Goes-dropped, Goes-spent_ref, ends_at, bare, named, w64, alloc_all, pass_all, free_all, look_at, get, through, sets, lands_as, Item, ‵, raw, ◌⊛◌, some, later, ◌$◌, ◌∵◌, !, qed, move, drop, use1, use2, split, pick, await, suffices, enter, addr, stop, no_more, and_then, returns}
 use Rattle.std.proofs.Common.{List, [], ◌∷◌, refl}
-use Rattle.std.proofs.raw_atomic.Walks.{proved}
 use Rattle.std.specs.Borrow.{LendsSoOk}
 use Rattle.sonic_owned.proofs.Answered.{Lent_at, lent_typed}
 use Rattle.sonic_owned.proofs.Calls.{and_static, closes, enters, loses, spent, told_last, tokens}
@@ -19,32 +19,6 @@ use Rattle.sonic_owned.specs.contracts.value.lend.OwnedLazyValueOpens.TheImpl.{g
 use Rattle.sonic_owned.specs.contracts.value.lend.Way.{the_row as Way_at}
 use Rattle.sonic_owned.specs.contracts.value.lend.item_next as f
 use Rattle.sonic_owned.specs.contracts.value.lend.lend_next as g
-use base.Fml.{Fml, Lft, Share, ftrue}
-use base.Fraction.{full_share}
-use base.Logic.{id⊢}
-use contract.BorrowLft.{⊑_static}
-use contract.Monad.{fact}
-use contract.Running.{tables}
-use denote.Builtin.{RefOf, usize}
-use denote.Exit.{yes, no}
-use denote.Laws.{shows, Is}
-use denote.Param.{arg, layout}
-use denote.Param.Laws.{Laws, arg_laws}
-use denote.Plain.{uint_vals, uint_Tells}
-use denote.RattleType.{RattleType}
-use denote.Ref.{MutRef, mut_vals, mut_Tells, ShrRef, shr_vals, shr_Tells}
-use denote.Signature.{plain, mut_ref_to}
-use denote.Steps.{peeks, heard}
-use denote.Triple.Call.{calls_at}
-use denote.Triple.Clauses.{lasts}
-use denote.Triple.Spec.{triple_of}
-use denote.Triple.Table.{framed}
-use denote.Triple.Walked.{Stays, walk_of, stay_dropped, Goes-dropped, Goes-spent_ref, ends_at}
-use mir.Raw.{raw as bare}
-use mir.Syntax.{named, w64}
-use types.ByLocal.{alloc_all, pass_all, free_all, look_at, get, through, sets, lands_as}
-use types.Kit.{Item, ‵, raw, ◌⊛◌, some, later, ◌$◌, ◌∵◌, !, qed, move, drop, use1, use2, split, pick, await, suffices}
-use types.Run.{enter, addr, stop, no_more, and_then, returns}
 
 abbrev A : RattleType
 A = arg (bare (layout R)) no R

@@ -1,4 +1,5 @@
 -- The recursion that lends. Assumes `Logic`.
+use Rattle.sonic_owned.proofs.Steps.{Fml, Lft, Share, ftrue, flft, SProp, ent, sep, emp, id⊢, fact, Running, tables, RefOf, usize, shape, Enum-Lawful, yes, no, shows, Is, layout, uint_vals, uint_Tells, RattleType, MutRef, mut_vals, mut_Tells, mut_Lawful, ShrRef, shr_vals, shr_Tells, plain, mut_ref_to, nothing, peeks, heard, calls_at, lasts, triple_of, Contract, framed, Stays, walk_of, stay_dropped, Goes-dropped, Goes-spent_ref, ends_at, T, Body, Fn, named, w64, Val, of_list, has_ty, WT, Model, Env, Calls, Loops, WpFn, Ura, alloc_all, pass_all, free_all, look_at, get, through, sets, lands_as, Item, ‵, raw, ◌⊛◌, some, later, Post, ◌$◌, ◌∵◌, !, qed, done, move, keep, drop, use0, use1, use2, rewrite, split, join, fjoin, pick, await, suffices, Logic, sem, live, enter, addr, of_opd, stop, no_more, and_then, returns}
 use Rattle.std.proofs.Common.{◌≡◌, ℕ, suc, ◌-◌, ◌<◌, [], ◌∷◌, ◌++◌, ◌^◌, refl, sym, subst, lit<, arith, Bor, MutBor, Ok, Err, IsOk, OnErr}
 use Rattle.std.proofs.ResultValues.{ok_of, err_of, and_tt}
 use Rattle.std.proofs.VecSteps.Shapes.{arm_body}
@@ -26,46 +27,26 @@ use Rattle.sonic_owned.specs.contracts.value.lend.Stop.{the_row as StopRow}
 use Rattle.sonic_owned.specs.contracts.value.lend.Way.{the_row as Way_at}
 use Rattle.sonic_owned.specs.contracts.value.lend.item_next as g
 use Rattle.sonic_owned.specs.declared.value.lend.Way.{Way}
-use base.Fml.{Fml, Lft, Share, ftrue, flft}
-use base.Logic.{SProp, ent, sep, emp, id⊢}
 use contract.Lifetimes.{AllOutlive, Lfts, Shares}
-use contract.Monad.{fact}
-use contract.Running.{Running, tables, tables_of}
-use denote.Builtin.{RefOf, usize}
-use denote.Enum.Declared.{shape}
-use denote.Enum.Enum.{Enum-Lawful}
-use denote.Exit.{yes, no}
-use denote.Laws.{shows, Is}
-use denote.Param.{layout}
-use denote.Plain.{uint_Makes, uint_vals, uint_Tells}
-use denote.RattleType.{RattleType}
-use denote.Ref.{MutRef, mut_vals, mut_Tells, mut_Lawful, ShrRef, shr_vals, shr_Tells, shr_copy}
-use denote.Signature.{plain, mut_ref_to}
-use denote.Steps.{nothing, owned, peeks, heard}
-use denote.Triple.Call.{calls_at, calls_from_last}
-use denote.Triple.Clauses.{lasts, Clauses}
+use contract.Running.{tables_of}
+use denote.Plain.{uint_Makes}
+use denote.Ref.{shr_copy}
+use denote.Steps.{owned}
+use denote.Triple.Call.{calls_from_last}
+use denote.Triple.Clauses.{Clauses}
 use denote.Triple.Cycle.{measured, at_on, mutual_elim}
 use denote.Triple.Entry.{on_entry}
-use denote.Triple.Spec.{triple_of}
-use denote.Triple.Statement.{Contract}
-use denote.Triple.Table.{framed}
-use denote.Triple.Walked.{says, Stays, walk_of, stay_dropped, Goes-dropped, Goes-spent_ref, ends_at, walked_at, walk_meets_at}
-use lib.Dec.{T}
+use denote.Triple.Walked.{says, walked_at, walk_meets_at}
 use lib.WfN.{lt-wf_rel}
 use mathlib.Core.Option as maybe
-use mir.Syntax.{Body, Fn, named, w64}
-use mir.Val.{Val, of_list, has_ty, WT}
-use prog.Model.{Model}
 use prog.Wired.{Wired}
-use prog.Wp.{Env, Calls, Loops, WpFn, Wp, Tables, after_seq}
-use seplogic.Ra.Ura.{Ura}
+use prog.Wp.{Wp, Tables, after_seq}
 use sound.WpLaws.{WpFn-mono}
-use types.ByLocal.{alloc_all, pass_all, free_all, look_at, get, get_in, get_tag, through, sets, sets_last, lands_as, lands_last, env}
-use types.Kit.{Item, ‵, raw, ◌⊛◌, some, later, at_ret, any_q, post, Post, ◌$◌, ◌∵◌, !, qed, by, done, move, keep, drop, use0, use1, use2, rewrite, split, join, fjoin, pick, await, suffices, frame}
-use types.Logic.{Logic, sem}
-use types.Match.{live, vrt, in_variant}
+use types.ByLocal.{get_in, get_tag, sets_last, lands_last, env}
+use types.Kit.{at_ret, any_q, post, by, frame}
+use types.Match.{vrt, in_variant}
 use types.Part.{whole, agg}
-use types.Run.{enter, addr, bin, lit, of_opd, stop, fld, no_more, and_then, returns, returns_within, first, branches, skips, exec, switches_on}
+use types.Run.{bin, lit, fld, returns_within, first, branches, skips, exec, switches_on}
 
 abbrev D : Type 0
 D = R.Denot
