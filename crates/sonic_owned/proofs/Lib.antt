@@ -1,7 +1,7 @@
 mod Answered
 mod AnswerLemmas
 pub mod BulkLemmas
-mod Calls
+pub mod Calls
 mod ChangeLemmas
 pub mod CopyLemmas
 pub mod DocumentLemmas
@@ -17,7 +17,7 @@ mod LentTexts
 mod LevelLemmas
 mod LevelWalk
 mod Lists
-mod Loans
+pub mod Loans
 pub mod MeaningLemmas
 pub mod MeantPathLemmas
 mod OpenedLemmas

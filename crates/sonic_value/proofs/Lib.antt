@@ -16,7 +16,6 @@ pub mod LawLemmas
 mod LentValues
 mod LevelLemmas
 mod Lists
-mod Loans
 mod NumberLemmas
 pub mod OpenLemmas
 mod OpenTextLemmas

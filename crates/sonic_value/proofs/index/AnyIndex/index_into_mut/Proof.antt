@@ -2,6 +2,7 @@
 use Rattle.std.proofs.Common.{◌≡◌, [], ◌∷◌, refl, subst, MutBor, Option, option_map, OnSome}
 use Rattle.std.proofs.raw_atomic.Walks.{proved}
 use Rattle.std.specs.Borrow.{LendsSo}
+use Rattle.sonic_owned.proofs.Calls.{closes, spent, told_last}
 use Rattle.sonic_owned.specs.TreePuts.{put}
 use Rattle.sonic_pointer.specs.Nodes.{node_of}
 use Rattle.sonic_pointer.specs.declared.node.PointerNode.{PointerNode}
@@ -34,12 +35,12 @@ use denote.Triple.Call.{calls_at}
 use denote.Triple.Clauses.{lasts, Ended, Lasts}
 use denote.Triple.Spec.{triple_of}
 use denote.Triple.Table.{framed}
-use denote.Triple.Walked.{Stays, walk_of, says, stay_dropped, Goes-dropped, Goes-spent_ref, ends_at}
+use denote.Triple.Walked.{Stays, walk_of, stay_dropped, Goes-dropped, Goes-spent_ref, ends_at}
 use mir.MapTy.{inst_fn}
 use mir.Syntax.{Dict, Args, named, a_type, dcons, dnil}
 use mir.Val.{Val}
 use types.ByLocal.{alloc_all, pass_all, free_all, look_at, get, through, sets, lands_as}
-use types.Kit.{‵, raw, ◌⊛◌, some, later, ◌$◌, ◌∵◌, !, qed, done, move, keep, drop, use1, use2, rewrite, split, join, fjoin, pick, await, suffices, frame}
+use types.Kit.{‵, raw, ◌⊛◌, some, later, ◌$◌, ◌∵◌, !, qed, move, keep, drop, use1, use2, rewrite, split, join, pick, await, suffices}
 use types.Run.{enter, addr, stop, no_more, and_then, returns}
 
 module _ (S : RattleType) (names : Names S.Denot) (dict : Dict) where
@@ -102,8 +103,7 @@ index_into_mut_spec {M} 𝓤 𝓛 𝓜 𝓡 wired S _ names dict asked =
     -- [the answer; what it leaves; the tokens; the token of what names]
     peeks ! O (Is O) (shows 𝓛 O) o (u ∷ []) (λ is.
     lands_as ! refl refl (answer_typed κv R 𝓛 o u is) $
-    returns ! (look_at ! 0 refl) $ free_all ! refl $ move ! (2 ∷ []) $ split ! $ move ! (1 ∷ []) $ split ! $ keep ! (3 ∷ 0 ∷ 2 ∷ 5 ∷ 4 ∷ []) $
+    returns ! (look_at ! 0 refl) $ free_all ! refl $ move ! (2 ∷ []) $ split ! $ move ! (1 ∷ []) $ split ! $ move ! (1 ∷ []) $ drop ! $
+    nothing ! $ move ! (5 ∷ 0 ∷ []) $ join ! $ move ! (2 ∷ 0 ∷ []) $ join ! $ move ! (3 ∷ 1 ∷ 0 ∷ 2 ∷ []) $
     suffices ! _ (ends_at 𝓛 T hs c y u o (tt, (tt, tt)) (tt, (tt, tt))) $
-    nothing ! $ nothing ! $ fjoin ! $ nothing ! $ fjoin ! $ join ! $
-    nothing ! $ move ! (4 ∷ 0 ∷ []) $ join ! $ move ! (3 ∷ 0 ∷ []) $ join ! $ move ! (2 ∷ 0 ∷ []) $ join ! $
-    join ! $ frame ! $ says ! (subst (V o) is_node found) $ done !)))))))))
+    closes ! (spent 𝓤 (spent 𝓤 (id⊢ 𝓤 _))) (told_last 𝓤 (subst (V o) is_node found)))))))))))

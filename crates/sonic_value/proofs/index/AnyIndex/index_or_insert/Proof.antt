@@ -5,6 +5,7 @@ use Rattle.std.proofs.raw_atomic.Walks.{proved}
 use Rattle.std.specs.Borrow.{LendsSoOk}
 use Rattle.std.specs.contracts.alloc.Global as GL
 use Rattle.std.specs.contracts.result.Result as RS
+use Rattle.sonic_owned.proofs.Calls.{closes, spent, told, told_last}
 use Rattle.sonic_error.proofs.error.Error.TheLaws.{the_row_laws as error_laws}
 use Rattle.sonic_error.specs.contracts.error.Error.{the_row as ErrorRow}
 use Rattle.sonic_error.specs.declared.error.Error.{Error}
@@ -57,7 +58,7 @@ use mir.Raw.{raw as bare}
 use mir.Syntax.{Dict, Args, named, a_type, dcons, dnil}
 use mir.Val.{Val}
 use types.ByLocal.{alloc_all, pass_all, free_all, look_at, get, through, sets, lands_as}
-use types.Kit.{‵, raw, ◌⊛◌, some, later, ◌$◌, ◌∵◌, !, qed, done, move, keep, drop, use0, use1, use2, rewrite, split, join, fjoin, pick, await, suffices, frame}
+use types.Kit.{‵, raw, ◌⊛◌, some, later, ◌$◌, ◌∵◌, !, qed, move, keep, drop, use0, use1, use2, rewrite, split, join, pick, await, suffices}
 use types.Run.{enter, addr, stop, no_more, and_then, returns}
 
 abbrev A : RattleType
@@ -163,10 +164,7 @@ index_or_insert_spec {M} 𝓤 𝓛 𝓜 𝓡 wired S _ names dict asked =
     peeks ! O (Is O) (shows 𝓛 O) o (u ∷ []) (λ is.
     lands_as ! refl refl ((Enum-Lawful 𝓛 (shape (RS.the_type Lent ErrorRow)) tt ((mut_Lawful 𝓛 (named 1) κv R, tt), ((error_laws.lawful 𝓛, tt), tt))).typed _
     (u ∷ []) is).0 $
-    returns ! (look_at ! 0 refl) $ free_all ! refl $ move ! (2 ∷ []) $ split ! $ move ! (1 ∷ []) $ split ! $ keep ! (3 ∷ 0 ∷ 2 ∷ 5 ∷ 4 ∷ []) $
+    returns ! (look_at ! 0 refl) $ free_all ! refl $ move ! (2 ∷ []) $ split ! $ move ! (1 ∷ []) $ split ! $ move ! (1 ∷ []) $ drop ! $
+    nothing ! $ move ! (5 ∷ 0 ∷ []) $ join ! $ move ! (2 ∷ 0 ∷ []) $ join ! $ move ! (3 ∷ 1 ∷ 0 ∷ 2 ∷ []) $
     suffices ! _ (ends_at 𝓛 T hs c y u o (tt, (tt, (tt, tt))) (tt, (tt, (tt, tt)))) $
-    nothing ! $ nothing ! $ fjoin ! $ nothing ! $ fjoin ! $ nothing ! $ fjoin ! $ join ! $
-    nothing ! $ move ! (4 ∷ 0 ∷ []) $ join ! $ move ! (3 ∷ 0 ∷ []) $ join ! $ move ! (2 ∷ 0 ∷ []) $ join ! $
-    join ! $ frame ! $ frame ! $
-    use0 𝓛 (raw (fact 𝓤 (X o node))) (fact_i 𝓤 _ (emp 𝓤) (subst (X o) is_node why)) $
-    use0 𝓛 (raw (fact 𝓤 (V o node))) (fact_i 𝓤 _ (emp 𝓤) (subst (V o) is_node found)) $ join ! $ done !))))))))))
+    closes ! (spent 𝓤 (spent 𝓤 (spent 𝓤 (id⊢ 𝓤 _)))) (told 𝓤 (subst (V o) is_node found) (told_last 𝓤 (subst (X o) is_node why)))))))))))))

@@ -4,6 +4,7 @@ use Rattle.std.proofs.VecSteps.Element.{Some-of, none_of}
 use Rattle.std.proofs.VecSteps.Shapes.{arm_body}
 use Rattle.std.specs.Borrow.{LendsSo}
 use Rattle.std.specs.Option.{ghost_name_of}
+use Rattle.sonic_owned.proofs.Loans.{so_self, so_then, so_weaker}
 use Rattle.sonic_owned.specs.TreePuts.{put}
 use Rattle.sonic_pointer.proofs.node.PointerNode.TheLaws.{the_row_laws as node_laws}
 use Rattle.sonic_pointer.specs.Nodes.{path_of}
@@ -11,7 +12,6 @@ use Rattle.sonic_pointer.specs.contracts.node.PointerNode.{the_row as PointerNod
 use Rattle.sonic_pointer.specs.declared.node.PointerNode.{PointerNode}
 use Rattle.sonic_text.specs.TreePaths.{child, leads}
 use Rattle.sonic_value.proofs.LentValues.{Lent_at, Answer_at, answer_typed, by_option}
-use Rattle.sonic_value.proofs.Loans.{so_self, so_then, so_weaker}
 use Rattle.sonic_value.proofs.PathLemmas.{GoesOn, none_left, some_left, fewer, leads_further, leads_nowhere, put_further}
 use Rattle.sonic_value.proofs.value.Value.+pointer_mut.{statement, functions}
 use Rattle.sonic_value.proofs.value.Value.+pointer_mut.Code as code
@@ -305,8 +305,8 @@ module _ {M : Type 1} (𝓤 : Ura M) (𝓛 : Logic 𝓤) (𝓜 : Model 𝓤 𝓛
         pick ! (λ ws₁. split ! $ forget ! $ split ! $ move ! (1 ∷ []) $ heard ! (KidV p r o) (λ was.
         let at_x = subst (λ (u : Option (MutBor D)). KidV p r u) ex was in
         rewrite ! 0 (λ (u : Option (MutBor D)). ‵ (Kid p r u)) ex refl $
-        use2 𝓛 (‵ (Down p r o')) (so_then 𝓛 R r.ghost_name x.ghost_name (ghost_name_of o') (λ w m. DownP p r o' w m) (λ w m. KidP p r (Some x) w m)
-        (λ w m. DownP p' x o' w m) (λ m. m ≡ r.now) (λ m. m ≡ r.now) (λ m. m ≡ x.now)
+        use2 𝓛 (‵ (Down p r o')) (so_then 𝓛 R r.ghost_name x.ghost_name (ghost_name_of o') (λ w m. KidP p r (Some x) w m) (λ m. m ≡ r.now)
+        (λ w m. DownP p' x o' w m) (λ m. m ≡ x.now) (λ w m. DownP p r o' w m) (λ m. m ≡ r.now)
         (λ w k m d s. down_put p p' r x o' w k m on rest at_x d s) (λ k m d s. s.1 d)) $
         keep ! (1 ∷ 2 ∷ 0 ∷ []) $ by ! (out r p o' v₃ (leads_further (tree r.now) (tree x.now) on rest at_x found)))))))))))))))
         -- none
@@ -320,7 +320,7 @@ module _ {M : Type 1} (𝓤 : Ura M) (𝓛 : Logic 𝓤) (𝓜 : Model 𝓤 𝓛
         -- [nothing; the token of the nodes; another one; that of the slice; that of r; the rest; p]
         move ! (5 ∷ []) $ pick ! (λ ws₁. split ! $ forget ! $ split ! $ move ! (1 ∷ []) $ heard ! (KidV p r o) (λ was.
         rewrite ! 0 (λ (u : Option (MutBor D)). ‵ (Kid p r u)) en refl $
-        use1 𝓛 (‵ (Down p r None)) (so_weaker 𝓛 R r.ghost_name maybe.none (λ w m. KidP p r None w m) (λ w m. DownP p r None w m) (λ m. m ≡ r.now) (λ m. m ≡ r.now)
+        use1 𝓛 (‵ (Down p r None)) (so_weaker 𝓛 R R r.ghost_name maybe.none (λ w m. KidP p r None w m) (λ w m. DownP p r None w m) (λ m. m ≡ r.now) (λ m. m ≡ r.now)
         (λ w m _. tt) (λ m same. same)) $
         nothing ! $ move ! (3 ∷ 0 ∷ []) $ join ! $ move ! (4 ∷ 0 ∷ []) $ join ! $ move ! (4 ∷ 0 ∷ []) $ join ! $
         use0 𝓛 (‵ (O.own_val None (live 0 (of_list []) ∷ []))) (none_of 𝓛 Lent) $
