@@ -14,8 +14,6 @@ pub mod GapLemmas
 pub mod WalkLemmas
 -- Cells that keep the entries of a text are read as these.
 pub mod KeptLemmas
--- What a walk has come to after a step, with its cells.
-pub mod StateLemmas
 -- What the cells say of the containers that are open.
 pub mod AroundLemmas
 -- What a walk has come to after a step, where the cells are its only stack.

@@ -13,7 +13,7 @@ ghost use Rattle.sonic_find.specs.Documents.{IsAfterRoot, IsInvalid, IsValidDocu
 ghost use Rattle.sonic_index.specs.declared.entry.Entry.{Entry};
 ghost use Rattle.sonic_index.specs.Internal.Cells.{AreKept};
 ghost use Rattle.sonic_index.specs.Internal.Walks.{AreOfAlone, AreWritten};
-ghost use Rattle.sonic_index.specs.Internal.Places.{first_item_of, item_after, labelled_at, walk_at, ComesNext, ExpectsValueAt, HasEndAt, HasItemAt, HasValueAt, IsValueWritten, OpensSome};
+ghost use Rattle.sonic_index.specs.Internal.Places.{first_item_of, item_after, labelled_at, ComesNext, ExpectsValueAt, HasEndAt, HasItemAt, HasValueAt, IsValueWritten, OpensSome};
 
 use crate::cell::Cell;
 use crate::members::WIDE;
@@ -345,7 +345,7 @@ fn entries(text: &[u8], written: &mut Written, start: usize) -> Result<usize, Fa
     requires empty { written.old.cells.items ≡ [] }
     requires place { start ≡ after_space text.now 0 }
     requires inside { start ≤ length text.now }
-    ensures ok { IfOk result (λ end. AreWritten (walk_at text.now end []) written.new.cells.items) }
+    ensures ok { IfOk result (λ end. AreWritten text.now end written.new.cells.items) }
     ensures inside { IfOk result (λ end. end ≤ length text.now) }
     ensures err { IfErr result (IsStopFor (IsRootFault text.now)) }
     ensures within { IfErr result (IsStopFor (λ s. s.place ≤ length text.now)) }

@@ -1,18 +1,19 @@
 -- Where a walk through a text has come to, with its cells as its only stack.
 use Rattle.std.specs.Prelude.{◌≡◌, ℕ, ◌+◌, ◌<◌, ◌≤◌, List, [], ◌∷◌, ◌++◌, Some, length, slice_get}
 use Rattle.sonic_text.specs.declared.kind.Kind.{Kind}
-use Rattle.sonic_text.specs.Places.{byte}
+use Rattle.sonic_text.specs.Places.{after_space, byte}
 use Rattle.sonic_text.specs.Strings.{strict}
-use Rattle.sonic_text.specs.Values.{opening}
+use Rattle.sonic_text.specs.Values.{opening, IsValue}
 use Rattle.sonic_parser.specs.declared.parts.ValueAt.{ValueAt}
 use Rattle.sonic_parser.specs.declared.parts.ValueAt.TheVariants.{Ends, Opens}
-use Rattle.sonic_parser.specs.Descents.{Descending}
+use Rattle.sonic_parser.specs.OpenContainers.{IsItemExpected, IsOpen, IsTop}
 use Rattle.sonic_index.specs.declared.build.At.{At}
 use Rattle.sonic_index.specs.declared.build.Item.{Item as ItemOf}
 use Rattle.sonic_index.specs.declared.build.Left.{Left}
 use Rattle.sonic_index.specs.declared.build.Left.TheVariants.{Item, Root}
 use Rattle.sonic_index.specs.declared.cell.Cell.{Cell}
-use Rattle.sonic_index.specs.Internal.Walks.{label_at, AreWritten, EndsValue, ExpectsItem, ExpectsValue}
+use Rattle.sonic_index.specs.declared.entry.Entry.{Entry}
+use Rattle.sonic_index.specs.Internal.Walks.{label_at, AreBounded, AreOfAlone, AreWritten, IsItemNext, IsValueEnded, IsValueNext}
 
 -- the first item of the container with this number
 abbrev pub first_item_of : ℕ → Kind → ItemOf
@@ -26,10 +27,6 @@ labelled_at item place = record item { label = label_at item.kind item.label pla
 abbrev pub item_after : ItemOf → ItemOf
 item_after item = record { parent = item.parent; kind = item.kind; label = item.label + 1 }
 
--- a walk of the text has come to the place, with containers of these kinds open
-abbrev pub walk_at : List ℕ → ℕ → List Kind → Descending
-walk_at t p kinds = record { text = t; place = p; lossy = strict; opened = kinds }
-
 -- a container begins at a place
 abbrev pub OpensSome : List ℕ → ℕ → Type 0
 OpensSome t i = (kind : Kind) × (byte t i ≡ opening kind)
@@ -40,24 +37,41 @@ pub data AreAround (t : List ℕ) (cells : List Cell) : ℕ → List Kind → Ty
   inside : {n : ℕ} {kinds outer : List Kind} (kind : Kind) (cell : Cell) → slice_get cells n ≡ Some cell → byte t cell.start ≡ opening kind → cell.parent < n → AreAround t cells cell.parent outer
       → kinds ≡ outer ++ kind ∷ [] → AreAround t cells n kinds
 
--- the walk has come to an item
+-- with containers of these kinds open the walk has come to an item
 pub record ExpectsItemAt (t : List ℕ) (cells : List Cell) (kinds : List Kind) (at : At) : Type 0 where
   pub around : AreAround t cells at.item.parent kinds
+  pub top : IsTop kinds at.item.kind
   pub within : at.place ≤ length t
-  pub item : ExpectsItem (walk_at t at.place kinds) cells at.item
+  pub expected : IsItemExpected strict t (after_space t 0) kinds at.place
+  pub bounded : AreBounded at.place cells
+  pub parent : at.item.parent < length cells
+  pub label : at.item.label ≤ at.place
+  pub next : (es : List Entry) → AreOfAlone t es → IsItemNext t es at.place cells at.item
 
 -- or to a value, which is that of the root where no container is open
 pub record ExpectsValueAt (t : List ℕ) (cells : List Cell) (kinds : List Kind) (at : At) : Type 0 where
   pub around : 0 < length kinds → AreAround t cells at.item.parent kinds
+  pub top : 0 < length kinds → IsTop kinds at.item.kind
   pub first : length kinds ≡ 0 → cells ≡ []
   pub within : at.place ≤ length t
-  pub value : ExpectsValue (walk_at t at.place kinds) cells at.item
+  pub expected : IsOpen strict t (after_space t 0) at.place kinds
+  pub bounded : AreBounded at.place cells
+  pub parent : at.item.parent ≤ length cells
+  pub label : at.item.label ≤ at.place
+  pub next : (es : List Entry) → AreOfAlone t es → IsValueNext es at.place cells at.item
 
--- or to the end of one
+-- or to the end of the value that begins at a place
 pub record EndsValueAt (t : List ℕ) (cells : List Cell) (kinds : List Kind) (at : At) : Type 0 where
   pub around : 0 < length kinds → AreAround t cells at.item.parent kinds
+  pub top : 0 < length kinds → IsTop kinds at.item.kind
   pub within : at.place ≤ length t
-  pub ended : EndsValue (walk_at t at.place kinds) cells at.item
+  pub begun : ℕ
+  pub expected : IsOpen strict t (after_space t 0) begun kinds
+  pub value : IsValue strict t begun at.place
+  pub bounded : AreBounded at.place cells
+  pub parent : at.item.parent < length cells
+  pub label : at.item.label ≤ at.place
+  pub next : (es : List Entry) → AreOfAlone t es → IsValueEnded es at.place cells at.item
 
 -- so it has, with some containers open
 abbrev pub HasItemAt : List ℕ → List Cell → At → Type 0
@@ -77,4 +91,4 @@ IsValueWritten t before now at (Opens kind h) = (at.place < h) × (length now �
 -- after the value another item is expected, or the root ended, and all is written
 abbrev pub ComesNext : List ℕ → List Cell → ℕ → Left → Type 0
 ComesNext t cells p (Item next) = (p < next.place) × HasItemAt t cells next
-ComesNext t cells p (Root e) = (e ≤ length t) × AreWritten (walk_at t e []) cells
+ComesNext t cells p (Root e) = (e ≤ length t) × AreWritten t e cells

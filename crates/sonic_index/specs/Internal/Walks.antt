@@ -5,8 +5,6 @@ use Rattle.sonic_text.specs.declared.kind.Kind.TheVariants.{Array, Object}
 use Rattle.sonic_text.specs.Places.{after_space}
 use Rattle.sonic_text.specs.Strings.{strict}
 use Rattle.sonic_text.specs.Values.{IsValue, ItemsFit}
-use Rattle.sonic_parser.specs.Descents.{Descending, IsAtValue, IsAtItem, IsAtEnd}
-use Rattle.sonic_parser.specs.OpenContainers.{IsTop}
 use Rattle.sonic_find.specs.Documents.{IsAlone}
 use Rattle.sonic_index.specs.declared.build.Item.{Item}
 use Rattle.sonic_index.specs.declared.cell.Cell.{Cell}
@@ -72,40 +70,10 @@ pub record AreBounded (place : ℕ) (cells : List Cell) : Type 0 where
   pub parents : (a : ℕ) (cell : Cell) → slice_get cells a ≡ Some cell → cell.parent < length cells
   pub labels : (a : ℕ) (cell : Cell) → slice_get cells a ≡ Some cell → cell.label ≤ place
 
--- the walk has come to a value of the root; if the text is one value alone, the cells are those of the entries before it
-pub record ExpectsValue (walk : Descending) (cells : List Cell) (item : Item) : Type 0 where
-  pub lossy : walk.lossy ≡ strict
-  pub at : IsAtValue (after_space walk.text 0) walk
-  pub top : 0 < length walk.opened → IsTop walk.opened item.kind
-  pub bounded : AreBounded walk.place cells
-  pub parent : item.parent ≤ length cells
-  pub label : item.label ≤ walk.place
-  pub next : (es : List Entry) → AreOfAlone walk.text es → IsValueNext es walk.place cells item
-
--- or to an item
-pub record ExpectsItem (walk : Descending) (cells : List Cell) (item : Item) : Type 0 where
-  pub lossy : walk.lossy ≡ strict
-  pub at : IsAtItem (after_space walk.text 0) walk
-  pub top : IsTop walk.opened item.kind
-  pub bounded : AreBounded walk.place cells
-  pub parent : item.parent < length cells
-  pub label : item.label ≤ walk.place
-  pub next : (es : List Entry) → AreOfAlone walk.text es → IsItemNext walk.text es walk.place cells item
-
--- or to the end of a value
-pub record EndsValue (walk : Descending) (cells : List Cell) (item : Item) : Type 0 where
-  pub lossy : walk.lossy ≡ strict
-  pub at : IsAtEnd (after_space walk.text 0) walk
-  pub top : 0 < length walk.opened → IsTop walk.opened item.kind
-  pub bounded : AreBounded walk.place cells
-  pub parent : item.parent < length cells
-  pub label : item.label ≤ walk.place
-  pub next : (es : List Entry) → AreOfAlone walk.text es → IsValueEnded es walk.place cells item
-
--- the root was passed, and the cells are those of all entries
-pub record AreWritten (walk : Descending) (cells : List Cell) : Type 0 where
-  pub root : IsValue strict walk.text (after_space walk.text 0) walk.place
-  pub kept : (es : List Entry) → AreOfAlone walk.text es → AreKept es cells
+-- the root was passed and ends at e, and the cells are those of all entries
+pub record AreWritten (t : List ℕ) (e : ℕ) (cells : List Cell) : Type 0 where
+  pub root : IsValue strict t (after_space t 0) e
+  pub kept : (es : List Entry) → AreOfAlone t es → AreKept es cells
 
 -- the label of the item of this kind that is expected at a place after so many others
 abbrev pub label_at : Kind → ℕ → ℕ → ℕ

@@ -30,7 +30,7 @@ item_of-requires-clause-parent c =
     let i = c.containers.invariant.ends in
     let e = c.end-cell.ensures.cell in
     let o = outer_opens c.containers.at e.0 c.in-End.end i.2 i.1 e.1 c.if-at-eq0.false in
-    rw (c.deref.ensures.value, c.end-cell.ensures.cells, e.2) (omega (arith, o.0, i.2.ended.parent, length-set c.containers.written.cells.items c.containers.at.item.parent (record e.0 { end = c.in-End.end })))
+    rw (c.deref.ensures.value, c.end-cell.ensures.cells, e.2) (omega (arith, o.0, i.2.parent, length-set c.containers.written.cells.items c.containers.at.item.parent (record e.0 { end = c.in-End.end })))
 
 pub item_of-requires-clause-opens : goal.item_of-requires-clause-opens
 item_of-requires-clause-opens c =

@@ -31,4 +31,4 @@ returns-in_ok-add-in-Opens-clause-ok c =
     let cell = cell_for c.args.at.place 0 c.args.at.item in
     let i = c.requires.expected in
     rw (c.in-Opens.is, c.in_ok-add-in-Opens.ensures, c.begun-cell.ensures)
-    (v.0, length-append cells (cell ∷ []), (i.0 ++ c.in-Opens.field-0 ∷ [], value_opened c.args.at c.in-Opens.field-0 0 i.1 v.1 v.2))
+    (v.0, length-append cells (cell ∷ []), (i.0 ++ c.in-Opens.field-0 ∷ [], value_opened c.args.at c.in-Opens.field-0 0 i.1 v.0 v.1 v.2))
