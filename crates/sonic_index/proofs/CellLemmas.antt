@@ -1,43 +1,78 @@
 -- What the cells say of the entries that they keep.
-use Rattle.std.proofs.Common.{◌≡◌, ◌≢◌, ◌∙◌, ◌⊎◌, ◌==◌, inl, inr, ℕ, ◌<◌, List, false, length, get_or, arith, refl, sym, ap, subst}
+use Rattle.std.proofs.Common.{◌≡◌, ◌≢◌, ◌∙◌, ◌==◌, inl, inr, ℕ, zero, suc, ◌+◌, ◌-◌, ◌<◌, ◌≤◌, List, false, length, get_or, arith, refl, sym, ap, subst}
 use Rattle.std.proofs.lemmas.Bool.{cases_eq, cases_order}
 use Rattle.std.proofs.lemmas.Bool.Decides.{Decides-eqb, eqb_tells}
 use Rattle.std.proofs.lemmas.List.{length-map}
 use Rattle.std.proofs.lemmas.Option.{get_or_from_slice_get, slice_get-map, slice_get_within}
-use Rattle.std.specs.Prelude.{Option, Some, option_map, slice_get}
+use Rattle.std.specs.Prelude.{Option, None, Some, option_map, slice_get}
 use Rattle.sonic_text.specs.declared.kind.Kind.{Kind}
 use Rattle.sonic_text.specs.declared.kind.Kind.TheVariants.{Array, Object}
 use Rattle.sonic_text.specs.Places.{byte, after_space}
-use Rattle.sonic_text.specs.Strings.{IsString, strict}
+use Rattle.sonic_text.specs.Strings.{escaped, strict, IsEscape, IsString}
+use Rattle.sonic_text.specs.Strings.IsChar.{short_escape, unescaped, unicode_escape}
+use Rattle.sonic_text.specs.Strings.IsUnicodeChar.{lone_high, lone_low, pair, scalar}
 use Rattle.sonic_error.specs.declared.json_type.JsonType.{JsonType}
 use Rattle.sonic_text.specs.Values.{opening, type_at}
-use Rattle.sonic_text.proofs.Strings.{StringOutcome, string_never_both, string_one, string_some}
+use Rattle.sonic_text.proofs.Places.{byte_within}
+use Rattle.sonic_text.proofs.Strings.{chain_later, chain_of, Chain, done as no_char, more as one_char}
 use Rattle.sonic_text.proofs.Values.{items_open}
 use Rattle.sonic_index.specs.declared.cell.Cell.{Cell}
 use Rattle.sonic_index.specs.declared.entry.Entry.{Entry}
 use Rattle.sonic_index.specs.declared.entry.Label.{Label}
 use Rattle.sonic_index.specs.declared.entry.Label.TheVariants.{Root, Key, At}
 use Rattle.sonic_index.specs.Entries.{IsLabelled, IsEntry, of_root, of_part, AreEntries}
-use Rattle.sonic_index.specs.Internal.Cells.{found_end, end_if, end_of_string, label_of, entry_of, entries_of}
+use Rattle.sonic_index.specs.Internal.Cells.{char_length, end_of_string, quote_after, label_of, entry_of, entries_of}
 use Rattle.sonic_index.proofs.EntryLemmas.{before_it, node_of, read_element}
 use Rattle.sonic_index.proofs.NodeLemmas.{node_later}
-
--- where a string is, its end is found
-outcome_end : {t : List ℕ} {k e : ℕ} {b : List ℕ} (o : StringOutcome strict t k) → IsString strict t k e b → found_end t k o ≡ e
-outcome_end (inl (j, (c, y))) s = (string_one y s).0
-outcome_end (inr (f, y)) s = absurd (string_never_both s y)
-
-end_found : {t : List ℕ} {k e : ℕ} {b : List ℕ} (d : (byte t k ≡ 34) ⊎ (byte t k ≢ 34)) → IsString strict t k e b → end_if t k d ≡ e
-end_found {t} {k} (inl quote) s = outcome_end (string_some strict t k quote) s
-end_found (inr none) s = absurd (none s.opens)
-
-pub string_end_is : {t : List ℕ} {k e : ℕ} {b : List ℕ} → IsString strict t k e b → end_of_string t k ≡ e
-unfolding end_of_string
-string_end_is {t} {k} s = end_found (cases_eq (byte t k) 34) s
 
 -- numbers that differ are not equal
 eq_no : (a b : ℕ) → a ≢ b → (a == b) ≡ false
 eq_no a b n = elim (eqb_tells a b) [ inl (e, same) ↦ absurd (n same) | inr (e, other) ↦ e ]
+
+-- a char is passed on the way to the quote
+char_passed : (t : List ℕ) (p q n : ℕ) → 0 < n → byte t p ≢ 34 → p + char_length t p ≡ q → quote_after t n p ≡ quote_after t (n - 1) q
+char_passed t p q zero some other e = absurd (omega arith)
+char_passed t p q (suc n) some other e = let back : suc n - 1 ≡ n = omega arith in rw (eq_no (byte t p) 34 other, e, back) refl
+
+-- of an escape by its number
+escape_passed : (t : List ℕ) (p n : ℕ) {m : ℕ} → 0 < n → IsEscape t p m → quote_after t n p ≡ quote_after t (n - 1) (p + 6)
+escape_passed t p n some (b, u, h) =
+    char_passed t p (p + 6) n some (λ e. omega (arith, b, e)) (rw ((Decides-eqb (byte t p) 92).1 b, (Decides-eqb (byte t (p + 1)) 117).1 u) refl)
+
+-- no other escape has a u
+no_u : (b c : ℕ) → escaped b ≡ Some c → b ≢ 117
+unfolding escaped
+no_u b c e u = absurd (let none : None ≡ Some c = rw u at e in cc)
+
+-- so chars are, up to it
+chars_passed : {t : List ℕ} {p q : ℕ} {b : List ℕ} (n : ℕ) → Chain strict t p q b → byte t q ≡ 34 → q ≤ p + n → quote_after t n p ≡ q
+chars_passed {t} {p} {q} zero (no_char e f) quote l = sym e
+chars_passed {t} {p} {q} (suc n) (no_char e f) quote l =
+    let here : byte t p ≡ 34 = rw e at quote in
+    rw ((Decides-eqb (byte t p) 34).1 here) (sym e)
+chars_passed {t} {p} n (one_char (unescaped h e f) g d) quote l =
+    let later = chain_later g in
+    char_passed t p _ n (omega arith) h.1 (rw (eq_no (byte t p) 92 h.2) (sym e)) ∙ chars_passed (n - 1) g quote (omega arith)
+chars_passed {t} {p} n (one_char (short_escape {c} h k e f) g d) quote l =
+    let later = chain_later g in
+    let other = no_u (byte t (p + 1)) c k in
+    char_passed t p _ n (omega arith) (λ o. omega (arith, h, o)) (rw ((Decides-eqb (byte t p) 92).1 h, eq_no (byte t (p + 1)) 117 other) (sym e))
+    ∙ chars_passed (n - 1) g quote (omega arith)
+chars_passed {t} {p} n (one_char (unicode_escape h (scalar _ _ e f)) g d) quote l =
+    let later = chain_later g in
+    escape_passed t p n (omega arith) h ∙ rw (← e) (chars_passed (n - 1) g quote (omega arith))
+chars_passed {t} {p} n (one_char (unicode_escape h (pair _ low _ e f)) g d) quote l =
+    let later = chain_later g in
+    let second : p + 6 + 6 ≡ p + 12 = omega arith in
+    escape_passed t p n (omega arith) h ∙ escape_passed t (p + 6) (n - 1) (omega arith) low ∙ rw (second, ← e) (chars_passed (n - 1 - 1) g quote (omega arith))
+chars_passed n (one_char (unicode_escape h (lone_high m _ _ e f)) g d) quote l = absurd cc
+chars_passed n (one_char (unicode_escape h (lone_low m _ e f)) g d) quote l = absurd cc
+
+pub string_end_is : {t : List ℕ} {k e : ℕ} {b : List ℕ} → IsString strict t k e b → end_of_string t k ≡ e
+unfolding end_of_string
+string_end_is {t} {k} s =
+    let within = byte_within t s.close (λ z. omega (arith, z, s.closes)) in
+    ap (λ o. o + 1) (chars_passed (length t) (chain_of s.chars) s.closes (omega (arith, within))) ∙ sym s.end
 
 -- the three labels
 pub label_root : (t : List ℕ) (parent cell : Cell) → parent.start ≡ cell.start → label_of t parent cell ≡ Root

@@ -1,28 +1,24 @@
 -- What a cell keeps of an entry.
-use Rattle.std.specs.Prelude.{◌≡◌, ◌≢◌, ◌⊎◌, ℕ, ◌==◌, List, Some, map, length, get_or, slice_get, if◌then◌else◌}
-use Rattle.std.proofs.Common.{inl, inr}
-use Rattle.std.proofs.lemmas.Bool.{cases_eq}
+use Rattle.std.specs.Prelude.{◌≡◌, ℕ, zero, suc, ◌+◌, ◌==◌, List, Some, map, length, get_or, slice_get, if◌then◌else◌}
 use Rattle.sonic_text.specs.Places.{byte}
-use Rattle.sonic_text.specs.Strings.{strict}
 use Rattle.sonic_text.specs.Values.{type_at}
-use Rattle.sonic_text.proofs.Strings.{StringOutcome, string_some}
 use Rattle.sonic_index.specs.declared.cell.Cell.{Cell}
 use Rattle.sonic_index.specs.declared.entry.Entry.{Entry}
 use Rattle.sonic_index.specs.declared.entry.Label.{Label}
 use Rattle.sonic_index.specs.declared.entry.Label.TheVariants.{Root, Key, At}
 
--- where the string that is found ends, and else 0
-abbrev pub found_end : (t : List ℕ) (k : ℕ) → StringOutcome strict t k → ℕ
-found_end t k (inl string) = string.0
-found_end t k (inr fault) = 0
+-- how many bytes the char of a string at p takes: six after a backslash and a u, two after another backslash
+abbrev pub char_length : List ℕ → ℕ → ℕ
+char_length t p = if byte t p == 92 then (if byte t (p + 1) == 117 then 6 else 2) else 1
 
-abbrev pub end_if : (t : List ℕ) (k : ℕ) → (byte t k ≡ 34) ⊎ (byte t k ≢ 34) → ℕ
-end_if t k (inl quote) = found_end t k (string_some strict t k quote)
-end_if t k (inr none) = 0
+-- the place of the first quote after chars from p on, of n at most
+abbrev pub quote_after : List ℕ → ℕ → ℕ → ℕ
+quote_after t zero p = p
+quote_after t (suc n) p = if byte t p == 34 then p else quote_after t n (p + char_length t p)
 
--- where the string at a place ends, and 0 where none is
+-- where the string at a place ends
 unfoldable pub end_of_string : List ℕ → ℕ → ℕ
-end_of_string t k = end_if t k (cases_eq (byte t k) 34)
+end_of_string t k = quote_after t (length t) (k + 1) + 1
 
 -- how the value of a cell is labelled in the value of another one, its parent: the root is its own
 abbrev pub label_of : List ℕ → Cell → Cell → Label

@@ -4,8 +4,7 @@ use Rattle.sonic_text.specs.Paths.{Node, Path}
 use Rattle.sonic_text.specs.Places.{after_space, byte}
 use Rattle.sonic_text.specs.Strings.{IsString, strict}
 use Rattle.sonic_pointer.specs.declared.rule.KeyRule.TheVariants.{First}
-use Rattle.sonic_find.specs.Internal.Follow.{IsRest}
-use Rattle.sonic_find.specs.Paths.{LeadsOn, name_of}
+use Rattle.sonic_find.specs.Paths.{name_of, EvaluatesBy, LeadsOn, Outcome}
 use Rattle.sonic_index.specs.declared.cell.Cell.{Cell}
 use Rattle.sonic_index.specs.declared.entry.Entry.{Entry}
 use Rattle.sonic_index.specs.Nodes.{Part, IsPartAt}
@@ -98,4 +97,4 @@ pub record IsSought (t : List ℕ) (es : List Entry) (x : Entry) (node : Node) (
 pub record IsReachedBy (t : List ℕ) (cells : List Cell) (path rest : Path) (c : ℕ) : Type 0 where
   pub cell : Cell
   pub read : slice_get cells c ≡ Some cell
-  pub goes_on : IsRest First t (after_space t 0) path cell.start rest
+  pub goes_on : (o : Outcome) → EvaluatesBy First t cell.start rest o → EvaluatesBy First t (after_space t 0) path o
