@@ -4,15 +4,16 @@ use Rattle.std.proofs.lemmas.Bool.{cases_order}
 use Rattle.std.proofs.lemmas.Cmp.{nat_cmp_total, nat_list_cmp_total, on_total, then_total, tied_itself}
 use Rattle.std.proofs.lemmas.List.{length-map}
 use Rattle.std.proofs.lemmas.List.Elements.{All-contains, All-contains_itself, All-nil, All-push, All-weaker, Contains-append_left, Contains-push, Contains-push_cases}
-use Rattle.std.proofs.lemmas.List.Sorted.{All-permutation, Contains-permutation, ranks_by, sorted_far}
+use Rattle.std.proofs.lemmas.List.Sorted.{All-permutation, Contains-permutation, ranks_by, searchable_from_sorted, sorted_far}
+use Rattle.std.proofs.lemmas.Map.Keys.{ge_from_not_lt}
 use Rattle.std.proofs.lemmas.Map.Text.{is_eq-slice_cmp}
 use Rattle.std.proofs.lemmas.Option.{get_or_from_slice_get, slice_get-get_or, slice_get-map, slice_get_within}
 use Rattle.std.proofs.lemmas.Slice.Eq.{bytes_eq-Decides}
-use Rattle.std.specs.Cmp.{IsTotalOrder, nat_cmp_is}
+use Rattle.std.specs.Cmp.{IsTotalOrder}
 use Rattle.std.specs.Cmp.Lexicographic.{slice_cmp}
 use Rattle.std.specs.FinMap.{nat_cmp-IsAntisymmetric}
 use Rattle.std.specs.List.Sorted.{IsPermutation, IsSortedBy}
-use Rattle.std.specs.Ordering.{is_eq, is_lt, ordering_reverse, ordering_then}
+use Rattle.std.specs.Ordering.{is_eq, is_lt, ordering_index, ordering_then}
 use Rattle.std.specs.Prelude.{Option, None, Some, option_map, slice_get}
 use Rattle.sonic_text.specs.Strings.{IsString, strict}
 use Rattle.sonic_text.proofs.Strings.{chars_later, string_one}
@@ -56,25 +57,6 @@ pair_total = then_total (on_total (λ p. p.0) nat_cmp_total) (on_total (λ p. p.
 named_total : IsTotalOrder compare_named
 named_total = then_total (then_total (on_total (λ m. m.0) nat_cmp_total) (on_total (λ m. m.1.now) nat_list_cmp_total)) (on_total (λ m. m.2) nat_cmp_total)
 
--- what isn't after another is before what that is before
-less_from : {K : Type 0} {R : K → K → Ordering} → IsTotalOrder R → (x y z : K) → is_lt (R y x) ≡ false → R y z ≡ Less → R x z ≡ Less
-less_from {R = R} o x y z n l = elim (R y x) as (λ v. R y x ≡ v → R x z ≡ Less) [
-  | Less ↦ λ e. absurd (let f : true ≡ false = ap is_lt (sym e) ∙ n in cc)
-  | Equal ↦ λ e. o.congr x y z (o.antisymm x y ∙ ap ordering_reverse e) ∙ l
-  | Greater ↦ λ e. o.trans x y z (o.antisymm x y ∙ ap ordering_reverse e) l
-] refl
-
--- and what ties with what is sought is not before what comes after that
-greater_from : {K : Type 0} {R : K → K → Ordering} → IsTotalOrder R → (x y z : K) → is_lt (R y x) ≡ false → R y z ≡ Equal → R x z ≢ Less → R x z ≡ Equal
-greater_from {R = R} o x y z n tied before = elim (R y x) as (λ v. R y x ≡ v → R x z ≡ Equal) [
-  | Less ↦ λ e. absurd (let f : true ≡ false = ap is_lt (sym e) ∙ n in cc)
-  | Equal ↦ λ e. o.congr x y z (o.antisymm x y ∙ ap ordering_reverse e) ∙ tied
-  | Greater ↦ λ e.
-      let back : R x y ≡ Less = o.antisymm x y ∙ ap ordering_reverse e in
-      let same : R y x ≡ R z x = o.congr y z x tied in
-      absurd (before (o.antisymm x z ∙ ap ordering_reverse (sym same ∙ e)))
-] refl
-
 -- the parts of an answer that isn't less
 not_less_first : (a b : Ordering) → is_lt (ordering_then a b) ≡ false → is_lt a ≡ false
 not_less_first Less b e = e
@@ -91,10 +73,17 @@ is_less Less e = refl
 is_less Equal e = absurd cc
 is_less Greater e = absurd cc
 
-pub is_equal : (o : Ordering) → is_eq o ≡ true → o ≡ Equal
-is_equal Less e = absurd cc
-is_equal Equal e = refl
-is_equal Greater e = absurd cc
+-- what is no more than less is less
+low_less : (o p : Ordering) → ordering_index o ≤ ordering_index p → p ≡ Less → o ≡ Less
+low_less Less p l e = refl
+low_less Equal p l e = absurd (omega (arith, l, ap ordering_index e))
+low_less Greater p l e = absurd (omega (arith, l, ap ordering_index e))
+
+-- and what is no more than equal is equal, or less
+low_equal : (o p : Ordering) → ordering_index o ≤ ordering_index p → p ≡ Equal → o ≢ Less → o ≡ Equal
+low_equal Less p l e other = absurd (other refl)
+low_equal Equal p l e other = refl
+low_equal Greater p l e other = absurd (omega (arith, l, ap ordering_index e))
 
 -- what ties is one
 same_key_of : (p i : ℕ) (b q : List ℕ) → compare_key_of p b i q ≡ Equal → (p ≡ i) × (b ≡ q)
@@ -104,14 +93,6 @@ same_key_of p i b q e =
 
 tied_key : (p i : ℕ) (b q : List ℕ) → p ≡ i → b ≡ q → compare_key_of p b i q ≡ Equal
 tied_key p i b q same one = rw (same, one, tied_itself nat_cmp_total i) (tied_itself nat_list_cmp_total q)
-
--- numbers that aren't less
-not_less : (a b : ℕ) → is_lt (nat_cmp a b) ≡ false → b ≤ a
-not_less a b e = elim (cases_order a b) [
-  | inl same ↦ omega (arith, same)
-  | inr (inl less) ↦ absurd (let l : Less ≡ nat_cmp a b = nat_cmp_is a b Less less in let f : true ≡ false = ap is_lt l ∙ e in cc)
-  | inr (inr more) ↦ omega (arith, more)
-]
 
 -- the order of the members by their places
 abbrev pub AreSorted : List Named → Type 0
@@ -123,10 +104,12 @@ in_order members up j k x y l e f =
     let far = sorted_far (λ x y. is_lt (compare_named x y)) (ranks_by named_total (λ m. m)) members up j k x l (slice_get_within members k y f) in
     rw (get_or_from_slice_get members j x x e, get_or_from_slice_get members k y x f) at far
 
--- the pairs of object and key are in order too
-pair_in_order : (members : List Named) → AreSorted members → (j k : ℕ) (x y : Named) → j ≤ k → slice_get members j ≡ Some x → slice_get members k ≡ Some y
-    → is_lt (compare_pair (y.0, y.1.now) (x.0, x.1.now)) ≡ false
-pair_in_order members up j k x y l e f = not_less_first (compare_key_of y.0 y.1.now x.0 x.1.now) (nat_cmp y.2 x.2) (in_order members up j k x y l e f)
+-- and how they compare with what is sought goes up
+rising : (members : List Named) → AreSorted members → (i : ℕ) (q : List ℕ) (j k : ℕ) (x y : Named) → j ≤ k → slice_get members j ≡ Some x → slice_get members k ≡ Some y
+    → ordering_index (compare_key_of x.0 x.1.now i q) ≤ ordering_index (compare_key_of y.0 y.1.now i q)
+rising members up i q j k x y l e f =
+    let order = searchable_from_sorted pair_total (λ (m : Named). (m.0, m.1.now)) members (i, q) (λ n d a b. not_less_first _ _ (up n d a b)) j k x l (slice_get_within members k y f) in
+    rw (get_or_from_slice_get members j x x e, get_or_from_slice_get members k y x f) at order
 
 -- the bounds come nearer
 pub place_low : {members : List Named} {i low high : ℕ} {q : List ℕ} (k : ℕ) (x : Named) → AreSorted members → IsPlaceFor members i q low high → slice_get members k ≡ Some x
@@ -134,7 +117,7 @@ pub place_low : {members : List Named} {i low high : ℕ} {q : List ℕ} (k : �
 place_low {members} {i} {q = q} k x up s e less l = record {
   order = omega (arith, l);
   within = s.within;
-  before = λ j y f g. less_from pair_total (y.0, y.1.now) (x.0, x.1.now) (i, q) (pair_in_order members up j k y x (omega (arith, f)) g e) less;
+  before = λ j y f g. low_less _ _ (rising members up i q j k y x (omega (arith, f)) g e) less;
   from = s.from;
 }
 
@@ -144,7 +127,7 @@ place_high {members} {i} {q = q} k x up s e other m l = record {
   order = m;
   within = omega (arith, l, s.within);
   before = s.before;
-  from = λ j y f g less. other (less_from pair_total (x.0, x.1.now) (y.0, y.1.now) (i, q) (pair_in_order members up k j x y f e g) less);
+  from = λ j y f g less. other (low_less _ _ (rising members up i q k j x y f e g) less);
 }
 
 -- what a mapped list has comes of what the list has
@@ -214,8 +197,7 @@ other_placed {i = i} {at} {q} o wide s x e other n m =
           other tied
       | inr (inl less) ↦ (let l = s.before z.k z.x less z.read in let tied = z.tied in absurd cc)
       | inr (inr more) ↦
-          other (greater_from pair_total (x.0, x.1.now) (z.x.0, z.x.1.now) (i, q) (pair_in_order o.members o.sorted at z.k x z.x (omega (arith, more)) e z.read) z.tied
-          (s.from at x (omega arith) e))
+          other (low_equal _ _ (rising o.members o.sorted i q at z.k x z.x (omega (arith, more)) e z.read) z.tied (s.from at x (omega arith) e))
     ]
 
 -- and where it is one that is sought, it is the first
@@ -237,7 +219,7 @@ first_placed {t} {cells} {i = i} {at} {c} {q} o wide s y tied =
                 let pair : compare_key_of z.x.0 z.x.1.now x.0 x.1.now ≡ Equal = tied_key z.x.0 x.0 z.x.1.now x.1.now (other.0 ∙ sym one.0) (other.1 ∙ sym one.1) in
                 let up = in_order o.members o.sorted at z.k x z.x (omega (arith, more)) y.read z.read in
                 let last : is_lt (nat_cmp z.x.2 x.2) ≡ false = rw pair at up in
-                omega (arith, not_less z.x.2 x.2 last, z.number, y.number)
+                omega (arith, ge_from_not_lt z.x.2 x.2 last, z.number, y.number)
           ];
     }
 
