@@ -6,7 +6,8 @@ use Rattle.std.proofs.Math.ListN.{drop_of_length-le}
 use Rattle.sonic_find.proofs.AnswerLemmas.One.{answer_one}
 use Rattle.sonic_find.specs.Answers.{Span, Answer, IsAnswer}
 use Rattle.sonic_find.specs.Laws.{ExactlyOne}
-use Rattle.sonic_lines.specs.LineRows.{IsBlankLine, entry_text, entries_text, IsErrorLine, HasErrorRow, error_here, error_later, IsRow, blank_row, entries_row, refused_row, AreRowsOf, no_row, one_more_row, AreRows}
+use Rattle.sonic_lines.specs.LineRows.{IsBlankLine, entries_text, IsErrorLine, HasErrorRow, error_here, error_later, IsRow, blank_row, entries_row, refused_row, AreRowsOf, no_row, one_more_row, AreRows}
+use Rattle.sonic_lines.specs.LineTexts.{entry_text, error_text}
 use Rattle.sonic_lines.specs.Streams.{lines_of, EndsLines}
 use Rattle.sonic_lines.proofs.StreamLemmas.{lines_append}
 use Rattle.std.proofs.lemmas.Option.{get_or_from_slice_get, slice_get_within}
@@ -17,14 +18,12 @@ use Rattle.sonic_find.specs.declared.span.Span as slot
 use Rattle.sonic_lines.specs.Internal.Rows.{AreWithin, tab_before}
 use Rattle.std.specs.Prelude.{codes}
 use Rattle.std.specs.Fmt.{decimal}
-use Rattle.sonic_error.specs.Codes.{category_of}
 use Rattle.sonic_error.specs.Errors.{error_code, error_offset}
 use Rattle.sonic_error.specs.declared.code.ErrorCode.TheVariants.{NoMemory}
 use Rattle.sonic_error.specs.declared.error.Error.{Error}
 use Rattle.sonic_parser.specs.Faults.{IsErrorOf, IsStopFor}
 use Rattle.sonic_parser.specs.declared.fault.Fault.{Fault}
 use Rattle.sonic_parser.specs.declared.fault.Fault.TheVariants.{OutOfMemory, At}
-use Rattle.sonic_error.specs.Names.{word_of_category, name_of_code}
 use Rattle.sonic_text.proofs.Values.{value-longer}
 use Rattle.sonic_text.specs.Paths.{Path}
 use Rattle.sonic_text.specs.Places.{after_space}
@@ -227,8 +226,7 @@ no_error_line {paths} {line} {entries} is e =
 pub row_refused : {paths : List Path} {line : List ℕ} (error : Error) (old now : List ℕ) (n : ℕ) (fault : Fault)
     → IsStopFor (λ s. IsAnswer line true paths (Answer.error s)) fault → IsErrorOf line fault error → (error_code error ≡ NoMemory → ⊥)
     → ¬ IsBlankLine line
-    → now ≡ old ++ (codes "! " ++ decimal n ++ codes " " ++ word_of_category (category_of (error_code error)) ++ codes " " ++ name_of_code (error_code error) ++ codes " "
-    ++ decimal (error_offset error) ++ codes "\n")
+    → now ≡ old ++ error_text (decimal n ++ codes " ") (error_code error) (decimal (error_offset error))
     → ((row : List ℕ) × IsRow paths n line row × (now ≡ old ++ row)) × IsErrorLine paths line
 row_refused error old now n OutOfMemory a m memory filled e = absurd (memory m.code)
 row_refused error old now n (At s) a x memory filled e =

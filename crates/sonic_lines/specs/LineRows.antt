@@ -1,10 +1,9 @@
 -- The rows of the lines of a stream: what paths are answered in each line, which is read by itself.
-use Rattle.std.specs.Prelude.{◌≡◌, ℕ, ◌+◌, ◌≤◌, true, List, [], ◌∷◌, ◌++◌, Option, Some, None, length, slice_range, codes}
+use Rattle.std.specs.Prelude.{◌≡◌, ℕ, ◌+◌, ◌≤◌, true, List, [], ◌∷◌, ◌++◌, Option, length, codes}
 use Rattle.std.specs.Fmt.{decimal}
-use Rattle.sonic_error.specs.Codes.{category_of}
-use Rattle.sonic_error.specs.Names.{word_of_category, name_of_code}
 use Rattle.sonic_error.specs.Places.{offset_of}
 use Rattle.sonic_find.specs.Answers.{Span, IsAnswer, spans, error}
+use Rattle.sonic_lines.specs.LineTexts.{entry_text, error_text}
 use Rattle.sonic_lines.specs.Streams.{lines_of}
 use Rattle.sonic_text.specs.Paths.{Path}
 use Rattle.sonic_text.specs.Places.{after_space}
@@ -14,12 +13,7 @@ use Rattle.sonic_text.specs.declared.stop.Stop.{Stop}
 abbrev pub IsBlankLine : List ℕ → Type 0
 IsBlankLine line = length line ≤ after_space line 0
 
--- what a row says of one path: the length of the value's text in bytes and the text, or a dash where its key is lacked
-abbrev pub entry_text : List ℕ → Option Span → List ℕ
-entry_text line None = codes "-"
-entry_text line (Some (i, j)) = decimal (length (slice_range line i j)) ++ codes " " ++ slice_range line i j
-
--- and of all, with a tab between two of them
+-- what a row says of all paths, with a tab between two of them
 abbrev pub entries_text : List ℕ → List (Option Span) → List ℕ
 entries_text line [] = []
 entries_text line (e ∷ []) = entry_text line e
@@ -27,9 +21,7 @@ entries_text line (e ∷ f ∷ es) = entry_text line e ++ 9 ∷ entries_text lin
 
 -- the row of an error: the number of the line, the family, the code and the offset in the line
 abbrev pub error_row : ℕ → List ℕ → Stop → List ℕ
-error_row n line s =
-    codes "! " ++ decimal n ++ codes " " ++ word_of_category (category_of s.code) ++ codes " " ++ name_of_code s.code ++ codes " " ++ decimal (offset_of line s.place)
-    ++ codes "\n"
+error_row n line s = error_text (decimal n ++ codes " ") s.code (decimal (offset_of line s.place))
 
 -- the row of the line with this number, counted from 1
 pub data IsRow (paths : List Path) (n : ℕ) (line row : List ℕ) : Type 0 where

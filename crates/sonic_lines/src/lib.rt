@@ -1,6 +1,9 @@
 //! Records by line: a row for each line of a stream, of what the paths of a tree lead to in it.
 #![tactic(auto)]
 
+// Text that is put together from its end to its start, which the commands need too.
+#[doc(hidden)]
+pub mod from_end;
 // The laws of rows and of pieces.
 mod law;
 // The rows of the lines of a stream.

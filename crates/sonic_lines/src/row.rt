@@ -1,15 +1,14 @@
 // The rows of the lines of a stream.
 ghost use Rattle.std.specs.Prelude.{◌≡◌, ◌+◌, ◌-◌, ◌^◌, ◌<◌, ◌≤◌, ◌++◌, ◌∷◌, ◌↔◌, ℕ, List, true, codes, length, drop, slice_range, IfErr, IfOk, IfSome, IsTrue, option_map, OnErr, OnOk, decimal};
 ghost use Rattle.std.specs.Str.{IsUtf8};
-ghost use Rattle.sonic_error.specs.Codes.{category_of};
 ghost use Rattle.sonic_error.specs.Errors.{error_code, error_offset};
 ghost use Rattle.sonic_parser.specs.Faults.{IsStopFor};
 ghost use Rattle.sonic_find.specs.Answers.{Answer, IsAnswer};
 ghost use Rattle.sonic_find.specs.Parts.{AreSpans};
 ghost use Rattle.sonic_find.specs.Spans.{pair_of, pairs_of};
 ghost use Rattle.sonic_lines.specs.Internal.Rows.{AreWithin, IsMore, tab_before};
-ghost use Rattle.sonic_lines.specs.LineRows.{AreRows, HasErrorRow, IsErrorLine, IsRow, entries_text, entry_text};
-ghost use Rattle.sonic_error.specs.Names.{word_of_category, name_of_code};
+ghost use Rattle.sonic_lines.specs.LineRows.{AreRows, HasErrorRow, IsErrorLine, IsRow, entries_text};
+ghost use Rattle.sonic_lines.specs.LineTexts.{counted, entry_text, error_text};
 ghost use Rattle.sonic_lines.specs.Streams.{lines_of};
 
 use crate::short::{SHORT, put_entries};
@@ -251,8 +250,7 @@ fn add_entry(line: &[u8], slot: Option<Span>, out: &mut Vec<u8>) -> Result<(), A
 
 // Appends a text after its length.
 fn add_counted(text: &[u8], out: &mut Vec<u8>) -> Result<(), AllocError>
-    ensures ok { OnOk result (out.new.items
-        ≡ out.old.items ++ (decimal (length text.now) ++ codes " " ++ text.now)) }
+    ensures ok { OnOk result (out.new.items ≡ out.old.items ++ counted text.now) }
     ensures more { IsMore out.old.items out.new.items }
 {
     add_number(text.len(), out)?;
@@ -275,9 +273,8 @@ fn add_number(number: usize, out: &mut Vec<u8>) -> Result<(), AllocError>
 
 // Appends the row of an error, unless memory ran out.
 fn add_error(number: u64, error: &Error, out: &mut Vec<u8>) -> Result<(), AllocError>
-    ensures ok { OnOk result (out.new.items ≡ out.old.items ++ (codes "! " ++ decimal number ++ codes " "
-        ++ word_of_category (category_of (error_code error.now)) ++ codes " " ++ name_of_code (error_code error.now)
-        ++ codes " " ++ decimal (error_offset error.now) ++ codes "\n")) }
+    ensures ok { OnOk result (out.new.items ≡ out.old.items
+        ++ error_text (decimal number ++ codes " ") (error_code error.now) (decimal (error_offset error.now))) }
     ensures memory { OnOk result (error_code error.now ≡ ErrorCode.NoMemory → ⊥) }
     ensures more { IsMore out.old.items out.new.items }
 {

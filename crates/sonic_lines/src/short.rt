@@ -1,10 +1,11 @@
 // The entries of a line, where they are short: they are put together from the end to the start.
-ghost use Rattle.std.specs.Prelude.{◌≡◌, ◌+◌, ◌<◌, ◌≤◌, ◌++◌, codes, decimal, drop, length, IfSome, option_map};
+ghost use Rattle.std.specs.Prelude.{◌≡◌, ◌+◌, ◌<◌, ◌≤◌, ◌++◌, codes, drop, length, IfSome, option_map};
 ghost use Rattle.sonic_find.specs.Spans.{pair_of, pairs_of};
 ghost use Rattle.sonic_lines.specs.Internal.Rows.{AreWithin, tab_before};
-ghost use Rattle.sonic_lines.specs.LineRows.{entries_text, entry_text};
+ghost use Rattle.sonic_lines.specs.LineRows.{entries_text};
+ghost use Rattle.sonic_lines.specs.LineTexts.{entry_text};
 
-use itoa::write_digits;
+use crate::from_end::{put, put_counted};
 use sonic_find::{Room, Span};
 
 // How many bytes there is room for.
@@ -58,51 +59,10 @@ fn put_entry(room: &mut [u8], end: usize, line: &[u8], slot: Option<Span>) -> Op
         ≡ entry_text line.now (option_map pair_of slot) ++ drop end room.old) }
 {
     match slot {
-        Some(Span { start, end: stop }) => put_counted(room, end, &line[start..stop]),
+        Some(Span { start, end: stop }) if BESIDE <= end && stop - start <= end - BESIDE => {
+            Some(put_counted(room, end, &line[start..stop]))
+        }
         None if 1 < end => Some(put(room, end, b"-")),
-        None => None,
+        _ => None,
     }
-}
-
-// Puts a text after its length before a place.
-#[inline(always)]
-fn put_counted(room: &mut [u8], end: usize, text: &[u8]) -> Option<usize>
-    requires { end ≤ length room.old }
-    ensures start { IfSome result (λ start. (0 < start) × (start ≤ end)) }
-    ensures text { IfSome result (λ start. drop start room.new
-        ≡ (decimal (length text.now) ++ codes " " ++ text.now) ++ drop end room.old) }
-{
-    if end < BESIDE || end - BESIDE < text.len() {
-        return None;
-    }
-    let at = put(room, end, text);
-    let at = put(room, at, b" ");
-    Some(put_number(room, at, text.len()))
-}
-
-// Puts a number, which mostly has one digit, before a place: where it starts.
-#[inline(always)]
-fn put_number(room: &mut [u8], end: usize, number: usize) -> usize
-    requires room { 21 ≤ end }
-    requires inside { end ≤ length room.old }
-    ensures start { (0 < result) × (result ≤ end) }
-    ensures text { drop result room.new ≡ decimal number ++ drop end room.old }
-{
-    if number < 10 {
-        return put(room, end, &[b'0' + number as u8]);
-    }
-    write_digits(number as u64, room, end)
-}
-
-// Puts bytes before a place: where they start.
-#[inline(always)]
-fn put(room: &mut [u8], end: usize, piece: &[u8]) -> usize
-    requires room { length piece.now ≤ end }
-    requires inside { end ≤ length room.old }
-    ensures start { result + length piece.now ≡ end }
-    ensures text { drop result room.new ≡ piece.now ++ drop end room.old }
-{
-    let start = end - piece.len();
-    room[start..end].copy_from_slice(piece);
-    start
 }
