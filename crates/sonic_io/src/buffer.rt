@@ -18,7 +18,7 @@ pub struct Buffer {
 
 impl Buffer {
     ghost use Rattle.std.specs.Prelude.{◌≡◌, ◌++◌, ◌+◌, ◌≤◌, [], length, vec_len, OnOk, OnErr};
-    ghost use Rattle.sonic_io.specs.Buffers.{held, TookBut};
+    ghost use Rattle.sonic_io.specs.Buffers.{held, IsWritten};
     ghost use Rattle.sonic_io.specs.Outside.{Rose, Took, TookPrefix};
 
     /// A buffer in this room, that holds nothing. It takes no memory, now or later.
@@ -37,12 +37,7 @@ impl Buffer {
     /// the third is held.
     #[inline(always)]
     pub fn write<K: Sink>(&mut self, sink: &mut K, piece: &[u8]) -> Result<(), Failed>
-        ensures all { OnOk result (TookBut (K.written sink.old) (K.written sink.new)
-            (held self.new) (held self.old ++ piece.now)) }
-        ensures prefix { OnErr result
-            (TookPrefix (K.written sink.old) (K.written sink.new) (held self.old ++ piece.now)) }
-        ensures calm { OnOk result (K.faults sink.new ≡ K.faults sink.old) }
-        ensures cause { OnErr result (Rose (K.faults sink.old) (K.faults sink.new)) }
+        ensures { IsWritten K.Sink (sink.old, self.old) (sink.new, self.new) piece.now result }
     {
         if piece.len() <= self.room.len() - self.filled {
             self.hold(piece);
@@ -54,12 +49,7 @@ impl Buffer {
     // The same of a piece for which what is held leaves no room, so that `write` stays short.
     #[inline(never)]
     fn write_over<K: Sink>(&mut self, sink: &mut K, piece: &[u8]) -> Result<(), Failed>
-        ensures all { OnOk result (TookBut (K.written sink.old) (K.written sink.new)
-            (held self.new) (held self.old ++ piece.now)) }
-        ensures prefix { OnErr result
-            (TookPrefix (K.written sink.old) (K.written sink.new) (held self.old ++ piece.now)) }
-        ensures calm { OnOk result (K.faults sink.new ≡ K.faults sink.old) }
-        ensures cause { OnErr result (Rose (K.faults sink.old) (K.faults sink.new)) }
+        ensures { IsWritten K.Sink (sink.old, self.old) (sink.new, self.new) piece.now result }
     {
         self.flush(sink)?;
         if piece.len() < self.room.len() {

@@ -4,7 +4,8 @@ use Rattle.std.specs.Cow.{cow_str_bytes}
 use Rattle.std.specs.declared.borrow.CowStr.{CowStr}
 use Rattle.std.specs.Borrow.{Bor}
 use Rattle.sonic_reports.specs.Internal.Replies.{line_of_member}
-use Rattle.sonic_reports.specs.Lines.{counted, line_of_text}
+use Rattle.sonic_lines.specs.LineTexts.{counted}
+use Rattle.sonic_reports.specs.Lines.{line_of_text}
 
 -- a text after its length, by its parts
 pub counted_parts : {digits : List ℕ} (text : List ℕ) → digits ≡ decimal (length text) → counted text ≡ (digits ++ codes " ") ++ text

@@ -6,6 +6,7 @@ ghost use Rattle.sonic_reports.specs.Internal.EntryLines.{HasKeyWithin, key_of_l
 use itoa::write_digits;
 use sonic_error::JsonType;
 use sonic_index::{Entry, Label};
+use sonic_lines::from_end::{put, put_number};
 
 // A value of a document with its number, from 0.
 #[derive(Drop)]
@@ -168,19 +169,6 @@ fn put_type(room: &mut [u8], end: usize, kind: JsonType) -> usize
     }
 }
 
-// Puts a number and a blank before a place: where they start.
-#[inline(always)]
-pub(crate) fn put_number(room: &mut [u8], end: usize, number: usize) -> usize
-    requires room { 21 ≤ end }
-    requires inside { end ≤ length room.old }
-    ensures start { result ≤ end }
-    ensures near { end ≤ result + 21 }
-    ensures text { drop result room.new ≡ decimal number ++ codes " " ++ drop end room.old }
-{
-    let at = put(room, end, b" ");
-    write_digits(number as u64, room, at)
-}
-
 // Puts a key, if there is one, before a place: where it starts. An element has none.
 #[inline(always)]
 fn put_key(room: &mut [u8], end: usize, key: &[u8]) -> usize
@@ -193,19 +181,6 @@ fn put_key(room: &mut [u8], end: usize, key: &[u8]) -> usize
         return end;
     }
     put(room, end, key)
-}
-
-// Puts bytes before a place: where they start.
-#[inline(always)]
-pub(crate) fn put(room: &mut [u8], end: usize, piece: &[u8]) -> usize
-    requires room { length piece.now ≤ end }
-    requires inside { end ≤ length room.old }
-    ensures start { result + length piece.now ≡ end }
-    ensures text { drop result room.new ≡ piece.now ++ drop end room.old }
-{
-    let start = end - piece.len();
-    room[start..end].copy_from_slice(piece);
-    start
 }
 
 // The key that is the label, with its quotes, or nothing.

@@ -3,11 +3,12 @@ ghost use Rattle.std.specs.Prelude.{◌≡◌, ◌++◌, IfOk, OnOk, OnErr};
 ghost use Rattle.std.specs.Cow.{cow_str_bytes};
 ghost use Rattle.std.specs.List.{flat_map};
 ghost use Rattle.sonic_lazy.specs.LazyValues.{raw_bytes};
-ghost use Rattle.sonic_io.specs.Buffers.{held, TookBut};
+ghost use Rattle.sonic_io.specs.Buffers.{IsWritten};
 ghost use Rattle.sonic_reports.specs.Internal.Replies.{text_of, text_of_lines, line_of_value, line_of_shown, line_of_member};
 ghost use Rattle.sonic_reports.specs.Commands.Entries.{line_of_value_at, lines_from};
 ghost use Rattle.sonic_reports.specs.Internal.EntryLines.{HasKeyWithin};
-ghost use Rattle.sonic_reports.specs.Lines.{counted, line_of_text};
+ghost use Rattle.sonic_lines.specs.LineTexts.{counted};
+ghost use Rattle.sonic_reports.specs.Lines.{line_of_text};
 ghost use Rattle.sonic_io.specs.Outside.{Rose, Took, TookPrefix};
 
 use crate::entry_line::{Numbered, Room, SHORT, key, line, words};
@@ -120,12 +121,8 @@ pub(crate) fn deliver<K: Sink>(sink: &mut K, reply: Reply<'_>) -> Result<(), Fai
 
 // Writes lines, through a buffer.
 fn write_lines<K: Sink>(sink: &mut K, buffer: &mut Buffer, lines: &Lines<'_>) -> Result<(), Failed>
-    ensures all { OnOk result (TookBut (K.written sink.old) (K.written sink.new)
-        (held buffer.new) (held buffer.old ++ text_of_lines lines.now)) }
-    ensures prefix { OnErr result (TookPrefix (K.written sink.old) (K.written sink.new)
-        (held buffer.old ++ text_of_lines lines.now)) }
-    ensures calm { OnOk result (K.faults sink.new ≡ K.faults sink.old) }
-    ensures cause { OnErr result (Rose (K.faults sink.old) (K.faults sink.new)) }
+    ensures { IsWritten K.Sink (sink.old, buffer.old) (sink.new, buffer.new)
+        (text_of_lines lines.now) result }
 {
     match lines {
         Lines::Values(values) => write_values(sink, buffer, values),
@@ -142,12 +139,8 @@ fn write_values<K: Sink>(
     buffer: &mut Buffer,
     values: &[Option<LazyValue<'_>>],
 ) -> Result<(), Failed>
-    ensures all { OnOk result (TookBut (K.written sink.old) (K.written sink.new)
-        (held buffer.new) (held buffer.old ++ flat_map line_of_value values.now)) }
-    ensures prefix { OnErr result (TookPrefix (K.written sink.old) (K.written sink.new)
-        (held buffer.old ++ flat_map line_of_value values.now)) }
-    ensures calm { OnOk result (K.faults sink.new ≡ K.faults sink.old) }
-    ensures cause { OnErr result (Rose (K.faults sink.old) (K.faults sink.new)) }
+    ensures { IsWritten K.Sink (sink.old, buffer.old) (sink.new, buffer.new)
+        (flat_map line_of_value values.now) result }
 {
     let mut room = [0u8; 192];
     for value in values {
@@ -163,12 +156,8 @@ fn write_entry<K: Sink>(
     room: &mut Line,
     value: &Option<LazyValue<'_>>,
 ) -> Result<(), Failed>
-    ensures all { OnOk result (TookBut (K.written sink.old) (K.written sink.new)
-        (held buffer.new) (held buffer.old ++ line_of_value value.now)) }
-    ensures prefix { OnErr result (TookPrefix (K.written sink.old) (K.written sink.new)
-        (held buffer.old ++ line_of_value value.now)) }
-    ensures calm { OnOk result (K.faults sink.new ≡ K.faults sink.old) }
-    ensures cause { OnErr result (Rose (K.faults sink.old) (K.faults sink.new)) }
+    ensures { IsWritten K.Sink (sink.old, buffer.old) (sink.new, buffer.new)
+        (line_of_value value.now) result }
 {
     match value {
         Some(value) => write_text(sink, buffer, room, value.as_raw_str().as_bytes()),
@@ -178,12 +167,8 @@ fn write_entry<K: Sink>(
 
 // Writes the lines of the texts, through a buffer.
 fn write_texts<K: Sink>(sink: &mut K, buffer: &mut Buffer, texts: &[&str]) -> Result<(), Failed>
-    ensures all { OnOk result (TookBut (K.written sink.old) (K.written sink.new)
-        (held buffer.new) (held buffer.old ++ flat_map line_of_shown texts.now)) }
-    ensures prefix { OnErr result (TookPrefix (K.written sink.old) (K.written sink.new)
-        (held buffer.old ++ flat_map line_of_shown texts.now)) }
-    ensures calm { OnOk result (K.faults sink.new ≡ K.faults sink.old) }
-    ensures cause { OnErr result (Rose (K.faults sink.old) (K.faults sink.new)) }
+    ensures { IsWritten K.Sink (sink.old, buffer.old) (sink.new, buffer.new)
+        (flat_map line_of_shown texts.now) result }
 {
     let mut room = [0u8; 192];
     for text in texts {
@@ -198,12 +183,8 @@ fn write_entries<K: Sink>(
     buffer: &mut Buffer,
     index: &JsonIndex<'_>,
 ) -> Result<(), Failed>
-    ensures all { OnOk result (TookBut (K.written sink.old) (K.written sink.new)
-        (held buffer.new) (held buffer.old ++ lines_from index.now.text 0 index.now.entries)) }
-    ensures prefix { OnErr result (TookPrefix (K.written sink.old) (K.written sink.new)
-        (held buffer.old ++ lines_from index.now.text 0 index.now.entries)) }
-    ensures calm { OnOk result (K.faults sink.new ≡ K.faults sink.old) }
-    ensures cause { OnErr result (Rose (K.faults sink.old) (K.faults sink.new)) }
+    ensures { IsWritten K.Sink (sink.old, buffer.old) (sink.new, buffer.new)
+        (lines_from index.now.text 0 index.now.entries) result }
 {
     let mut room = Room::new();
     for number in 0..index.len() {
@@ -230,12 +211,8 @@ fn write_entry_line<K: Sink>(
     value: &Numbered,
 ) -> Result<(), Failed>
     requires { HasKeyWithin text.now value.now.entry.label }
-    ensures all { OnOk result (TookBut (K.written sink.old) (K.written sink.new)
-        (held buffer.new) (held buffer.old ++ line_of_value_at text.now value.now.number value.now.entry)) }
-    ensures prefix { OnErr result (TookPrefix (K.written sink.old) (K.written sink.new)
-        (held buffer.old ++ line_of_value_at text.now value.now.number value.now.entry)) }
-    ensures calm { OnOk result (K.faults sink.new ≡ K.faults sink.old) }
-    ensures cause { OnErr result (Rose (K.faults sink.old) (K.faults sink.new)) }
+    ensures { IsWritten K.Sink (sink.old, buffer.old) (sink.new, buffer.new)
+        (line_of_value_at text.now value.now.number value.now.entry) result }
 {
     let key = key(text, value.entry.label);
     if key.len() <= SHORT {
@@ -254,12 +231,8 @@ fn write_members<K: Sink>(
     buffer: &mut Buffer,
     members: &[(CowStr<'_>, &str)],
 ) -> Result<(), Failed>
-    ensures all { OnOk result (TookBut (K.written sink.old) (K.written sink.new)
-        (held buffer.new) (held buffer.old ++ flat_map line_of_member members.now)) }
-    ensures prefix { OnErr result (TookPrefix (K.written sink.old) (K.written sink.new)
-        (held buffer.old ++ flat_map line_of_member members.now)) }
-    ensures calm { OnOk result (K.faults sink.new ≡ K.faults sink.old) }
-    ensures cause { OnErr result (Rose (K.faults sink.old) (K.faults sink.new)) }
+    ensures { IsWritten K.Sink (sink.old, buffer.old) (sink.new, buffer.new)
+        (flat_map line_of_member members.now) result }
 {
     let mut room = [0u8; 192];
     for member in members {
@@ -275,12 +248,8 @@ fn write_member<K: Sink>(
     room: &mut Line,
     member: &(CowStr<'_>, &str),
 ) -> Result<(), Failed>
-    ensures all { OnOk result (TookBut (K.written sink.old) (K.written sink.new)
-        (held buffer.new) (held buffer.old ++ line_of_member member.now)) }
-    ensures prefix { OnErr result (TookPrefix (K.written sink.old) (K.written sink.new)
-        (held buffer.old ++ line_of_member member.now)) }
-    ensures calm { OnOk result (K.faults sink.new ≡ K.faults sink.old) }
-    ensures cause { OnErr result (Rose (K.faults sink.old) (K.faults sink.new)) }
+    ensures { IsWritten K.Sink (sink.old, buffer.old) (sink.new, buffer.new)
+        (line_of_member member.now) result }
 {
     let (key, text) = (member.0.as_bytes(), member.1.as_bytes());
     if is_short(key) && is_short(text) {
@@ -299,12 +268,8 @@ fn write_text<K: Sink>(
     room: &mut Line,
     text: &[u8],
 ) -> Result<(), Failed>
-    ensures all { OnOk result (TookBut (K.written sink.old) (K.written sink.new)
-        (held buffer.new) (held buffer.old ++ line_of_text text.now)) }
-    ensures prefix { OnErr result (TookPrefix (K.written sink.old) (K.written sink.new)
-        (held buffer.old ++ line_of_text text.now)) }
-    ensures calm { OnOk result (K.faults sink.new ≡ K.faults sink.old) }
-    ensures cause { OnErr result (Rose (K.faults sink.old) (K.faults sink.new)) }
+    ensures { IsWritten K.Sink (sink.old, buffer.old) (sink.new, buffer.new)
+        (line_of_text text.now) result }
 {
     if is_short(text) {
         let start = value_line(room, text);
@@ -316,12 +281,7 @@ fn write_text<K: Sink>(
 
 // Writes a text after its length, through a buffer.
 fn write_counted<K: Sink>(sink: &mut K, buffer: &mut Buffer, text: &[u8]) -> Result<(), Failed>
-    ensures all { OnOk result (TookBut (K.written sink.old) (K.written sink.new)
-        (held buffer.new) (held buffer.old ++ counted text.now)) }
-    ensures prefix { OnErr result (TookPrefix (K.written sink.old) (K.written sink.new)
-        (held buffer.old ++ counted text.now)) }
-    ensures calm { OnOk result (K.faults sink.new ≡ K.faults sink.old) }
-    ensures cause { OnErr result (Rose (K.faults sink.old) (K.faults sink.new)) }
+    ensures { IsWritten K.Sink (sink.old, buffer.old) (sink.new, buffer.new) (counted text.now) result }
 {
     let mut digits = itoa::Buffer::new();
     buffer.write(sink, digits.format(text.len()).as_bytes())?;

@@ -1,8 +1,10 @@
 // The lines of short texts, put together from their end to their start.
-ghost use Rattle.std.specs.Prelude.{◌≡◌, ◌+◌, ◌≤◌, ◌++◌, ◌↔◌, codes, drop, length, IsTrue};
-ghost use Rattle.sonic_reports.specs.Lines.{counted, line_of_text};
+ghost use Rattle.std.specs.Prelude.{◌≡◌, ◌≤◌, ◌++◌, ◌↔◌, codes, drop, length, IsTrue};
+ghost use Rattle.sonic_lines.specs.LineTexts.{counted};
+ghost use Rattle.sonic_reports.specs.Lines.{line_of_text};
 
-use crate::entry_line::{SHORT, put, put_number};
+use crate::entry_line::SHORT;
+use sonic_lines::from_end::{put, put_counted};
 
 // Room for a line with a key and a text of at most `SHORT` bytes, at its end. Two of these with their lengths
 // take less.
@@ -37,17 +39,4 @@ pub(crate) fn member_line(room: &mut Line, key: &[u8], text: &[u8]) -> usize
     let at = put_counted(room, at, text);
     let at = put(room, at, b" ");
     put_counted(room, at, key)
-}
-
-// Puts a text after its length before a place: where they start.
-#[inline(always)]
-fn put_counted(room: &mut [u8], end: usize, text: &[u8]) -> usize
-    requires room { length text.now + 21 ≤ end }
-    requires inside { end ≤ length room.old }
-    ensures start { result ≤ end }
-    ensures near { end ≤ result + (length text.now + 21) }
-    ensures text { drop result room.new ≡ counted text.now ++ drop end room.old }
-{
-    let at = put(room, end, text);
-    put_number(room, at, text.len())
 }

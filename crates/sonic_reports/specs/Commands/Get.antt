@@ -1,5 +1,5 @@
 -- What the command `get` writes of an input.
-use Rattle.std.specs.Prelude.{◌≡◌, ℕ, ◌≤◌, true, List, ◌++◌, length, drop, slice_range, codes, Some, None}
+use Rattle.std.specs.Prelude.{◌≡◌, ℕ, ◌≤◌, true, List, ◌++◌, length, drop, codes}
 use Rattle.std.specs.Fmt.{decimal}
 use Rattle.std.specs.List.{flat_map}
 use Rattle.std.specs.declared.option.Option.{Option}
@@ -7,20 +7,19 @@ use Rattle.sonic_text.specs.declared.stop.Stop.{Stop}
 use Rattle.sonic_text.specs.Paths.{Path}
 use Rattle.sonic_find.specs.Answers.{Span, Answer, spans, error, IsAnswerBy}
 use Rattle.sonic_find.specs.Causes.{IsAnswerableBy}
+use Rattle.sonic_lines.specs.LineTexts.{entry_text}
 use Rattle.sonic_pointer.specs.declared.rule.KeyRule.{KeyRule}
 use Rattle.sonic_pointer.specs.declared.rule.KeyRule.TheVariants.{First}
 use Rattle.sonic_io.specs.Outside.{input_limit}
 use Rattle.sonic_reports.specs.declared.status.Status.{Status}
 use Rattle.sonic_reports.specs.declared.status.Status.TheVariants.{Done, DocumentError, BadLines}
 use Rattle.sonic_reports.specs.ErrorLines.{line_of_error}
-use Rattle.sonic_reports.specs.Lines.{line_of_text}
 use Rattle.sonic_paths.specs.Heads.{IsHead}
 use Rattle.sonic_paths.specs.Lines.{AreLines, IsFirstBadLine}
 
 -- the line of an entry: of the value that a path finds, or a dash where a key is lacked
 abbrev pub line_of_entry : List ℕ → Option Span → List ℕ
-line_of_entry document None = codes "-\n"
-line_of_entry document (Some (i, j)) = line_of_text (slice_range document i j)
+line_of_entry document entry = entry_text document entry ++ codes "\n"
 
 -- what `get` writes of an answer: the lines of its entries, or the line of its error
 pub data IsAnswerReport (document : List ℕ) : Answer → List ℕ → Status → Type 0 where

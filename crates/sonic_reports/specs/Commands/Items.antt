@@ -9,7 +9,8 @@ use Rattle.sonic_find.specs.Answers.{span_text}
 use Rattle.sonic_reports.specs.declared.status.Status.{Status}
 use Rattle.sonic_reports.specs.declared.status.Status.TheVariants.{Done, DocumentError}
 use Rattle.sonic_reports.specs.ErrorLines.{line_of_error}
-use Rattle.sonic_reports.specs.Lines.{counted, line_of_text}
+use Rattle.sonic_lines.specs.LineTexts.{counted}
+use Rattle.sonic_reports.specs.Lines.{line_of_text}
 
 -- the kind of container that is listed: an object where the first byte that is no white space is its brace, and else an array
 abbrev pub listed_kind : List ℕ → Kind

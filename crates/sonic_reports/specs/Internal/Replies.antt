@@ -1,5 +1,5 @@
 -- The bytes of a report that is ready to be written, and of its parts.
-use Rattle.std.specs.Prelude.{◌≡◌, ℕ, List, ◌++◌, codes, Result, Ok, Err}
+use Rattle.std.specs.Prelude.{◌≡◌, ℕ, List, [], ◌++◌, codes, Result, Ok, Err}
 use Rattle.std.specs.Borrow.{Bor}
 use Rattle.std.specs.Fmt.{decimal}
 use Rattle.std.specs.Cow.{cow_str_bytes}
@@ -13,13 +13,14 @@ use Rattle.sonic_error.specs.declared.error.Error.{Error}
 use Rattle.sonic_error.specs.Errors.{error_code, error_line, error_column, error_offset}
 use Rattle.sonic_lazy.specs.declared.lazyvalue.LazyValue.{LazyValue}
 use Rattle.sonic_lazy.specs.LazyValues.{raw_bytes}
+use Rattle.sonic_lines.specs.LineTexts.{counted, error_text}
 use Rattle.sonic_reports.specs.declared.reply.Lines.{Lines}
 use Rattle.sonic_reports.specs.declared.reply.Lines.TheVariants.{Values, Texts, Members, Entries, Made}
 use Rattle.sonic_reports.specs.declared.reply.Reply.{Reply}
 use Rattle.sonic_reports.specs.declared.status.Status.TheVariants.{Done, DocumentError, BadLines}
 use Rattle.sonic_reports.specs.Commands.Entries.{lines_from}
-use Rattle.sonic_reports.specs.ErrorLines.{position_text, error_text}
-use Rattle.sonic_reports.specs.Lines.{counted, line_of_text}
+use Rattle.sonic_reports.specs.ErrorLines.{position_text}
+use Rattle.sonic_reports.specs.Lines.{line_of_text}
 
 -- the line of a value, or of none
 abbrev pub line_of_value : Option LazyValue → List ℕ
@@ -49,7 +50,7 @@ text_of reply = text_of_lines reply.lines ++ cow_str_bytes reply.last
 -- the text is the line of this error, and memory didn't run out
 pub record IsLineOf (text : List ℕ) (error : Error) : Type 0 where
   pub memory : ¬ (error_code error ≡ NoMemory)
-  pub is : text ≡ error_text (error_code error) (position_text (error_line error) (error_column error) (error_offset error))
+  pub is : text ≡ error_text [] (error_code error) (position_text (error_line error) (error_column error) (error_offset error))
 
 -- the report names the first bad line of a head by its number
 pub record IsBadLineReply (number : ℕ) (reply : Reply) : Type 0 where

@@ -1,21 +1,15 @@
-use Rattle.std.proofs.Common.{◌∙◌}
-use Rattle.sonic_io.specs.Buffers.{held}
+use Rattle.std.proofs.lemmas.Result.{err_from_is_err_and}
+use Rattle.sonic_io.proofs.BufferLemmas.{texts_cut, texts_passed}
 use Rattle.sonic_reports.specs.Internal.Replies.{line_of_member}
-use Rattle.sonic_io.proofs.OutsideLemmas.{on_err}
-use Rattle.sonic_io.proofs.BufferLemmas.{but_text, but_text_prefix}
 use Rattle.sonic_reports.proofs.reply.write_members.Goals as goal
 
-pub returns-in_err-write_member-clause-prefix : goal.returns-in_err-write_member-clause-prefix
-returns-in_err-write_member-clause-prefix g c =
-    on_err c.from_residual.result _
-    (but_text_prefix line_of_member (held c.args.buffer.now) c.args.members.now c.loop-member.member-index c.member-item.result
-    c.loop-member-test.true c.loop-member.invariant.taken
-    (rw (← c.member-item.is) c.in_err-write_member.ensures.prefix))
+pub returns-in_err-write_member : goal.returns-in_err-write_member
+returns-in_err-write_member g c =
+    let l = c.loop-member in
+    let e = err_from_is_err_and c.from_residual.result c.from_residual.ensures.1 in
+    rw e.1 (texts_cut line_of_member c.args.members.now l.member-index c.member-item.result c.loop-member-test.true l.invariant (rw (← c.member-item.is) c.in_err-write_member.ensures))
 
 pub loop-member-preserved : goal.loop-member-preserved
-loop-member-preserved g c = record {
-  taken = but_text line_of_member (held c.args.buffer.now) c.args.members.now c.loop-member.member-index c.member-item.result
-      c.loop-member-test.true c.loop-member.invariant.taken
-      (rw (← c.member-item.is) c.in_ok-write_member.ensures.all);
-  calm = c.in_ok-write_member.ensures.calm ∙ c.loop-member.invariant.calm;
-}
+loop-member-preserved g c =
+    let l = c.loop-member in
+    texts_passed line_of_member c.args.members.now l.member-index c.member-item.result c.loop-member-test.true l.invariant (rw (← c.member-item.is) c.in_ok-write_member.ensures)
