@@ -30,7 +30,7 @@ use Rattle.sonic_text.specs.declared.kind.Kind.{Kind}
 use Rattle.sonic_text.specs.declared.kind.Kind.TheVariants.{Array, Object}
 use Rattle.sonic_text.specs.declared.stop.Stop.{Stop}
 use Rattle.sonic_c.specs.Begun.{BeginsWith, IsExpected, invalid}
-use Rattle.sonic_c.specs.Containers.{IsHeadAt, no_key, a_key, IsNthItem, HasItemCount, no_items, last_item, HasPassed, none_passed, some_passed, state_number, HasTold, HasNoItem, OfEach, IsNextCall, all_told, item_fails, IsContainerAlone, IsCountCall, count_told as counted, count_refused, count_unknown}
+use Rattle.sonic_c.specs.Containers.{IsHeadAt, no_key, a_key, IsNthItem, HasItemCount, no_items, last_item, HasPassed, none_passed, some_passed, state_number, HasTold, LacksItem, OfEach, IsNextCall, all_told, item_fails, IsContainerAlone, IsCountCall, count_told as counted, count_refused, count_unknown}
 use Rattle.sonic_c.specs.Internal.Begun.{HasBegun, IsTrailing}
 use Rattle.sonic_c.specs.Internal.Items.{IsItemStop, TellsClosing, closes, goes_past, TellsCount}
 use Rattle.sonic_c.specs.Values.{ValueCells}
@@ -81,11 +81,11 @@ value_fails {t} {v = v} fit head f =
 
 -- after an item that no comma follows there is no other one
 no_item_after : {t : List ℕ} {kind : Kind} {m n : ℕ} {item : Item} → IsNthItem t kind m item → m < n → byte t (after_space t item.value.end) ≢ 44
-    → HasNoItem t kind n
+    → LacksItem t kind n
 no_item_after x later other item y = not_past_byte x.before later (head_of x.found.head).1 x.found.value other y.before
 
 -- nor is there one after all of them
-none_left : {t : List ℕ} {kind : Kind} {n e : ℕ} → HasItemCount t n e → HasNoItem t kind n
+none_left : {t : List ℕ} {kind : Kind} {n e : ℕ} → HasItemCount t n e → LacksItem t kind n
 none_left {t} {kind} (no_items k none b end) item x =
     let same : k ≡ kind = opening_one k kind (let bracket = items_open x.before in omega (arith, b, bracket)) in
     items_not_empty x.before (rw same at end.0)
@@ -221,7 +221,7 @@ told_item {t} {kind} {k} {n} {item = item} {state} is x passes next =
 
 -- the fault of the next item is why the text is none
 pub fault_told : {t : List ℕ} {kind k : Kind} {n : ℕ} {first : Bool} {items : Items} {s : Stop} → items.state ≡ state_number kind first → HasTold t k n items
-    → (HasPassed t kind n first (after_space t items.place) → IsItemStop t kind n s) → ((is_bytes : Bool) → IsInvalid t is_bytes s) × HasNoItem t k n
+    → (HasPassed t kind n first (after_space t items.place) → IsItemStop t kind n s) → ((is_bytes : Bool) → IsInvalid t is_bytes s) × LacksItem t k n
 fault_told is x stops = let r = resumed is x in let stop = stops r.1 in rw r.0 (λ is_bytes. no_root stop.0, stop.1)
 
 -- a bracket is that of a container

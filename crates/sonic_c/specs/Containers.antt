@@ -1,5 +1,5 @@
 -- The items of the container that begins a text (RFC 8259, sections 4 and 5), and what the calls that go through them come to.
-use Rattle.std.specs.Prelude.{◌≡◌, ◌≢◌, ℕ, ◌+◌, Bool, true, false, List, length}
+use Rattle.std.specs.Prelude.{◌≡◌, ◌≢◌, ℕ, ◌+◌, Bool, true, false, List, length, IsTrue, IsFalse}
 use Rattle.std.specs.Str.{IsUtf8}
 use Rattle.sonic_error.specs.declared.json_type.JsonType.{JsonType}
 use Rattle.sonic_error.specs.declared.code.ErrorCode.TheVariants.{InvalidUTF8}
@@ -58,8 +58,8 @@ pub data IsCountCall (t : List ℕ) (before after : ValueCells ℕ) (status : �
 -- n items of the container of this kind that begins the text were passed up to p: none, and p is its bracket, or the last of them ends there, but for
 -- white space
 pub data HasPassed (t : List ℕ) (kind : Kind) (n : ℕ) (is_first : Bool) (p : ℕ) : Type 0 where
-  none_passed : n ≡ 0 → is_first ≡ true → p ≡ after_space t 0 → byte t p ≡ opening kind → HasPassed t kind n is_first p
-  some_passed : (m : ℕ) (item : Item) → IsNthItem t kind m item → n ≡ m + 1 → is_first ≡ false → after_space t p ≡ after_space t item.value.end
+  none_passed : n ≡ 0 → IsTrue is_first → p ≡ after_space t 0 → byte t p ≡ opening kind → HasPassed t kind n is_first p
+  some_passed : (m : ℕ) (item : Item) → IsNthItem t kind m item → n ≡ m + 1 → IsFalse is_first → after_space t p ≡ after_space t item.value.end
       → HasPassed t kind n is_first p
 
 -- the state of a cursor that expects the first item of a container of this kind, or another one; any other number is that of one that has ended
@@ -106,12 +106,12 @@ abbrev pub OfEach : List ℕ → Items → (Kind → ℕ → Type 0) → Type 0
 OfEach t items Says = (kind : Kind) (n : ℕ) → HasTold t kind n items → Says kind n
 
 -- no item comes after n others
-abbrev pub HasNoItem : List ℕ → Kind → ℕ → Type 0
-HasNoItem t kind n = (item : Item) → ¬ IsNthItem t kind n item
+abbrev pub LacksItem : List ℕ → Kind → ℕ → Type 0
+LacksItem t kind n = (item : Item) → ¬ IsNthItem t kind n item
 
 -- the text is invalid for this reason, and the next item isn't there
-abbrev pub IsItemFault : List ℕ → Items → Stop → Type 0
-IsItemFault t items s = OfEach t items (λ kind n. ((is_bytes : Bool) → IsInvalid t is_bytes s) × HasNoItem t kind n)
+abbrev pub IsNextFault : List ℕ → Items → Stop → Type 0
+IsNextFault t items s = OfEach t items (λ kind n. ((is_bytes : Bool) → IsInvalid t is_bytes s) × LacksItem t kind n)
 
 -- what a call for the next item comes to, with these cells before and after it
 pub data IsNextCall (t : List ℕ) (before after : ItemCells) (status : ℕ) : Type 0 where
@@ -119,7 +119,7 @@ pub data IsNextCall (t : List ℕ) (before after : ItemCells) (status : ℕ) : T
       → after.error ≡ before.error → IsNextCall t before after status
   all_told : OfEach t before.items (λ kind n. IsContainerAlone t n) → status ≡ status_end → after ≡ record before { items = record before.items { state = 0 } }
       → IsNextCall t before after status
-  item_fails : (s : Stop) → IsItemFault t before.items s → status ≡ status_document_error → AreNumbersOf t s after.error
+  item_fails : (s : Stop) → IsNextFault t before.items s → status ≡ status_document_error → AreNumbersOf t s after.error
       → after.items ≡ record before.items { state = 0 } → after.item ≡ before.item → IsNextCall t before after status
   has_ended : OfEach t before.items (λ kind n. ⊥) → status ≡ status_end → after ≡ before → IsNextCall t before after status
   next_unknown : status ≡ status_no_memory → after ≡ before → IsNextCall t before after status

@@ -1,5 +1,5 @@
 // What begins a text, and why it is refused.
-ghost use Rattle.std.specs.Prelude.{◌≡◌, ◌≤◌, true, false, length, None, IfSome, IfOk, IfErr, OnOk};
+ghost use Rattle.std.specs.Prelude.{◌≡◌, ◌≤◌, length, None, IfSome, IfOk, IfErr, OnOk, IsTrue, IsFalse};
 ghost use Rattle.sonic_text.specs.Faults.{BeginsNone};
 ghost use Rattle.sonic_text.specs.Places.{byte, after_space};
 ghost use Rattle.sonic_text.specs.Values.{opening, type_of};
@@ -26,8 +26,8 @@ pub(crate) enum Expected {
 impl Expected {
     // Whether the type is one of these.
     fn has(self, kind: JsonType) -> bool
-        ensures yes { result ≡ true → IsExpected self kind }
-        ensures no { result ≡ false → ¬ IsExpected self kind }
+        ensures yes { IsTrue result → IsExpected self kind }
+        ensures no { IsFalse result → ¬ IsExpected self kind }
     {
         match (self, kind) {
             (Expected::Numeral, JsonType::Number) => true,

@@ -1,5 +1,5 @@
 // How many items a container has.
-ghost use Rattle.std.specs.Prelude.{◌≡◌, ◌≤◌, true, length, IfOk, IfErr, OnOk};
+ghost use Rattle.std.specs.Prelude.{◌≡◌, ◌≤◌, true, length, IfOk, IfErr, OnOk, IsTrue};
 ghost use Rattle.std.specs.Str.{IsUtf8};
 ghost use Rattle.sonic_find.specs.Documents.{IsInvalid};
 ghost use Rattle.sonic_text.specs.Documents.{IsRootFault};
@@ -85,7 +85,7 @@ fn count_alone(alloc: Global, text: &[u8], start: usize) -> Result<usize, Fault>
 
 // How many items the container of this kind at the cursor has, which begins the text.
 fn count_items(steps: &mut Steps<'_>, kind: Kind) -> Result<usize, Fault>
-    requires checks { steps.old.checks ≡ true }
+    requires checks { IsTrue steps.old.checks }
     requires start { steps.old.place ≡ after_space steps.old.text 0 }
     requires bracket { byte steps.old.text steps.old.place ≡ opening kind }
     ensures ok { IfOk result (λ count. HasItemCount steps.old.text count steps.new.place) }

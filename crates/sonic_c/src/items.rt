@@ -1,5 +1,5 @@
 // A way through the items of a container, in the caller's memory.
-ghost use Rattle.std.specs.Prelude.{◌≡◌, ◌≢◌, ◌≤◌, ℕ, Bool, None, true, length, IfSome};
+ghost use Rattle.std.specs.Prelude.{◌≡◌, ◌≢◌, ◌≤◌, ℕ, Bool, None, length, IfSome, IsTrue};
 ghost use Rattle.sonic_text.specs.Places.{byte, after_space};
 ghost use Rattle.sonic_text.specs.Values.{opening};
 ghost use Rattle.sonic_text.specs.declared.kind.Kind.{Kind};
@@ -149,7 +149,7 @@ fn going_by(state: u32) -> Option<Going>
 fn going(text: &[u8], items: Items) -> Option<Going>
     ensures state { IfSome result (λ found. items.state ≡ state_number found.0 found.1) }
     ensures within { IfSome result (λ found. items.place ≤ length text.now) }
-    ensures bracket { IfSome result (λ found. found.1 ≡ true
+    ensures bracket { IfSome result (λ found. IsTrue found.1
         → byte text.now (after_space text.now items.place) ≡ opening found.0) }
     ensures none { result ≡ None → (kind : Kind) (n : ℕ) → ¬ HasTold text.now kind n items }
 {

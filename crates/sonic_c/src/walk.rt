@@ -1,5 +1,5 @@
 // One item of a container after the other.
-ghost use Rattle.std.specs.Prelude.{◌≡◌, ◌<◌, ◌≤◌, ◌^◌, ℕ, None, true, false, length, IfOk, IfErr, IfSome, OnOk};
+ghost use Rattle.std.specs.Prelude.{◌≡◌, ◌<◌, ◌≤◌, ◌^◌, ℕ, None, true, length, IfOk, IfErr, IfSome, OnOk, IsTrue, IsFalse};
 ghost use Rattle.sonic_text.specs.Faults.{IsKeyFault};
 ghost use Rattle.sonic_text.specs.Places.{byte, after_space};
 ghost use Rattle.sonic_text.specs.Strings.{strict};
@@ -47,8 +47,8 @@ pub(crate) fn pass_item(
     kind: Kind,
     first: bool,
 ) -> Result<Option<Item>, Fault>
-    requires checks { steps.old.checks ≡ true }
-    requires bracket { first ≡ true → byte steps.old.text steps.old.place ≡ opening kind }
+    requires checks { IsTrue steps.old.checks }
+    requires bracket { IsTrue first → byte steps.old.text steps.old.place ≡ opening kind }
     ensures item { IfOk result (λ found. IfSome found (λ item. (n : ℕ)
         → HasPassed steps.old.text kind n first steps.old.place → IsNthItem steps.old.text kind n item)) }
     ensures end { IfOk result (λ found. IfSome found (λ item. item.value.end ≡ steps.new.place)) }
@@ -71,14 +71,14 @@ pub(crate) fn pass_item(
 // Goes on to the item that comes after those that were passed, or past the closing bracket: whether there
 // is one.
 fn go_on(steps: &mut Steps<'_>, kind: Kind, first: bool) -> Result<bool, Stop>
-    requires checks { steps.old.checks ≡ true }
-    requires bracket { first ≡ true → byte steps.old.text steps.old.place ≡ opening kind }
-    ensures item { IfOk result (λ more. more ≡ true → (n : ℕ)
+    requires checks { IsTrue steps.old.checks }
+    requires bracket { IsTrue first → byte steps.old.text steps.old.place ≡ opening kind }
+    ensures item { IfOk result (λ more. IsTrue more → (n : ℕ)
         → HasPassed steps.old.text kind n first steps.old.place
         → ItemsFit strict steps.old.text kind (after_space steps.old.text 0) n steps.new.place) }
-    ensures closed { IfOk result (λ more. more ≡ false → (n : ℕ)
+    ensures closed { IfOk result (λ more. IsFalse more → (n : ℕ)
         → HasPassed steps.old.text kind n first steps.old.place → HasItemCount steps.old.text n steps.new.place) }
-    ensures later { IfOk result (λ more. more ≡ true → steps.old.place < steps.new.place) }
+    ensures later { IfOk result (λ more. IsTrue more → steps.old.place < steps.new.place) }
     ensures moved { steps.new ≡ record steps.old { place = steps.new.place } }
     ensures err { IfErr result (λ s. (n : ℕ)
         → HasPassed steps.old.text kind n first steps.old.place → IsItemStop steps.old.text kind n s) }
@@ -95,7 +95,7 @@ fn go_on(steps: &mut Steps<'_>, kind: Kind, first: bool) -> Result<bool, Stop>
 
 // Passes the item that is expected at the cursor.
 fn item_at(steps: &mut Steps<'_>, kind: Kind) -> Result<Item, Fault>
-    requires checks { steps.old.checks ≡ true }
+    requires checks { IsTrue steps.old.checks }
     ensures item { IfOk result (IsExpectedItem steps.old.text kind steps.old.place) }
     ensures end { IfOk result (λ item. item.value.end ≡ steps.new.place) }
     ensures later { OnOk result (steps.old.place < steps.new.place) }
@@ -113,7 +113,7 @@ fn item_at(steps: &mut Steps<'_>, kind: Kind) -> Result<Item, Fault>
 
 // Passes what comes before the value of the item that is expected at the cursor: nothing, or a key.
 fn key_at(steps: &mut Steps<'_>, kind: Kind) -> Result<Span, Stop>
-    requires checks { steps.old.checks ≡ true }
+    requires checks { IsTrue steps.old.checks }
     ensures head { IfOk result (IsHeadAt steps.old.text kind steps.old.place steps.new.place) }
     ensures moved { steps.new ≡ record steps.old { place = steps.new.place } }
     ensures err { IfErr result (λ s. (kind ≡ Kind.Object)

@@ -1,5 +1,5 @@
 // An editor that opens a file of settings.
-ghost use Rattle.std.specs.Prelude.{◌≡◌, false, IfOk, IsTrue, OnErr};
+ghost use Rattle.std.specs.Prelude.{◌≡◌, IfOk, IsTrue, OnErr, IsFalse};
 ghost use Rattle.sonic_examples.specs.Settings.{theme_path};
 ghost use Rattle.sonic_owned.specs.Edits.{IsEdit, IsRefused};
 ghost use Rattle.sonic_owned.specs.Forms.{raw};
@@ -59,9 +59,9 @@ fn theme_path() -> [PointerNode<'static>; 2]
 pub fn set_theme(alloc: Global, settings: &mut OwnedLazyValue, theme: FastStr) -> Result<bool>
     ensures made { IfOk result (λ is_set. IsTrue is_set
         → IsEdit (edit_at theme_path (set (raw (quoted theme)))) (form settings.old) (form settings.new)) }
-    ensures refused { IfOk result (λ is_set. is_set ≡ false
+    ensures refused { IfOk result (λ is_set. IsFalse is_set
         → IsRefused (edit_at theme_path (set (raw (quoted theme)))) (form settings.old)) }
-    ensures same { IfOk result (λ is_set. is_set ≡ false
+    ensures same { IfOk result (λ is_set. IsFalse is_set
         → MeansStill (form settings.old) (form settings.new)) }
     ensures kept { OnErr result (MeansStill (form settings.old) (form settings.new)) }
 {

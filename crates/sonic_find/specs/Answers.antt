@@ -1,5 +1,5 @@
 -- What a list of paths is answered. Each path is read by itself, and the nearest place decides.
-use Rattle.std.specs.Prelude.{◌≡◌, ℕ, ◌<◌, ◌≤◌, Bool, true, List, [], ◌∷◌, Option, Some, None, Contains, map, slice_range, take}
+use Rattle.std.specs.Prelude.{◌≡◌, ℕ, ◌<◌, ◌≤◌, Bool, List, [], ◌∷◌, Option, Some, None, Contains, map, slice_range, take, IsTrue}
 use Rattle.std.specs.Str.{IsUtf8}
 use Rattle.sonic_error.specs.declared.code.ErrorCode.TheVariants.{InvalidUTF8, GetUnknownKeyInObject}
 use Rattle.sonic_error.specs.Texts.{valid_up_to}
@@ -69,11 +69,11 @@ pub data ComeTo (t : List ℕ) (is_bytes : Bool) : List Outcome → Answer → T
   -- or where a path lacks its key, as that asks for a whole text
   lacking : {os : List Outcome} {s : Stop} → NoneFails os → NoneCut os → SomeLacks os → IsRootFault t s → ComeTo t is_bytes os (error s)
   -- the first place where what is needed is broken
-  breaking : {os : List Outcome} {r : ℕ} {s : Stop} → NoneFails os → NoneCut os → IsReach t os r → is_bytes ≡ true → ¬ IsUtf8 (take r t)
+  breaking : {os : List Outcome} {r : ℕ} {s : Stop} → NoneFails os → NoneCut os → IsReach t os r → IsTrue is_bytes → ¬ IsUtf8 (take r t)
       → s ≡ record { place = valid_up_to (take r t); code = InvalidUTF8 } → ComeTo t is_bytes os (error s)
   -- the spans, or nothing where a key is lacked
   finding : {os : List Outcome} {r : ℕ} {entries : List (Option Span)} → NoneFails os → NoneCut os → IsReach t os r
-      → (is_bytes ≡ true → IsUtf8 (take r t)) → entries ≡ map span_of os → ComeTo t is_bytes os (spans entries)
+      → (IsTrue is_bytes → IsUtf8 (take r t)) → entries ≡ map span_of os → ComeTo t is_bytes os (spans entries)
 
 -- the answer of the paths over the text, under a rule
 pub record IsAnswerBy (r : KeyRule) (t : List ℕ) (is_bytes : Bool) (paths : List Path) (a : Answer) : Type 0 where
@@ -88,9 +88,9 @@ IsAnswer t is_bytes paths a = IsAnswerBy First t is_bytes paths a
 -- what the outcome of one path alone comes to, over the text, which came as bytes that may be no UTF-8 or not
 pub data ComesToAlone (t : List ℕ) (is_bytes : Bool) : Outcome → Answer → Type 0 where
   -- the span of its value, up to whose end the text is UTF-8
-  value_found : {i j : ℕ} → (is_bytes ≡ true → IsUtf8 (take j t)) → ComesToAlone t is_bytes (found i j) (spans (Some (i, j) ∷ []))
+  value_found : {i j : ℕ} → (IsTrue is_bytes → IsUtf8 (take j t)) → ComesToAlone t is_bytes (found i j) (spans (Some (i, j) ∷ []))
   -- or the first place where that is broken
-  value_broken : {i j : ℕ} {s : Stop} → is_bytes ≡ true → ¬ IsUtf8 (take j t) → s ≡ record { place = valid_up_to (take j t); code = InvalidUTF8 }
+  value_broken : {i j : ℕ} {s : Stop} → IsTrue is_bytes → ¬ IsUtf8 (take j t) → s ≡ record { place = valid_up_to (take j t); code = InvalidUTF8 }
       → ComesToAlone t is_bytes (found i j) (error s)
   -- the closing brace of the object that lacks its key
   key_lacked : {q : ℕ} {s : Stop} → s ≡ record { place = q; code = GetUnknownKeyInObject } → ComesToAlone t is_bytes (lacks q) (error s)

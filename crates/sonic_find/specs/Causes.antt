@@ -1,5 +1,5 @@
 -- When a list of paths is answered with spans, and what an error says otherwise.
-use Rattle.std.specs.Prelude.{◌≡◌, ℕ, Bool, true, List, [], ◌∷◌, Some, take}
+use Rattle.std.specs.Prelude.{◌≡◌, ℕ, Bool, List, [], ◌∷◌, Some, take, IsTrue}
 use Rattle.std.specs.Str.{IsUtf8}
 use Rattle.sonic_error.specs.declared.error.Error.{Error}
 use Rattle.sonic_error.specs.declared.code.ErrorCode.TheVariants.{NoMemory}
@@ -15,7 +15,7 @@ use Rattle.sonic_pointer.specs.declared.rule.KeyRule.TheVariants.{First}
 pub data IsAnswerableBy (rule : KeyRule) (t : List ℕ) (is_bytes : Bool) (paths : List Path) : Type 0 where
   nothing_asked : paths ≡ [] → IsAnswerableBy rule t is_bytes paths
   all_reported : (os : List Outcome) (r : ℕ) → AllLeadBy rule t paths os → NoneFails os → NoneCut os → IsReach t os r
-      → (is_bytes ≡ true → IsUtf8 (take r t)) → IsAnswerableBy rule t is_bytes paths
+      → (IsTrue is_bytes → IsUtf8 (take r t)) → IsAnswerableBy rule t is_bytes paths
 
 -- and by first equal keys
 abbrev pub IsAnswerable : List ℕ → Bool → List Path → Type 0

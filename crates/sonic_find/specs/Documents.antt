@@ -1,5 +1,5 @@
 -- Whole documents (RFC 8259, sections 2 and 8.1), and why a text is none.
-use Rattle.std.specs.Prelude.{◌≡◌, ℕ, ◌<◌, Bool, true, List, length, slice_range}
+use Rattle.std.specs.Prelude.{◌≡◌, ℕ, ◌<◌, Bool, List, length, slice_range, IsTrue}
 use Rattle.std.specs.Str.{IsUtf8}
 use Rattle.sonic_error.specs.declared.code.ErrorCode.TheVariants.{InvalidUTF8, TrailingCharacters, NoMemory}
 use Rattle.sonic_error.specs.declared.error.Error.{Error}
@@ -40,7 +40,7 @@ pub data IsInvalid (t : List ℕ) (is_bytes : Bool) (s : Stop) : Type 0 where
   -- the first byte after the root that is no white space
   text_after : {p : ℕ} → IsAfterRoot t p → p < length t → s ≡ record { place = p; code = TrailingCharacters } → IsInvalid t is_bytes s
   -- the first broken place of bytes that are one value else
-  broken_text : IsAfterRoot t (length t) → is_bytes ≡ true → ¬ IsUtf8 t → s ≡ record { place = valid_up_to t; code = InvalidUTF8 } → IsInvalid t is_bytes s
+  broken_text : IsAfterRoot t (length t) → IsTrue is_bytes → ¬ IsUtf8 t → s ≡ record { place = valid_up_to t; code = InvalidUTF8 } → IsInvalid t is_bytes s
 
 -- there is no memory, or the error says why the text is no valid document
 pub data IsInvalidError (t : List ℕ) (is_bytes : Bool) (e : Error) : Type 0 where

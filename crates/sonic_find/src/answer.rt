@@ -1,5 +1,5 @@
 // The answer of a list of paths.
-ghost use Rattle.std.specs.Prelude.{◌≡◌, ◌≢◌, ◌⊎◌, ◌<◌, ◌≤◌, ℕ, List, [], None, true, false, length, option_map, replicate, take, IfOk, IfErr, IfSome, OnOk, OnErr};
+ghost use Rattle.std.specs.Prelude.{◌≡◌, ◌≢◌, ◌⊎◌, ◌<◌, ◌≤◌, ℕ, List, [], None, false, length, option_map, replicate, take, IfOk, IfErr, IfSome, OnOk, OnErr, IsTrue, IsFalse};
 ghost use Rattle.std.specs.Option.{IsSomeAnd};
 ghost use Rattle.sonic_error.specs.Errors.{IsPlainError};
 ghost use Rattle.sonic_text.specs.Strings.{strict};
@@ -160,8 +160,8 @@ fn reach(
 // How far the text is needed: to the end of the root where some path lacks its key, or else to the
 // furthest end of the values, and to 0 where there is none.
 fn reach_of(found: &[Option<ValueSpan>], lacking: bool, end: usize) -> usize
-    ensures whole { lacking ≡ true → result ≡ end }
-    ensures furthest { lacking ≡ false → IsFurthest (spans_of found.now) result }
+    ensures whole { IsTrue lacking → result ≡ end }
+    ensures furthest { IsFalse lacking → IsFurthest (spans_of found.now) result }
 {
     if lacking {
         return end;

@@ -1,5 +1,5 @@
 // Whether an input is one value with white space round it, in UTF-8.
-ghost use Rattle.std.specs.Prelude.{◌≡◌, ◌≤◌, Bool, false, length, IfOk, IfErr, OnOk};
+ghost use Rattle.std.specs.Prelude.{◌≡◌, ◌≤◌, Bool, length, IfOk, IfErr, OnOk, IsFalse};
 ghost use Rattle.std.specs.Str.{IsUtf8};
 ghost use Rattle.sonic_error.specs.Errors.{IsPlainError};
 ghost use Rattle.sonic_text.specs.Documents.{IsRootFault, StartsWithUtf8Value};
@@ -67,7 +67,7 @@ pub fn pass_alone(alloc: Global, read: Read<'_>) -> Result<ValueSpan, Fault>
 // Passes a whole document, or stops at the reason why the text is none.
 fn pass_document(alloc: Global, read: Read<'_>, is_bytes: bool) -> Result<(), Fault>
     requires start { read.place ≡ 0 }
-    requires utf8 { is_bytes ≡ false → IsUtf8 read.text }
+    requires utf8 { IsFalse is_bytes → IsUtf8 read.text }
     ensures ok { OnOk result (IsValidDocument read.entry.text) }
     ensures err { IfErr result (IsStopFor (IsInvalid read.entry.text is_bytes)) }
     ensures within { IfErr result (IsStopFor (λ s. s.place ≤ length read.entry.text)) }

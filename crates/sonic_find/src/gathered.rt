@@ -1,6 +1,6 @@
 // Objects in which another member than the first may count. What a key leads to counts once the object
 // is whole: each prefix is marked with what it had last, and what the marks come to is collected then.
-ghost use Rattle.std.specs.Prelude.{◌≡◌, ◌≢◌, ◌<◌, ◌≤◌, ◌⊎◌, ℕ, List, Some, None, true, false, length, slice_get, IfOk, IfErr, IfSome, OnOk};
+ghost use Rattle.std.specs.Prelude.{◌≡◌, ◌≢◌, ◌<◌, ◌≤◌, ◌⊎◌, ℕ, List, Some, None, false, length, slice_get, IfOk, IfErr, IfSome, OnOk, IsTrue, IsFalse};
 ghost use Rattle.sonic_error.specs.declared.code.ErrorCode.TheVariants.{GetIndexOutOfArray, Message};
 ghost use Rattle.sonic_error.specs.declared.json_type.Note.TheVariants.{Mismatch};
 ghost use Rattle.sonic_text.specs.declared.kind.Kind.{Kind};
@@ -115,8 +115,8 @@ fn pass(walk: &mut Walk<'_>, view: &TreeView<'_>) -> Result<Mark, Fault>
 
 // Whether there are children, and a container of their kind begins at the cursor.
 fn begins(walk: &Walk<'_>, level: &Level<'_, '_>, count: usize) -> bool
-    ensures begins { result ≡ true → byte walk.now.text walk.now.place ≡ opening level.now.kind }
-    ensures other { result ≡ false → (count ≡ 0)
+    ensures begins { IsTrue result → byte walk.now.text walk.now.place ≡ opening level.now.kind }
+    ensures other { IsFalse result → (count ≡ 0)
         ⊎ (byte walk.now.text walk.now.place ≢ opening level.now.kind) }
 {
     count != 0 && byte_at(walk.text(), walk.place()) == level.kind.opening()
@@ -184,8 +184,8 @@ fn member(walk: &mut Walk<'_>, level: &Level<'_, '_>, passed: usize) -> Result<(
 
 // Whether a prefix with this mark had a value in the container at `start` before, and may have no other.
 fn is_repeated(walk: &Walk<'_>, start: usize, mark: Mark) -> bool
-    ensures repeated { result ≡ true → (walk.now.rule ≡ Refuse) × (start < mark.value.start) }
-    ensures counts { result ≡ false → (walk.now.rule ≢ Refuse) ⊎ (mark.value.start ≤ start) }
+    ensures repeated { IsTrue result → (walk.now.rule ≡ Refuse) × (start < mark.value.start) }
+    ensures counts { IsFalse result → (walk.now.rule ≢ Refuse) ⊎ (mark.value.start ≤ start) }
 {
     walk.refuses() && start < mark.value.start
 }

@@ -1,4 +1,4 @@
-ghost use Rattle.std.specs.Prelude.{◌≡◌, ◌<◌, ◌+◌, ◌++◌, ◌↔◌, ℕ, Bool, List, Option, false, slice_range};
+ghost use Rattle.std.specs.Prelude.{◌≡◌, ◌<◌, ◌+◌, ◌++◌, ◌↔◌, ℕ, Bool, List, Option, slice_range, IsFalse};
 ghost use Rattle.std.specs.List.{Contains};
 ghost use Rattle.std.specs.Str.{IsUtf8};
 ghost use Rattle.sonic_text.specs.declared.stop.Stop.{Stop};
@@ -97,7 +97,7 @@ pub fn path_has_one_answer()
 /// The reason is a place and a code. So `[1] x` is none for the `x` alone, and a broken byte after
 /// that has no part in it.
 pub fn document_is_valid_or_has_one_reason()
-    ensures { (t : List ℕ) (is_bytes : Bool) → (is_bytes ≡ false → IsUtf8 t)
+    ensures { (t : List ℕ) (is_bytes : Bool) → (IsFalse is_bytes → IsUtf8 t)
         → HoldsOrHasOneReason (IsValidDocument t) (IsInvalid t is_bytes) }
 {}
 

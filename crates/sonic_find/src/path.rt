@@ -1,5 +1,5 @@
 // Where one path leads in a text.
-ghost use Rattle.std.specs.Prelude.{◌≡◌, ◌≢◌, ◌-◌, ◌<◌, ◌≤◌, ◌∷◌, [], Some, true, false, length, IfOk, IfErr, IsErrOf, OnOk};
+ghost use Rattle.std.specs.Prelude.{◌≡◌, ◌≢◌, ◌-◌, ◌<◌, ◌≤◌, ◌∷◌, [], Some, length, IfOk, IfErr, IsErrOf, OnOk, IsTrue, IsFalse};
 ghost use Rattle.sonic_text.specs.declared.kind.Kind.{Kind};
 ghost use Rattle.sonic_text.specs.Faults.{IsKeyFault};
 ghost use Rattle.sonic_text.specs.Strings.{strict};
@@ -37,7 +37,7 @@ pub fn locate(steps: &mut Steps<'_>, path: &[PointerNode<'_>]) -> Result<ValueSp
     ensures moved { steps.new ≡ record steps.old { place = steps.new.place } }
     ensures err { IfErr result (IsStopFor (IsDeadEnd First steps.old.text steps.old.place
         (path_of path.now))) }
-    ensures memory { IsErrOf result Fault.OutOfMemory → steps.old.checks ≡ true }
+    ensures memory { IsErrOf result Fault.OutOfMemory → IsTrue steps.old.checks }
 {
     if !follow(steps, path)? {
         let place = steps.place() - 1;
@@ -82,15 +82,15 @@ pub fn locate_from(
 // closing brace of the object that lacks its key.
 fn follow(steps: &mut Steps<'_>, path: &[PointerNode<'_>]) -> Result<bool, Fault>
     requires { IsSkippable steps.old }
-    ensures leads { IfOk result (λ on. on ≡ true
+    ensures leads { IfOk result (λ on. IsTrue on
         → IsRest First steps.old.text steps.old.place (path_of path.now) steps.new.place []) }
-    ensures skippable { IfOk result (λ on. on ≡ true → IsSkippable steps.new) }
-    ensures lacks { IfOk result (λ on. on ≡ false → (0 < steps.new.place)
+    ensures skippable { IfOk result (λ on. IsTrue on → IsSkippable steps.new) }
+    ensures lacks { IfOk result (λ on. IsFalse on → (0 < steps.new.place)
         × Evaluates steps.old.text steps.old.place (path_of path.now) (lacks (steps.new.place - 1))) }
     ensures moved { steps.new ≡ record steps.old { place = steps.new.place } }
     ensures err { IfErr result (IsStopFor (IsPathStop First steps.old.text steps.old.place
         (path_of path.now))) }
-    ensures memory { IsErrOf result Fault.OutOfMemory → steps.old.checks ≡ true }
+    ensures memory { IsErrOf result Fault.OutOfMemory → IsTrue steps.old.checks }
 {
     for node in path {
         if !lead_on(steps, node)? {
@@ -104,14 +104,14 @@ fn follow(steps: &mut Steps<'_>, path: &[PointerNode<'_>]) -> Result<bool, Fault
 // there is one. If an object with members has none, the cursor is after its closing brace.
 pub(crate) fn lead_on(steps: &mut Steps<'_>, node: &PointerNode<'_>) -> Result<bool, Fault>
     requires { IsSkippable steps.old }
-    ensures leads { IfOk result (λ on. on ≡ true
+    ensures leads { IfOk result (λ on. IsTrue on
         → LeadsOn steps.old.text steps.old.place (node_of node.now) steps.new.place) }
-    ensures lacks { IfOk result (λ on. on ≡ false → (0 < steps.new.place)
+    ensures lacks { IfOk result (λ on. IsFalse on → (0 < steps.new.place)
         × LacksNode First steps.old.text steps.old.place (node_of node.now) (steps.new.place - 1)) }
     ensures moved { steps.new ≡ record steps.old { place = steps.new.place } }
     ensures err { IfErr result (IsStopFor (IsDeadNode First steps.old.text steps.old.place
         (node_of node.now))) }
-    ensures memory { IsErrOf result Fault.OutOfMemory → steps.old.checks ≡ true }
+    ensures memory { IsErrOf result Fault.OutOfMemory → IsTrue steps.old.checks }
 {
     let kind = kind_of_node(node);
     steps.enter(kind)?;

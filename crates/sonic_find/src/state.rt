@@ -1,5 +1,5 @@
 // What a walk through a text has come to.
-ghost use Rattle.std.specs.Prelude.{◌≡◌, ◌≢◌, ◌⊎◌, ◌<◌, ◌≤◌, ◌^◌, ◌+◌, ℕ, Some, None, true, false, length, replicate, set, slice_get, IfOk, IfErr, OnOk};
+ghost use Rattle.std.specs.Prelude.{◌≡◌, ◌≢◌, ◌⊎◌, ◌<◌, ◌≤◌, ◌^◌, ◌+◌, ℕ, Some, None, true, false, length, replicate, set, slice_get, IfOk, IfErr, OnOk, IsTrue, IsFalse};
 ghost use Rattle.std.specs.List.{Contains};
 ghost use Rattle.sonic_text.specs.Places.{after_space, byte};
 ghost use Rattle.sonic_text.specs.Strings.{strict};
@@ -93,8 +93,8 @@ impl<'de> Walk<'de> {
 
     // Whether a container of this kind has to be whole before a node leads on in it.
     pub(crate) fn gathers(&self, kind: Kind) -> bool
-        ensures whole { result ≡ true → (self.now.rule ≢ First) × (kind ≡ Kind.Object) }
-        ensures plain { result ≡ false → (self.now.rule ≡ First) ⊎ (kind ≡ Kind.Array) }
+        ensures whole { IsTrue result → (self.now.rule ≢ First) × (kind ≡ Kind.Object) }
+        ensures plain { IsFalse result → (self.now.rule ≡ First) ⊎ (kind ≡ Kind.Array) }
     {
         match (self.rule, kind) {
             (KeyRule::First, _) | (_, Kind::Array) => false,
@@ -104,8 +104,8 @@ impl<'de> Walk<'de> {
 
     // Whether a second member with the key of another is refused.
     pub(crate) fn refuses(&self) -> bool
-        ensures refuses { result ≡ true → self.now.rule ≡ Refuse }
-        ensures counts { result ≡ false → self.now.rule ≢ Refuse }
+        ensures refuses { IsTrue result → self.now.rule ≡ Refuse }
+        ensures counts { IsFalse result → self.now.rule ≢ Refuse }
     {
         match self.rule {
             KeyRule::Refuse => true,
@@ -183,9 +183,9 @@ impl<'de> Walk<'de> {
     #[inline(always)]
     pub(crate) fn open(&mut self, kind: Kind) -> bool
         requires { byte self.old.text self.old.place ≡ opening kind }
-        ensures item { result ≡ true
+        ensures item { IsTrue result
             → ItemsFit strict self.old.text kind self.old.place 0 self.new.place }
-        ensures empty { result ≡ false
+        ensures empty { IsFalse result
             → IsEnd self.old.text kind (self.old.place + 1) self.new.place }
         ensures moved { self.new ≡ record self.old { place = self.new.place } }
     {
@@ -195,9 +195,9 @@ impl<'de> Walk<'de> {
     // Goes on after an item of a container of this kind: whether another one comes.
     #[inline(always)]
     pub(crate) fn next_item(&mut self, kind: Kind) -> Result<bool, Stop>
-        ensures item { IfOk result (λ more. more ≡ true
+        ensures item { IfOk result (λ more. IsTrue more
             → IsSeparated self.old.text self.old.place self.new.place) }
-        ensures end { IfOk result (λ more. more ≡ false
+        ensures end { IfOk result (λ more. IsFalse more
             → IsEnd self.old.text kind self.old.place self.new.place) }
         ensures moved { self.new ≡ record self.old { place = self.new.place } }
         ensures fits { OnOk result (self.new.place < 2 ^ 64) }

@@ -1,5 +1,5 @@
 // The steps of a walk through a text.
-ghost use Rattle.std.specs.Prelude.{◌≡◌, ◌≢◌, ◌+◌, ◌<◌, ◌≤◌, ◌^◌, true, false, length, take, IfOk, IfErr, IsErrOf, OnOk, is_some};
+ghost use Rattle.std.specs.Prelude.{◌≡◌, ◌≢◌, ◌+◌, ◌<◌, ◌≤◌, ◌^◌, true, false, length, take, IfOk, IfErr, IsErrOf, OnOk, is_some, IsTrue, IsFalse};
 ghost use Rattle.std.specs.Str.{IsUtf8};
 ghost use Rattle.sonic_error.specs.declared.code.ErrorCode.TheVariants.{InvalidUTF8};
 ghost use Rattle.sonic_error.specs.Texts.{valid_up_to};
@@ -132,7 +132,7 @@ impl<'de> Steps<'de> {
         ensures escaped { IfOk result (FlagsEscape self.old.text) }
         ensures moved { self.new ≡ record self.old { place = self.new.place } }
         ensures err { IfErr result (IsStopFor (λ s. IsFault strict self.old.text self.old.place s)) }
-        ensures memory { IsErrOf result Fault.OutOfMemory → self.old.checks ≡ true }
+        ensures memory { IsErrOf result Fault.OutOfMemory → IsTrue self.old.checks }
         ensures filled { IsErrOf result Fault.OutOfMemory
             → IsFilledContainer self.old.text self.old.place }
     {
@@ -172,7 +172,7 @@ impl<'de> Steps<'de> {
         ensures ok { OnOk result (ItemsFit strict self.old.text kind self.old.place 0 self.new.place) }
         ensures moved { self.new ≡ record self.old { place = self.new.place } }
         ensures err { IfErr result (IsStopFor (IsNoEntry self.old.text self.old.place kind)) }
-        ensures memory { IsErrOf result Fault.OutOfMemory → self.old.checks ≡ true }
+        ensures memory { IsErrOf result Fault.OutOfMemory → IsTrue self.old.checks }
     {
         let start = self.parser.offset();
         if byte_at(self.parser.text(), start) != kind.opening() {
@@ -194,9 +194,9 @@ impl<'de> Steps<'de> {
     #[inline(always)]
     pub fn open(&mut self, kind: Kind) -> bool
         requires { byte self.old.text self.old.place ≡ opening kind }
-        ensures item { result ≡ true
+        ensures item { IsTrue result
             → ItemsFit strict self.old.text kind self.old.place 0 self.new.place }
-        ensures empty { result ≡ false
+        ensures empty { IsFalse result
             → IsEnd self.old.text kind (self.old.place + 1) self.new.place }
         ensures moved { self.new ≡ record self.old { place = self.new.place } }
     {
@@ -209,7 +209,7 @@ impl<'de> Steps<'de> {
         requires other { byte self.old.text self.old.place ≢ opening kind }
         ensures stop { IsStopFor (IsNoEntry self.old.text self.old.place kind) result }
         ensures moved { self.new ≡ record self.old { place = self.new.place } }
-        ensures memory { result ≡ Fault.OutOfMemory → self.old.checks ≡ true }
+        ensures memory { result ≡ Fault.OutOfMemory → IsTrue self.old.checks }
     {
         let found = type_of(byte_at(self.parser.text(), self.parser.offset()));
         if let Err(fault) = self.skip() {
@@ -225,9 +225,9 @@ impl<'de> Steps<'de> {
     #[inline(always)]
     pub fn next_item(&mut self, kind: Kind) -> Result<bool, Stop>
         requires { IsAfterItem kind self.old }
-        ensures item { IfOk result (λ more. more ≡ true
+        ensures item { IfOk result (λ more. IsTrue more
             → IsSeparated self.old.text self.old.place self.new.place) }
-        ensures end { IfOk result (λ more. more ≡ false
+        ensures end { IfOk result (λ more. IsFalse more
             → IsEnd self.old.text kind self.old.place self.new.place) }
         ensures moved { self.new ≡ record self.old { place = self.new.place } }
         ensures fits { OnOk result (self.new.place < 2 ^ 64) }

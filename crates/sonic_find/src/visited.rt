@@ -1,5 +1,5 @@
 // Which children of a prefix of the tree were visited.
-ghost use Rattle.std.specs.Prelude.{◌≡◌, ◌<◌, ◌+◌, ℕ, Some, true, false, length, set, slice_get, IfOk, IfSome, IfNone};
+ghost use Rattle.std.specs.Prelude.{◌≡◌, ◌<◌, ◌+◌, ℕ, Some, true, false, length, set, slice_get, IfOk, IfSome, IfNone, IsTrue, IsFalse};
 ghost use Rattle.sonic_find.specs.Internal.Visits.{AreFresh};
 ghost use Rattle.sonic_find.specs.Internal.Walk.{SomeOpen};
 
@@ -88,8 +88,8 @@ impl Visited {
 
     // Whether each child was visited.
     pub(crate) fn is_done(&self) -> bool
-        ensures done { result ≡ true → ¬ SomeOpen self.now }
-        ensures some { result ≡ false → SomeOpen self.now }
+        ensures done { IsTrue result → ¬ SomeOpen self.now }
+        ensures some { IsFalse result → SomeOpen self.now }
     {
         self.left == 0
     }

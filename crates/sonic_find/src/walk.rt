@@ -1,5 +1,5 @@
 // One walk through a text, which finds what all paths of a tree lead to.
-ghost use Rattle.std.specs.Prelude.{◌≡◌, ◌≢◌, ◌⊎◌, ◌<◌, ◌≤◌, ◌-◌, ℕ, List, Some, true, false, slice_get, IfOk, IfErr, OnOk};
+ghost use Rattle.std.specs.Prelude.{◌≡◌, ◌≢◌, ◌⊎◌, ◌<◌, ◌≤◌, ◌-◌, ℕ, List, Some, slice_get, IfOk, IfErr, OnOk, IsTrue, IsFalse};
 ghost use Rattle.sonic_error.specs.declared.code.ErrorCode.TheVariants.{GetIndexOutOfArray};
 ghost use Rattle.sonic_text.specs.Strings.{strict, IsEscapedString};
 ghost use Rattle.sonic_text.specs.Paths.{Node};
@@ -45,7 +45,7 @@ pub(crate) fn follow(walk: &mut Walk<'_>, view: &TreeView<'_>, finish: bool) -> 
     ensures later { OnOk result (IsLater walk.old.rule walk.old.text view.now.paths walk.old.findings
         walk.new.findings) }
     ensures settled { OnOk result (AllSettled (point_at walk.old view.now) walk.new.findings) }
-    ensures whole { OnOk result ((finish ≡ true) ⊎ (walk.new.findings.lacking ≡ true)
+    ensures whole { OnOk result ((IsTrue finish) ⊎ IsTrue walk.new.findings.lacking
         → IsValue strict walk.old.text walk.old.place walk.new.place) }
     ensures marks { OnOk result (KeepsMarks (marking_at walk.new view.now) walk.new.place) }
     ensures text { OnOk result (walk.new.text ≡ walk.old.text) }
@@ -72,7 +72,7 @@ fn follow_children(walk: &mut Walk<'_>, view: &TreeView<'_>, finish: bool) -> Re
     ensures later { OnOk result (IsLater walk.old.rule walk.old.text view.now.paths walk.old.findings
         walk.new.findings) }
     ensures settled { OnOk result (AllSettled (point_at walk.old view.now) walk.new.findings) }
-    ensures whole { OnOk result ((finish ≡ true) ⊎ (walk.new.findings.lacking ≡ true)
+    ensures whole { OnOk result ((IsTrue finish) ⊎ IsTrue walk.new.findings.lacking
         → IsValue strict walk.old.text walk.old.place walk.new.place) }
     ensures marks { OnOk result (KeepsMarks (marking_at walk.new view.now) walk.new.place) }
     ensures text { OnOk result (walk.new.text ≡ walk.old.text) }
@@ -99,8 +99,8 @@ fn follow_children(walk: &mut Walk<'_>, view: &TreeView<'_>, finish: bool) -> Re
 
 // Whether a value has to be read to its end, as it is asked for or as a path ends at it.
 fn is_asked(finish: bool, orders: &[usize]) -> bool
-    ensures asked { result ≡ true → (finish ≡ true) ⊎ (orders.now ≢ List.[]) }
-    ensures unasked { result ≡ false → (finish ≡ false) × (orders.now ≡ List.[]) }
+    ensures asked { IsTrue result → IsTrue finish ⊎ (orders.now ≢ List.[]) }
+    ensures unasked { IsFalse result → IsFalse finish × (orders.now ≡ List.[]) }
 {
     finish || !orders.is_empty()
 }
@@ -130,11 +130,11 @@ fn items(walk: &mut Walk<'_>, level: &Level<'_, '_>) -> Result<bool, Fault>
     ensures later { OnOk result (IsLater walk.old.rule walk.old.text level.now.view.now.paths walk.old.findings
         walk.new.findings) }
     ensures settled { OnOk result (BelowSettled (container_at walk.old level.now).point walk.new.findings) }
-    ensures whole { IfOk result (λ whole. whole ≡ true → IsValue strict walk.old.text walk.old.place walk.new.place) }
-    ensures plain { IfOk result (λ whole. whole ≡ true
+    ensures whole { IfOk result (λ whole. IsTrue whole → IsValue strict walk.old.text walk.old.place walk.new.place) }
+    ensures plain { IfOk result (λ whole. IsTrue whole
         → ¬ IsEscapedString walk.old.text walk.old.place walk.new.place) }
-    ensures unneeded { IfOk result (λ whole. whole ≡ false
-        → (level.now.needs ≡ false) × (walk.new.findings.lacking ≡ false)) }
+    ensures unneeded { IfOk result (λ whole. IsFalse whole
+        → IsFalse level.now.needs × IsFalse walk.new.findings.lacking) }
     ensures marks { OnOk result (KeepsMarks (marking_at walk.new level.now.view.now) walk.new.place) }
     ensures text { OnOk result (walk.new.text ≡ walk.old.text) }
     ensures rule { OnOk result (walk.new.rule ≡ walk.old.rule) }
@@ -195,10 +195,10 @@ fn item(
 
 // Whether more is needed of a level: its end, or a child.
 fn is_wanted(walk: &Walk<'_>, level: &Level<'_, '_>, visited: &Visited) -> bool
-    ensures more { result ≡ true
-        → (level.now.needs ≡ true) ⊎ (walk.now.findings.lacking ≡ true) ⊎ SomeOpen visited.now }
-    ensures done { result ≡ false → (level.now.needs ≡ false)
-        × (walk.now.findings.lacking ≡ false) × (SomeOpen visited.now → ⊥) }
+    ensures more { IsTrue result
+        → IsTrue level.now.needs ⊎ IsTrue walk.now.findings.lacking ⊎ SomeOpen visited.now }
+    ensures done { IsFalse result → IsFalse level.now.needs
+        × IsFalse walk.now.findings.lacking × (SomeOpen visited.now → ⊥) }
 {
     level.needs || walk.lacks_key() || !visited.is_done()
 }
@@ -248,10 +248,10 @@ fn close(walk: &mut Walk<'_>, visited: &Visited, kind: Kind) -> Result<(), Stop>
           record walk.old.findings { lacking = walk.new.findings.lacking };
     } }
     ensures unvisited { OnOk result (SomeOpen visited.now
-        → (kind ≡ Kind.Object) × (walk.new.findings.lacking ≡ true)) }
-    ensures still { walk.old.findings.lacking ≡ true → walk.new.findings.lacking ≡ true }
-    ensures lack { OnOk result (walk.new.findings.lacking ≡ true
-        → (walk.old.findings.lacking ≡ true) ⊎ SomeOpen visited.now) }
+        → (kind ≡ Kind.Object) × IsTrue walk.new.findings.lacking) }
+    ensures still { IsTrue walk.old.findings.lacking → IsTrue walk.new.findings.lacking }
+    ensures lack { OnOk result (IsTrue walk.new.findings.lacking
+        → IsTrue walk.old.findings.lacking ⊎ SomeOpen visited.now) }
     ensures err { IfErr result (λ s. SomeOpen visited.now × (kind ≡ Kind.Array)
         × (s ≡ record { place = walk.old.place - 1; code = GetIndexOutOfArray })) }
 {

@@ -1,7 +1,7 @@
 // The walk that writes the cells: one step for each item, and one for each container that ends. Its only
 // stack is the cells.
 ghost use Rattle.std.specs.Str.{IsUtf8};
-ghost use Rattle.std.specs.Prelude.{◌≡◌, ◌+◌, ◌-◌, ◌^◌, ◌<◌, ◌≤◌, ◌↔◌, Bool, false, IsTrue, List, [], ◌∷◌, ◌++◌, Some, length, get_or, set, slice_get, IfOk, IfErr, OnOk};
+ghost use Rattle.std.specs.Prelude.{◌≡◌, ◌+◌, ◌-◌, ◌^◌, ◌<◌, ◌≤◌, ◌↔◌, Bool, IsTrue, List, [], ◌∷◌, ◌++◌, Some, length, get_or, set, slice_get, IfOk, IfErr, OnOk, IsFalse};
 ghost use Rattle.sonic_text.specs.declared.kind.Kind.{Kind};
 ghost use Rattle.sonic_text.specs.Documents.{IsRootFault};
 ghost use Rattle.sonic_text.specs.Places.{byte, after_space};
@@ -402,7 +402,7 @@ fn whole(alloc: Global, read: Read<'_>) -> Result<Written, Fault>
 // The cells of a document, or the reason why the text is none.
 pub(crate) fn document(alloc: Global, read: Read<'_>, is_bytes: bool) -> Result<Written, Fault>
     requires start { read.place ≡ 0 }
-    requires utf8 { is_bytes ≡ false → IsUtf8 read.text }
+    requires utf8 { IsFalse is_bytes → IsUtf8 read.text }
     ensures valid { OnOk result (IsValidDocument read.entry.text) }
     ensures kept { IfOk result (λ written. (es : List Entry) → AreOfAlone read.entry.text es
         → AreKept es written.cells.items) }

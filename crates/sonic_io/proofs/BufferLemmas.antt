@@ -7,7 +7,7 @@ use Rattle.std.proofs.lemmas.List.{at_drop_more, take_more}
 use Rattle.std.specs.Prelude.{OnErr, OnOk, Result, Ok, Err}
 use Rattle.sonic_io.specs.declared.buffer.Buffer.{Buffer}
 use Rattle.sonic_io.specs.declared.sink.Sink.{Ghosts}
-use Rattle.sonic_io.specs.Buffers.{held, IsCutOff, IsPassed, IsWritten, TookBut}
+use Rattle.sonic_io.specs.Buffers.{held, IsCutOff, IsHandedOn, IsWritten, TookBut}
 use Rattle.sonic_io.specs.Outside.{Rose, Took, TookPrefix}
 use Rattle.sonic_io.proofs.OutsideLemmas.{took_both, prefix_of_first, prefix_of_both}
 
@@ -63,9 +63,9 @@ module _ {K : Type 0} {g : Ghosts K} {before after : K × Buffer} where
   pub cut_first : (xs ys : List ℕ) → IsCutOff g before after xs → IsCutOff g before after (xs ++ ys)
   cut_first xs ys cut = record { prefix = rw (← append_assoc (held before.1) xs ys) (prefix_of_first (g.written before.0) (g.written after.0) (held before.1 ++ xs) ys cut.prefix); cause = cut.cause }
 
-  module _ {between : K × Buffer} (xs ys : List ℕ) (first : IsPassed g before between xs) where
+  module _ {between : K × Buffer} (xs ys : List ℕ) (first : IsHandedOn g before between xs) where
     -- more bytes were passed
-    pub passed_more : IsPassed g between after ys → IsPassed g before after (xs ++ ys)
+    pub passed_more : IsHandedOn g between after ys → IsHandedOn g before after (xs ++ ys)
     passed_more passed = record { taken = but_more (held before.1) xs ys first.taken passed.taken; calm = passed.calm ∙ first.calm }
 
     -- or cut off
@@ -73,7 +73,7 @@ module _ {K : Type 0} {g : Ghosts K} {before after : K × Buffer} where
     cut_later cut = record { prefix = but_prefix (held before.1) xs ys first.taken cut.prefix; cause = rw first.calm at cut.cause }
 
 -- more bytes were passed or cut off, as the result says
-pub then_written : {K V E : Type 0} {g : Ghosts K} {before between : K × Buffer} (after : K × Buffer) (xs ys : List ℕ) → IsPassed g before between xs → (result : Result V E)
+pub then_written : {K V E : Type 0} {g : Ghosts K} {before between : K × Buffer} (after : K × Buffer) (xs ys : List ℕ) → IsHandedOn g before between xs → (result : Result V E)
     → IsWritten g between after ys result → IsWritten g before after (xs ++ ys) result
 then_written after xs ys first (Ok value) passed = passed_more xs ys first passed
 then_written after xs ys first (Err error) cut = cut_later xs ys first cut
@@ -100,12 +100,12 @@ more_texts text all i d below =
 
 module _ {P : Type 0} (text : P → List ℕ) (all : List P) (i : ℕ) (d : P) {K : Type 0} {g : Ghosts K} {before between after : K × Buffer} where
   -- after the texts below an index, the text there
-  pub texts_passed : i < length all → IsPassed g before between (flat_map text (take i all)) → IsPassed g between after (text (get_or all i d))
-      → IsPassed g before after (flat_map text (take (i + 1) all))
+  pub texts_passed : i < length all → IsHandedOn g before between (flat_map text (take i all)) → IsHandedOn g between after (text (get_or all i d))
+      → IsHandedOn g before after (flat_map text (take (i + 1) all))
   texts_passed below first second = rw (more_texts text all i d below) (passed_more (flat_map text (take i all)) (text (get_or all i d)) first second)
 
   -- after them, the text there was cut off
-  pub texts_cut : i < length all → IsPassed g before between (flat_map text (take i all)) → IsCutOff g between after (text (get_or all i d)) → IsCutOff g before after (flat_map text all)
+  pub texts_cut : i < length all → IsHandedOn g before between (flat_map text (take i all)) → IsCutOff g between after (text (get_or all i d)) → IsCutOff g before after (flat_map text all)
   texts_cut below first second =
       rw (split_texts text all i d below)
       (cut_first _ (flat_map text (drop (i + 1) all)) (cut_later (flat_map text (take i all)) (text (get_or all i d)) first second))

@@ -16,7 +16,7 @@ pub record TookBut (before after : Option (List ℕ)) (holding bytes : List ℕ)
   pub taken : Took before after prefix
 
 -- a sink took what the buffer before it held and these bytes, but for what is held now
-pub record IsPassed {K : Type 0} (g : Ghosts K) (before after : K × Buffer) (bytes : List ℕ) : Type 0 where
+pub record IsHandedOn {K : Type 0} (g : Ghosts K) (before after : K × Buffer) (bytes : List ℕ) : Type 0 where
   pub taken : TookBut (g.written before.0) (g.written after.0) (held after.1) (held before.1 ++ bytes)
   pub calm : g.faults after.0 ≡ g.faults before.0
 
@@ -27,5 +27,5 @@ pub record IsCutOff {K : Type 0} (g : Ghosts K) (before after : K × Buffer) (by
 
 -- the one or the other, by the result
 abbrev pub IsWritten : {K V E : Type 0} → Ghosts K → K × Buffer → K × Buffer → List ℕ → Result V E → Type 0
-IsWritten g before after bytes (Ok value) = IsPassed g before after bytes
+IsWritten g before after bytes (Ok value) = IsHandedOn g before after bytes
 IsWritten g before after bytes (Err error) = IsCutOff g before after bytes

@@ -1,5 +1,5 @@
 -- The items of the container that begins a text (RFC 8259, sections 4 and 5): a list, and then its end or the one error.
-use Rattle.std.specs.Prelude.{◌≡◌, ◌≢◌, ℕ, ◌+◌, ◌==◌, if◌then◌else◌, Bool, true, List, [], ◌∷◌, ◌++◌, Option, length}
+use Rattle.std.specs.Prelude.{◌≡◌, ◌≢◌, ℕ, ◌+◌, ◌==◌, if◌then◌else◌, Bool, List, [], ◌∷◌, ◌++◌, Option, length, IsTrue}
 use Rattle.std.specs.Str.{IsUtf8}
 use Rattle.sonic_error.specs.declared.code.ErrorCode.{ErrorCode}
 use Rattle.sonic_error.specs.declared.code.ErrorCode.TheVariants.{ExpectedArrayCommaOrEnd, ExpectedArrayStart, ExpectedObjectCommaOrEnd, ExpectedObjectStart, ExpectObjectKeyOrEnd, InvalidUTF8}
@@ -77,9 +77,9 @@ pub data AreStopped (t : List ℕ) (kind : Kind) (n : ℕ) (s : Stop) : Type 0 w
 
 -- how the list ends whose items are n, over a text that came as bytes whose UTF-8 is looked at first, or not
 pub data EndsItems (t : List ℕ) (is_bytes : Bool) (kind : Kind) (n : ℕ) (ending : Ending) : Type 0 where
-  at_broken_text : is_bytes ≡ true → ¬ IsUtf8 t → n ≡ 0 → ending ≡ stopped (stop_at (valid_up_to t) InvalidUTF8) → EndsItems t is_bytes kind n ending
-  at_bracket : (is_bytes ≡ true → IsUtf8 t) → AreClosed t kind n → ending ≡ closed → EndsItems t is_bytes kind n ending
-  at_stop : {s : Stop} → (is_bytes ≡ true → IsUtf8 t) → AreStopped t kind n s → ending ≡ stopped s → EndsItems t is_bytes kind n ending
+  at_broken_text : IsTrue is_bytes → ¬ IsUtf8 t → n ≡ 0 → ending ≡ stopped (stop_at (valid_up_to t) InvalidUTF8) → EndsItems t is_bytes kind n ending
+  at_bracket : (IsTrue is_bytes → IsUtf8 t) → AreClosed t kind n → ending ≡ closed → EndsItems t is_bytes kind n ending
+  at_stop : {s : Stop} → (IsTrue is_bytes → IsUtf8 t) → AreStopped t kind n s → ending ≡ stopped s → EndsItems t is_bytes kind n ending
 
 -- these are the first n items, in order
 pub data AreItems (t : List ℕ) (kind : Kind) : ℕ → List Item → Type 0 where

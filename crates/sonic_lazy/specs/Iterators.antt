@@ -1,5 +1,5 @@
 -- Iterators over the items of a container, and what a call of `next` gives.
-use Rattle.std.specs.Prelude.{◌≡◌, ◌↔◌, ◌⊎◌, ℕ, ◌+◌, ◌<◌, Bool, true, false, List, Some, Result, IfOk, IfErr, IfSome, IfNone, IsSome, length}
+use Rattle.std.specs.Prelude.{◌≡◌, ◌↔◌, ◌⊎◌, ℕ, ◌+◌, ◌<◌, Bool, true, false, List, Some, Result, IfOk, IfErr, IfSome, IfNone, IsSome, length, IsTrue, IsFalse}
 use Rattle.std.specs.Cow.{IsBorrowedStr, cow_str_bytes}
 use Rattle.std.specs.Str.{IsUtf8}
 use Rattle.std.specs.declared.borrow.CowStr.{CowStr}
@@ -58,12 +58,12 @@ pub record ShowsMember {Z : Type 0} (t : List ℕ) (n : ℕ) (member : CowStr Z 
 
 -- memory may run out at the next item: the iterator looks at what it passes, or the item's key has a backslash
 abbrev pub TakesMemory : Iterating → Type 0
-TakesMemory it = (it.checks ≡ true) ⊎ (it.kind ≡ Object) × IsEscapedKey it.text it.given
+TakesMemory it = IsTrue it.checks ⊎ (it.kind ≡ Object) × IsEscapedKey it.text it.given
 
 -- there is a next item, of a text in UTF-8 where that is looked at
 pub record HasNext (it : Iterating) : Type 0 where
-  pub going : it.ended ≡ false
-  pub utf8 : it.is_bytes ≡ true → IsUtf8 it.text
+  pub going : IsFalse it.ended
+  pub utf8 : IsTrue it.is_bytes → IsUtf8 it.text
   pub item : Item
   pub is : IsItemAt it.text it.kind it.given item
 
@@ -74,21 +74,21 @@ pub data IsNextError (it : Iterating) (e : Error) : Type 0 where
 
 -- the next item was given, of a text in UTF-8 where that is looked at
 pub record IsGiven {V : Type 0} (Shows : List ℕ → ℕ → V → Type 0) (before now : Iterating) (item : V) : Type 0 where
-  pub going : before.ended ≡ false
-  pub utf8 : before.is_bytes ≡ true → IsUtf8 before.text
+  pub going : IsFalse before.ended
+  pub utf8 : IsTrue before.is_bytes → IsUtf8 before.text
   pub shown : Shows before.text before.given item
   pub within : before.given < length before.text
   pub moved : now ≡ record before { given = before.given + 1 }
 
 -- an error was given, and the iterator has ended
 pub record IsStuck (before now : Iterating) (e : Error) : Type 0 where
-  pub going : before.ended ≡ false
+  pub going : IsFalse before.ended
   pub error : IsNextError before e
   pub ended : now ≡ record before { given = now.given; ended = true }
 
 -- nothing was given: the iterator had ended, or it has now come to the closing bracket
 pub record IsOver (before now : Iterating) : Type 0 where
-  pub reason : (before.ended ≡ true) ⊎ EndsItems before.text before.is_bytes before.kind before.given closed
+  pub reason : IsTrue before.ended ⊎ EndsItems before.text before.is_bytes before.kind before.given closed
   pub ended : now ≡ record before { ended = true }
 
 -- what a call of `next` gives of an iterator, and the iterator after it

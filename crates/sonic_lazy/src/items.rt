@@ -1,5 +1,5 @@
 // One item of a container after the other.
-ghost use Rattle.std.specs.Prelude.{◌≡◌, ◌↔◌, ◌<◌, ◌^◌, None, true, false, length, IfOk, IfErr, IfSome, IsErrOf, IsTrue, OnOk};
+ghost use Rattle.std.specs.Prelude.{◌≡◌, ◌↔◌, ◌<◌, ◌^◌, None, length, IfOk, IfErr, IfSome, IsErrOf, IsTrue, OnOk, IsFalse};
 ghost use Rattle.sonic_text.specs.Places.{byte, after_space};
 ghost use Rattle.sonic_text.specs.Values.{ItemHead};
 ghost use Rattle.sonic_text.specs.Strings.{strict};
@@ -28,14 +28,14 @@ pub(crate) fn find_item(
     given: usize,
 ) -> Result<Option<Found>, Fault>
     requires after { IsAfterItems steps.old.text kind given steps.old.place }
-    requires whole { steps.old.checks ≡ false → HasWhole steps.old.text (after_space steps.old.text 0) }
+    requires whole { IsFalse steps.old.checks → HasWhole steps.old.text (after_space steps.old.text 0) }
     ensures found { IfOk result (λ found. IfSome found (IsFound steps.old.text kind given)) }
     ensures place { IfOk result (λ found. IfSome found (λ x. steps.new.place ≡ x.value.end)) }
     ensures fits { IfOk result (λ found. IfSome found (λ x. x.value.end < 2 ^ 64)) }
     ensures closed { IfOk result (λ found. found ≡ None → AreClosed steps.old.text kind given) }
     ensures moved { steps.new ≡ record steps.old { place = steps.new.place } }
     ensures err { IfErr result (IsStopFor (AreStopped steps.old.text kind given)) }
-    ensures memory { IsErrOf result Fault.OutOfMemory → steps.old.checks ≡ true }
+    ensures memory { IsErrOf result Fault.OutOfMemory → IsTrue steps.old.checks }
 {
     if !go_on(steps, kind, given)? {
         return Ok(None);
@@ -52,9 +52,9 @@ pub(crate) fn find_item(
 // Goes on after the items that were given: whether another one is expected.
 fn go_on(steps: &mut Steps<'_>, kind: Kind, given: usize) -> Result<bool, Stop>
     requires after { IsAfterItems steps.old.text kind given steps.old.place }
-    requires whole { steps.old.checks ≡ false → HasWhole steps.old.text (after_space steps.old.text 0) }
-    ensures item { IfOk result (λ more. more ≡ true → ItemsReach steps.old.text kind given steps.new.place) }
-    ensures closed { IfOk result (λ more. more ≡ false → AreClosed steps.old.text kind given) }
+    requires whole { IsFalse steps.old.checks → HasWhole steps.old.text (after_space steps.old.text 0) }
+    ensures item { IfOk result (λ more. IsTrue more → ItemsReach steps.old.text kind given steps.new.place) }
+    ensures closed { IfOk result (λ more. IsFalse more → AreClosed steps.old.text kind given) }
     ensures moved { steps.new ≡ record steps.old { place = steps.new.place } }
     ensures err { IfErr result (AreStopped steps.old.text kind given) }
 {
@@ -68,8 +68,8 @@ fn go_on(steps: &mut Steps<'_>, kind: Kind, given: usize) -> Result<bool, Stop>
 // Goes into the container: whether an item is expected.
 fn enter(steps: &mut Steps<'_>, kind: Kind) -> Result<bool, Stop>
     requires { steps.old.place ≡ after_space steps.old.text 0 }
-    ensures item { IfOk result (λ more. more ≡ true → ItemsReach steps.old.text kind 0 steps.new.place) }
-    ensures closed { IfOk result (λ more. more ≡ false → AreClosed steps.old.text kind 0) }
+    ensures item { IfOk result (λ more. IsTrue more → ItemsReach steps.old.text kind 0 steps.new.place) }
+    ensures closed { IfOk result (λ more. IsFalse more → AreClosed steps.old.text kind 0) }
     ensures moved { steps.new ≡ record steps.old { place = steps.new.place } }
     ensures err { IfErr result (AreStopped steps.old.text kind 0) }
 {
@@ -84,10 +84,10 @@ fn enter(steps: &mut Steps<'_>, kind: Kind) -> Result<bool, Stop>
 // Goes on after the last item that was given: whether another one is expected.
 fn pass_separator(steps: &mut Steps<'_>, kind: Kind, given: usize) -> Result<bool, Stop>
     requires after { IsAfterItems steps.old.text kind given steps.old.place }
-    requires whole { steps.old.checks ≡ false → HasWhole steps.old.text (after_space steps.old.text 0) }
+    requires whole { IsFalse steps.old.checks → HasWhole steps.old.text (after_space steps.old.text 0) }
     requires some { 0 < given }
-    ensures item { IfOk result (λ more. more ≡ true → ItemsReach steps.old.text kind given steps.new.place) }
-    ensures closed { IfOk result (λ more. more ≡ false → AreClosed steps.old.text kind given) }
+    ensures item { IfOk result (λ more. IsTrue more → ItemsReach steps.old.text kind given steps.new.place) }
+    ensures closed { IfOk result (λ more. IsFalse more → AreClosed steps.old.text kind given) }
     ensures moved { steps.new ≡ record steps.old { place = steps.new.place } }
     ensures err { IfErr result (AreStopped steps.old.text kind given) }
 {

@@ -1,5 +1,5 @@
 // How far an iterator has come in its container.
-ghost use Rattle.std.specs.Prelude.{◌≡◌, ◌<◌, ◌≤◌, ◌^◌, None, true, false, length, slice_range, IfSome, IfNone, IfOk, IfErr, IsErrOf, OnOk};
+ghost use Rattle.std.specs.Prelude.{◌≡◌, ◌<◌, ◌≤◌, ◌^◌, None, true, false, length, slice_range, IfSome, IfNone, IfOk, IfErr, IsErrOf, OnOk, IsTrue, IsFalse};
 ghost use Rattle.std.specs.Str.{IsUtf8};
 ghost use Rattle.sonic_input.specs.Slices.{slice_bytes};
 ghost use Rattle.sonic_text.specs.declared.kind.Kind.{Kind};
@@ -87,12 +87,12 @@ impl<'de> Items<'de> {
     pub(crate) fn next(&mut self) -> Option<Result<Found, Fault>>
         ensures found { IfSome result (λ r.
             IfOk r (IsGiven (λ t n x. IsFoundPart t self.old.kind n x) self.old self.new)) }
-        ensures going { IfSome result (λ r. IfErr r (λ _. self.old.ended ≡ false)) }
+        ensures going { IfSome result (λ r. IfErr r (λ _. IsFalse self.old.ended)) }
         ensures fault { IfSome result (λ r. IfErr r (IsStopFor (λ s.
             EndsItems self.old.text self.old.is_bytes self.old.kind self.old.given (stopped s)))) }
         ensures within { IfSome result (λ r. IfErr r (IsStopFor (λ s. s.place ≤ length self.old.text))) }
         ensures memory { IfSome result (λ r.
-            IsErrOf r Fault.OutOfMemory → self.old.checks ≡ true) }
+            IsErrOf r Fault.OutOfMemory → IsTrue self.old.checks) }
         ensures ended { IfSome result (λ r. IfErr r (λ _. self.new ≡ record self.old { ended = true })) }
         ensures none { IfNone result (IsOver self.old self.new) }
     {
@@ -148,9 +148,9 @@ fn find_next(
     is_bytes: bool,
 ) -> Result<Option<Found>, Fault>
     requires after { IsAfterItems steps.old.text kind given steps.old.place }
-    requires whole { steps.old.checks ≡ false → HasWhole steps.old.text (after_space steps.old.text 0) }
-    requires utf8 { is_bytes ≡ true → 0 < given → IsUtf8 steps.old.text }
-    ensures utf8 { OnOk result (is_bytes ≡ true → IsUtf8 steps.old.text) }
+    requires whole { IsFalse steps.old.checks → HasWhole steps.old.text (after_space steps.old.text 0) }
+    requires utf8 { IsTrue is_bytes → 0 < given → IsUtf8 steps.old.text }
+    ensures utf8 { OnOk result (IsTrue is_bytes → IsUtf8 steps.old.text) }
     ensures found { IfOk result (λ found. IfSome found (IsFound steps.old.text kind given)) }
     ensures place { IfOk result (λ found. IfSome found (λ x. steps.new.place ≡ x.value.end)) }
     ensures fits { IfOk result (λ found. IfSome found (λ x. x.value.end < 2 ^ 64)) }
@@ -158,7 +158,7 @@ fn find_next(
     ensures moved { steps.new ≡ record steps.old { place = steps.new.place } }
     ensures err { IfErr result (IsStopFor (λ s. EndsItems steps.old.text is_bytes kind given (stopped s))) }
     ensures within { IfErr result (IsStopFor (λ s. s.place ≤ length steps.old.text)) }
-    ensures memory { IsErrOf result Fault.OutOfMemory → steps.old.checks ≡ true }
+    ensures memory { IsErrOf result Fault.OutOfMemory → IsTrue steps.old.checks }
 {
     look(steps.text(), given, is_bytes)?;
     find_item(steps, kind, given)
@@ -166,8 +166,8 @@ fn find_next(
 
 // Looks at the UTF-8 of a text that came as bytes, before the first item.
 fn look(text: &[u8], given: usize, is_bytes: bool) -> Result<(), Stop>
-    requires { is_bytes ≡ true → 0 < given → IsUtf8 text.now }
-    ensures ok { OnOk result (is_bytes ≡ true → IsUtf8 text.now) }
+    requires { IsTrue is_bytes → 0 < given → IsUtf8 text.now }
+    ensures ok { OnOk result (IsTrue is_bytes → IsUtf8 text.now) }
     ensures err { IfErr result (λ s. (kind : Kind) → EndsItems text.now is_bytes kind given (stopped s)) }
     ensures within { IfErr result (λ s. s.place ≤ length text.now) }
 {

@@ -149,10 +149,10 @@ impl<'a> Clone for LazyValue<'a> {
 
 /// The value `null`.
 impl<'a> Default for LazyValue<'a> {
-    ghost use Rattle.std.specs.Prelude.{◌≡◌, codes, false};
+    ghost use Rattle.std.specs.Prelude.{◌≡◌, codes, IsFalse};
     ghost use Rattle.sonic_lazy.specs.LazyValues.{raw_bytes, has_escapes};
 
-    ghost is_default = { λ value. (raw_bytes value ≡ codes "null") × (has_escapes value ≡ false) };
+    ghost is_default = { λ value. (raw_bytes value ≡ codes "null") × IsFalse (has_escapes value) };
 
     fn default() -> LazyValue<'a> {
         LazyValue {

@@ -133,7 +133,7 @@ fn find_in_line(
     line: &Line<'_>,
     tree: &PointerTree,
 ) -> Result<(), Fault>
-    requires { line.now.is_text ≡ true → IsUtf8 line.now.text.now }
+    requires { IsTrue line.now.is_text → IsUtf8 line.now.text.now }
     ensures ok { OnOk result (IsAnswer line.now.text.now true tree.now (Answer.spans (pairs_of room.new))) }
     ensures parts { OnOk result (AreSpans line.now.text.now room.new) }
     ensures err { IfErr result (IsStopFor (λ s. IsAnswer line.now.text.now true tree.now (Answer.error s))) }
@@ -172,7 +172,7 @@ pub(crate) fn add_row(
     line: &Line<'_>,
     out: &mut Vec<u8>,
 ) -> Result<bool, AllocError>
-    requires { line.now.is_text ≡ true → IsUtf8 line.now.text.now }
+    requires { IsTrue line.now.is_text → IsUtf8 line.now.text.now }
     ensures row { OnOk result ((row : List ℕ) × IsRow tree.now line.now.number line.now.text.now row
         × (out.new.items ≡ out.old.items ++ row)) }
     ensures error { IfOk result (λ some. IsTrue some ↔ IsErrorLine tree.now line.now.text.now) }

@@ -1,5 +1,5 @@
 // Edits of a value.
-ghost use Rattle.std.specs.Prelude.{◌≡◌, ◌<◌, ◌≤◌, ◌++◌, length, false, IfOk, IfErr, IsErr, IsTrue, OnErr};
+ghost use Rattle.std.specs.Prelude.{◌≡◌, ◌<◌, ◌≤◌, ◌++◌, length, IfOk, IfErr, IsErr, IsTrue, OnErr, IsFalse};
 ghost use Rattle.sonic_owned.specs.Changes.{change_of};
 ghost use Rattle.sonic_owned.specs.Edits.{IsEdit, IsRefused};
 ghost use Rattle.sonic_owned.specs.Internal.Changed.{IsChanged};
@@ -55,9 +55,9 @@ impl OwnedLazyValue {
     pub fn edit(&mut self, alloc: Global, path: &[PointerNode<'_>], change: Change) -> Result<bool>
         ensures made { IfOk result (λ made. IsTrue made
             → IsEdit (edit_at (path_of path.now) (change_of change)) (form self.old) (form self.new)) }
-        ensures refused { IfOk result (λ made. made ≡ false
+        ensures refused { IfOk result (λ made. IsFalse made
             → IsRefused (edit_at (path_of path.now) (change_of change)) (form self.old)) }
-        ensures same { IfOk result (λ made. made ≡ false
+        ensures same { IfOk result (λ made. IsFalse made
             → IsKeptAlong (path_of path.now) (form self.old) (form self.new)) }
         ensures err { IfErr result (IsUnreached (path_of path.now)) }
         ensures limit { 255 < length path.now → IsErr result × (self.new ≡ self.old) }

@@ -26,7 +26,7 @@ use Rattle.sonic_parser.specs.Descents.{Descending, IsMoved, IsDescentStep, IsHe
 use Rattle.sonic_parser.specs.OpenContainers.{IsTop}
 use Rattle.sonic_parser.specs.Parsers.{IsFilledContainer}
 use Rattle.sonic_patch.specs.Internal.Tags.{Tag, Frame, leaf_tag, begin_tag, end_tag, frame, tags, item_tags, tags_after}
-use Rattle.sonic_patch.specs.Internal.Walks.{Follows, nothing_follows, bracket_follows, items_follow, kinds_of, RemainsFromItem, root_expected, item_expected, RemainsFromValue, HasEnded, IsKeyLabel, IsWord, IsBare}
+use Rattle.sonic_patch.specs.Internal.Walks.{Follows, nothing_follows, bracket_follows, items_follow, kinds_of, RemainsFromItem, root_expected, item_expected, RemainsFromValue, RemainsAfterItem, IsKeyLabel, IsWord, IsBare}
 use Rattle.sonic_patch.proofs.TagLemmas.{bare_tag}
 
 -- a string is one by itself too
@@ -143,7 +143,7 @@ pub record HasPassed (w now : Descending) (l : Option (List ℕ)) (rest : List T
   pub are : rest ≡ leaf_tag l tree ∷ others
   pub means : Means w.text w.place now.place tree
   pub is_bare : IsBare tree
-  pub remain : HasEnded now others
+  pub remain : RemainsAfterItem now others
 
 pub value_passed : {w now : Descending} {l : Option (List ℕ)} {rest : List Tag} → w.lossy ≡ strict → RemainsFromValue w l rest → IsMoved w now → IsDescentStep w now Passed
     → ¬ IsFilledContainer w.text w.place → HasPassed w now l rest
@@ -226,14 +226,14 @@ finished_at : {rest : List Tag} (frames : List Frame) → length (kinds_of frame
 finished_at [] z e = e
 finished_at (frame kind xs ∷ frames) z e = absurd (omega (arith, some_open (kinds_of frames) kind))
 
-pub finished : {w : Descending} {rest : List Tag} → length w.opened ≡ 0 → HasEnded w rest → rest ≡ []
+pub finished : {w : Descending} {rest : List Tag} → length w.opened ≡ 0 → RemainsAfterItem w rest → rest ≡ []
 finished {w} {rest} z h = finished_at h.frames (omega (arith, ap length h.opened, z)) h.are
 
 -- what is left once a container has ended
 pub record HasLeft (now : Descending) (kind : Kind) (rest : List Tag) : Type 0 where
   pub others : List Tag
   pub are : rest ≡ end_tag kind ∷ others
-  pub remain : HasEnded now others
+  pub remain : RemainsAfterItem now others
 
 left_at : {t : List ℕ} {now : Descending} {kind : Kind} {rest : List Tag} (w : Descending) (e : ℕ) (frames : List Frame) → 0 < length w.opened → IsTop w.opened kind → now.text ≡ t
     → now.opened ≡ take (length w.opened - 1) w.opened → byte t (after_space t e) ≡ closing kind → now.place ≡ after_space t e + 1
@@ -246,7 +246,7 @@ left_at {t} {now} {kind} w e (frame k xs ∷ frames) some top same opened c q o 
     record { others = tags_after frames; are = r ∙ rw named refl; remain = record { frames = frames; opened = kinds; follows = follows; are = refl } }
 left_at {kind = kind} w e (frame k xs ∷ frames) some top same opened c q o r (items_follow d g is f) = absurd (closing_no_comma kind (sym c ∙ d))
 
-pub container_left : {w now : Descending} {kind : Kind} {rest : List Tag} → 0 < length w.opened → IsTop w.opened kind → HasEnded w rest → IsMoved w now
+pub container_left : {w now : Descending} {kind : Kind} {rest : List Tag} → 0 < length w.opened → IsTop w.opened kind → RemainsAfterItem w rest → IsMoved w now
     → IsNextOrClosed kind w now false → HasLeft now kind rest
 container_left {w} some top h e step = left_at w w.place h.frames some top (ap (λ o. o.text) e) step.0 step.1.0 step.1.1 h.opened h.are h.follows
 
@@ -260,7 +260,7 @@ next_at {now = now} e (frame k xs ∷ frames) same o some c q r (items_follow {j
     let follows : Follows now.text j frames = rw same f in
     item_expected o there follows r
 
-pub item_next : {w now : Descending} {rest : List Tag} (kind : Kind) → 0 < length w.opened → HasEnded w rest → IsMoved w now → IsNextOrClosed kind w now true → RemainsFromItem now rest
+pub item_next : {w now : Descending} {rest : List Tag} (kind : Kind) → 0 < length w.opened → RemainsAfterItem w rest → IsMoved w now → IsNextOrClosed kind w now true → RemainsFromItem now rest
 item_next {w} kind some h e step =
     next_at w.place h.frames (ap (λ o. o.text) e) (step.0 ∙ h.opened) (omega (arith, some, ap length h.opened)) step.1.0 step.1.1 h.are h.follows
 

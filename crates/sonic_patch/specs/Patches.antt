@@ -1,5 +1,5 @@
 -- What operations make of a form: the edits that they are in its tree.
-use Rattle.std.specs.Prelude.{◌≡◌, ◌≤◌, ℕ, false, true, List, [], ◌∷◌, length, Option, Some, ⊤}
+use Rattle.std.specs.Prelude.{◌≡◌, ◌≤◌, ℕ, List, [], ◌∷◌, length, Option, Some, ⊤, IsTrue, IsFalse}
 use Rattle.std.specs.List.{All}
 use Rattle.std.specs.Str.{IsUtf8}
 use Rattle.sonic_owned.specs.Edits.{IsEdit}
@@ -45,14 +45,14 @@ pub record AreSame (f g : Form) : Type 0 where
   pub right : Tree
   pub means_left : FormMeans f left
   pub means_right : FormMeans g right
-  pub same : same left right ≡ true
+  pub same : IsTrue (same left right)
 
 -- the operation makes h of the form f: what is moved or copied is put there by its text, unopened, and a test leaves the form as it is
 pub data OperationMakes (f h : Form) : Operation Form → Type 0 where
   adds : {ts : List Token} {w : Form} → IsAddition ts w f h → OperationMakes f h (add ts w)
   removes : {ts : List Token} → IsRemoval ts f h → OperationMakes f h (operations.remove ts)
   replaces : {ts : List Token} {w : Form} → IsReplacement ts w f h → OperationMakes f h (replace ts w)
-  moves : {from ts : List Token} {g m : Form} → is_before from ts ≡ false → PointsTo from f g → IsRemoval from f m → IsAddition ts (raw (text g)) m h
+  moves : {from ts : List Token} {g m : Form} → IsFalse (is_before from ts) → PointsTo from f g → IsRemoval from f m → IsAddition ts (raw (text g)) m h
       → OperationMakes f h (move from ts)
   copies : {from ts : List Token} {g : Form} → PointsTo from f g → IsAddition ts (raw (text g)) f h → OperationMakes f h (copy from ts)
   tests : {ts : List Token} {w g : Form} → PointsTo ts f g → AreSame g w → h ≡ f → OperationMakes f h (test ts w)

@@ -1,5 +1,5 @@
 // Whether two values are the same.
-ghost use Rattle.std.specs.Prelude.{◌≡◌, ◌↔◌, true, length, IfOk, IsTrue};
+ghost use Rattle.std.specs.Prelude.{◌≡◌, ◌↔◌, length, IfOk, IsTrue};
 ghost use Rattle.sonic_text.specs.Strings.{strict};
 ghost use Rattle.sonic_text.specs.Trees.{Tree, Means};
 ghost use Rattle.sonic_text.specs.Values.{IsValue};
@@ -28,7 +28,7 @@ pub fn same(alloc: Global, left: &str, right: &str) -> Result<bool, AllocError>
     requires left { IsValue strict left.now 0 (length left.now) }
     requires right { IsValue strict right.now 0 (length right.now) }
     ensures { IfOk result (λ is_same. (x y : Tree) → Means left.now 0 (length left.now) x
-        → Means right.now 0 (length right.now) y → IsTrue is_same ↔ (same_tree x y ≡ true)) }
+        → Means right.now 0 (length right.now) y → IsTrue is_same ↔ IsTrue (same_tree x y)) }
 {
     match decide(alloc, left, right) {
         Ok(is_same) => Ok(is_same),
@@ -41,7 +41,7 @@ fn decide(alloc: Global, left: &str, right: &str) -> Result<bool, Fault>
     requires left { (x : Tree) × Means left.now 0 (length left.now) x }
     requires right { (x : Tree) × Means right.now 0 (length right.now) x }
     ensures { IfOk result (λ is_same. (x y : Tree) → Means left.now 0 (length left.now) x
-        → Means right.now 0 (length right.now) y → IsTrue is_same ↔ (same_tree x y ≡ true)) }
+        → Means right.now 0 (length right.now) y → IsTrue is_same ↔ IsTrue (same_tree x y)) }
 {
     if in_order(alloc, left, right)? {
         return Ok(true);

@@ -1,5 +1,5 @@
 // Pointers (RFC 6901).
-ghost use Rattle.std.specs.Prelude.{◌≡◌, ◌<◌, ◌≤◌, ◌^◌, ℕ, List, IfOk, IfSome, None, length, string_bytes, true, false};
+ghost use Rattle.std.specs.Prelude.{◌≡◌, ◌<◌, ◌≤◌, ◌^◌, ℕ, List, IfOk, IfSome, None, length, string_bytes, IsTrue, IsFalse};
 ghost use Rattle.std.proofs.Props.{props};
 ghost use Rattle.std.specs.List.{All};
 ghost use Rattle.std.specs.Str.{IsUtf8};
@@ -49,8 +49,8 @@ pub(crate) fn begins(rest: &str) -> Beginning<'_>
 
 // Whether a piece is a token.
 pub(crate) fn is_token(piece: &str) -> bool
-    ensures yes { result ≡ true → IsTokenText piece.now }
-    ensures no { result ≡ false → ¬ IsTokenText piece.now }
+    ensures yes { IsTrue result → IsTokenText piece.now }
+    ensures no { IsFalse result → ¬ IsTokenText piece.now }
 {
     let mut rest = piece;
     'escapes: loop {

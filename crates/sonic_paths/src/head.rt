@@ -1,5 +1,5 @@
 // Heads of lines, whatever the lines say: where they end, and where the document begins.
-ghost use Rattle.std.specs.Prelude.{◌≡◌, ◌≤◌, [], ℕ, List, false, length, IsTrue, IfOk, OnErr};
+ghost use Rattle.std.specs.Prelude.{◌≡◌, ◌≤◌, [], ℕ, List, length, IsTrue, IfOk, OnErr, IsFalse};
 ghost use Rattle.sonic_paths.specs.Heads.{line_end, IsBlank, IsHead, IsBad, EndsHead, StopsInHead};
 
 use sonic_text::skip_space;
@@ -27,8 +27,8 @@ pub trait LineReader {
     fn read_line(&mut self, alloc: Global, line: &[u8]) -> Result<bool, AllocError>
         ensures good { IfOk result (λ good.
             IsTrue good → says (said self.old) line.now (said self.new)) }
-        ensures bad { IfOk result (λ good. good ≡ false → IsBad says (said self.old) line.now) }
-        ensures kept { IfOk result (λ good. good ≡ false → said self.new ≡ said self.old) }
+        ensures bad { IfOk result (λ good. IsFalse good → IsBad says (said self.old) line.now) }
+        ensures kept { IfOk result (λ good. IsFalse good → said self.new ≡ said self.old) }
         ensures short { OnErr result (said self.new ≡ said self.old) };
 }
 
@@ -98,7 +98,7 @@ fn is_blank(input: &[u8], start: usize, end: usize) -> bool
     requires within { start ≤ length input.now }
     requires line { end ≡ line_end input.now start }
     ensures blank { IsTrue result → IsBlank input.now start }
-    ensures text { result ≡ false → ¬ IsBlank input.now start }
+    ensures text { IsFalse result → ¬ IsBlank input.now start }
 {
     end <= skip_space(input, start)
 }

@@ -39,7 +39,7 @@ use Rattle.sonic_reports.specs.Internal.Requests.{HasWidth, IsAsked, IsAnswered}
 use Rattle.sonic_io.specs.Outside.{Gave, Took, TookPrefix, Rose, input_limit}
 use Rattle.sonic_reports.specs.Reports.{Writes, IsReport}
 use Rattle.sonic_reports.specs.Reports.IsReport.{usage, large, written}
-use Rattle.sonic_reports.specs.Sessions.{Session, IsReported, IsOfInput, IsReply, Reports, ReportsOnly, AnswersAll, IsSent, IsUnread, ReadsTooMuch, IsRun}
+use Rattle.sonic_reports.specs.Sessions.{Session, IsReported, IsOfInput, IsReply, Reports, ReportsOnly, AnswersAll, IsSent, ReadsNoMore, ReadsTooMuch, IsRun}
 use Rattle.sonic_reports.proofs.ReportLemmas.{asks_one, has_one_report, answered_done}
 use Rattle.sonic_reports.proofs.CommandLemmas.{reads_or_gen, width_within}
 
@@ -267,7 +267,7 @@ same_source left faults e = (ap left e, ap faults e)
 
 -- a run whose report was written
 pub delivered : {run : Session} {text : List ℕ} {ending : Status} → IsPrepared run text ending → Took run.before.written run.after.written text
-    → IsSent run → run.after.read_faults ≡ run.before.read_faults → run.after.write_faults ≡ run.before.write_faults → (¬ IsReading run.words → IsUnread run)
+    → IsSent run → run.after.read_faults ≡ run.before.read_faults → run.after.write_faults ≡ run.before.write_faults → (¬ IsReading run.words → ReadsNoMore run)
     → IsRun run ending
 delivered {run} {text} {ending} p taken sent reads writes unread =
     let reports : Reports run ending = record { text = text; reply = p.reply; taken = taken } in
@@ -294,7 +294,7 @@ delivered {run} {text} {ending} p taken sent reads writes unread =
 
 -- a run that a failed write ended
 pub broken : {run : Session} {text : List ℕ} {status : Status} → IsPrepared run text status → TookPrefix run.before.written run.after.written text
-    → run.after.read_faults ≡ run.before.read_faults → Rose run.before.write_faults run.after.write_faults → (¬ IsReading run.words → IsUnread run)
+    → run.after.read_faults ≡ run.before.read_faults → Rose run.before.write_faults run.after.write_faults → (¬ IsReading run.words → ReadsNoMore run)
     → IsRun run WriteFault
 broken {run} {text} {status} p taken reads rose unread = record {
   reports = λ r. absurd (r.no_write_fault refl);
@@ -343,7 +343,7 @@ read_failed silent rose writes (asked, asks, reads) = record {
 
 -- a run that ran out of memory
 pub out_of_memory : {run : Session} → run.after.written ≡ run.before.written → run.after.read_faults ≡ run.before.read_faults
-    → run.after.write_faults ≡ run.before.write_faults → ¬ ¬ IsListed run.words → (¬ IsReading run.words → IsUnread run) → IsRun run NoMemory
+    → run.after.write_faults ≡ run.before.write_faults → ¬ ¬ IsListed run.words → (¬ IsReading run.words → ReadsNoMore run) → IsRun run NoMemory
 out_of_memory silent reads writes listed unread = record {
   reports = λ r. absurd (r.memory refl);
   the_only_one = λ r. absurd (r.memory refl);

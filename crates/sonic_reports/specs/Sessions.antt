@@ -78,8 +78,8 @@ abbrev pub IsSent : Session → Type 0
 IsSent run = run.after.sent ≡ run.after.written
 
 -- what the source has left, and how often it failed, is as before
-abbrev pub IsUnread : Session → Type 0
-IsUnread run = (run.after.left ≡ run.before.left) × (run.after.read_faults ≡ run.before.read_faults)
+abbrev pub ReadsNoMore : Session → Type 0
+ReadsNoMore run = (run.after.left ≡ run.before.left) × (run.after.read_faults ≡ run.before.read_faults)
 
 -- nothing was written
 abbrev pub IsSilent : Session → Type 0
@@ -119,4 +119,4 @@ pub record IsRun (run : Session) (ending : Status) : Type 0 where
   pub fault_of_reading : ending ≡ ReadFault → IsReading run.words
   pub large_of_reading : ending ≡ TooLarge → IsReading run.words
   -- other words leave the source unread
-  pub unread : ¬ IsReading run.words → IsUnread run
+  pub unread : ¬ IsReading run.words → ReadsNoMore run

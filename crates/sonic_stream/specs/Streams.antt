@@ -1,5 +1,5 @@
 -- A stream of records that comes in pieces: values (RFC 8259), each of which ends by itself or by white space.
-use Rattle.std.specs.Prelude.{◌≡◌, ◌≢◌, ℕ, ◌+◌, ◌<◌, ◌≤◌, ◌⊎◌, Bool, true, false, List, ◌++◌, length, take, slice_range}
+use Rattle.std.specs.Prelude.{◌≡◌, ◌≢◌, ℕ, ◌+◌, ◌<◌, ◌≤◌, ◌⊎◌, Bool, true, false, List, ◌++◌, length, take, slice_range, IsTrue, IsFalse}
 use Rattle.sonic_error.specs.declared.code.ErrorCode.TheVariants.{TrailingCharacters}
 use Rattle.sonic_text.specs.declared.stop.Stop.{Stop}
 use Rattle.sonic_text.specs.Faults.{IsFault}
@@ -30,8 +30,8 @@ ShowsItsEnd b = (b ≡ 34) ⊎ (b ≡ 91) ⊎ (b ≡ 123)
 -- the value from i to j ends there whatever comes: it shows its end, white space follows, or the stream has ended
 pub data IsSettled (t : List ℕ) (is_ended : Bool) (i j : ℕ) : Type 0 where
   by_itself : ShowsItsEnd (byte t i) → IsSettled t is_ended i j
-  by_space : is_space (byte t j) ≡ true → IsSettled t is_ended i j
-  by_end : is_ended ≡ true → j ≡ length t → IsSettled t is_ended i j
+  by_space : IsTrue (is_space (byte t j)) → IsSettled t is_ended i j
+  by_end : IsTrue is_ended → j ≡ length t → IsSettled t is_ended i j
 
 -- after white space from p on is a record, which ends at j
 pub record IsRecord (t : List ℕ) (is_ended : Bool) (p j : ℕ) : Type 0 where
@@ -74,10 +74,10 @@ MayBecomeOne s = MayGoOnFrom strict s.held s.next ⊎ IsValue strict s.held (sta
 -- what `next` answers, and what is held afterwards
 pub data IsNextRecord (s now : Stream) : Next → Type 0 where
   whole : {end : ℕ} → IsRecord s.held s.is_ended s.next end → now ≡ record s { next = end } → IsNextRecord s now (Record (start_of s) end)
-  needs_more : s.is_ended ≡ false → HasNoRecord s → MayBecomeOne s → now ≡ s → IsNextRecord s now NeedsMore
+  needs_more : IsFalse s.is_ended → HasNoRecord s → MayBecomeOne s → now ≡ s → IsNextRecord s now NeedsMore
   wrong : {stop : Stop} → stop.place < length s.held → IsWrong s stop → IsNeverOne s stop → IsPastLine s stop.place now → IsNextRecord s now (Wrong (s.before + stop.place) stop.code)
-  cut : s.is_ended ≡ true → HasNoRecord s → MayGoOnFrom strict s.held s.next → start_of s < length s.held → now ≡ record s { next = length s.held } → IsNextRecord s now Cut
-  end : s.is_ended ≡ true → start_of s ≡ length s.held → now ≡ s → IsNextRecord s now End
+  cut : IsTrue s.is_ended → HasNoRecord s → MayGoOnFrom strict s.held s.next → start_of s < length s.held → now ≡ record s { next = length s.held } → IsNextRecord s now Cut
+  end : IsTrue s.is_ended → start_of s ≡ length s.held → now ≡ s → IsNextRecord s now End
 
 -- a piece of the stream after the bytes that are left of what was held
 abbrev pub with_piece : Stream → List ℕ → Stream
@@ -85,5 +85,5 @@ with_piece s piece = record { held = slice_range s.held s.next (length s.held) +
 
 -- a piece came: where the rest of a wrong record's line is still to come, it is dropped
 pub data IsAdded (s : Stream) (piece : List ℕ) (now : Stream) : Type 0 where
-  kept : s.is_skipping ≡ false → now ≡ with_piece s piece → IsAdded s piece now
-  dropped : s.is_skipping ≡ true → IsPastLine (with_piece s piece) 0 now → IsAdded s piece now
+  kept : IsFalse s.is_skipping → now ≡ with_piece s piece → IsAdded s piece now
+  dropped : IsTrue s.is_skipping → IsPastLine (with_piece s piece) 0 now → IsAdded s piece now

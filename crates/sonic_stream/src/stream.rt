@@ -1,5 +1,5 @@
 // A reader of a stream of records, and what is next in one.
-ghost use Rattle.std.specs.Prelude.{◌≡◌, ◌≢◌, ℕ, ◌≤◌, ◌<◌, [], ◌++◌, false, true, length, IfSome, IfNone, IfOk, IfErr, OnOk, OnErr};
+ghost use Rattle.std.specs.Prelude.{◌≡◌, ◌≢◌, ℕ, ◌≤◌, ◌<◌, [], ◌++◌, false, true, length, IfSome, IfNone, IfOk, IfErr, OnOk, OnErr, IsTrue, IsFalse};
 ghost use Rattle.sonic_text.specs.Faults.{IsFault};
 ghost use Rattle.sonic_text.specs.Strings.{strict};
 ghost use Rattle.sonic_text.specs.Values.{IsValue};
@@ -94,8 +94,8 @@ fn joined(alloc: Global, first: &[u8], second: &[u8]) -> Result<Vec<u8>, AllocEr
 // Whether the value from one place to another ends there whatever comes.
 fn is_settled(text: &[u8], is_ended: bool, start: usize, end: usize) -> bool
     requires value { IsValue strict text.now start end }
-    ensures yes { result ≡ true → IsSettled text.now is_ended start end }
-    ensures no { result ≡ false → ¬ IsSettled text.now is_ended start end }
+    ensures yes { IsTrue result → IsSettled text.now is_ended start end }
+    ensures no { IsFalse result → ¬ IsSettled text.now is_ended start end }
 {
     match text[start] {
         b'"' | b'[' | b'{' => true,
@@ -203,8 +203,8 @@ impl RecordStream {
 
     // Whether nothing but white space is left.
     fn is_over(&self) -> bool
-        ensures yes { result ≡ true → start_of self.now ≡ length self.now.held }
-        ensures no { result ≡ false → start_of self.now < length self.now.held }
+        ensures yes { IsTrue result → start_of self.now ≡ length self.now.held }
+        ensures no { IsFalse result → start_of self.now < length self.now.held }
     {
         self.parser().skip_space_peek().is_none()
     }

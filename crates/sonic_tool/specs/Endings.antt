@@ -3,7 +3,7 @@ use Rattle.std.specs.Prelude.{◌≡◌, ℕ, List, None}
 use Rattle.sonic_reports.specs.declared.status.Status.{Status}
 use Rattle.sonic_reports.specs.declared.status.Status.TheVariants.{Done, DocumentError, BadUsage, BadLines, TooLarge, ReadFault, WriteFault, NoMemory}
 use Rattle.sonic_reports.specs.Sessions.{Outside, outside_of, session_of, IsRun}
-use Rattle.sonic_tool.specs.Words.{Arguments, IsNoText, IsWords}
+use Rattle.sonic_tool.specs.Words.{Arguments, HasBrokenWord, IsWords}
 
 -- the number that the process ends with
 abbrev pub number_of_status : Status → ℕ
@@ -22,7 +22,7 @@ pub data IsProgram (arguments : Arguments) (before after : Outside) (number : �
   ran : {words : List (List ℕ)} {status : Status} → IsWords arguments words → IsRun (session_of words before after) status → number ≡ number_of_status status
       → IsProgram arguments before after number
   -- there was no memory for the words; that an argument is no text takes none
-  no_words : ¬ IsNoText arguments → number ≡ 7 → after ≡ before → IsProgram arguments before after number
+  no_words : ¬ HasBrokenWord arguments → number ≡ 7 → after ≡ before → IsProgram arguments before after number
 
 -- the outside of a reader and a writer of the system, of whose bytes nothing is known, where so many calls of each failed
 abbrev pub outside_of_system : ℕ → ℕ → Outside

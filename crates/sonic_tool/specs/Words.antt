@@ -13,10 +13,10 @@ abbrev pub Arguments : Type 0
 Arguments = Result (IntoIter (String Global) Global) Error
 
 -- some argument is no text
-abbrev pub IsNoText : Arguments → Type 0
-IsNoText arguments = IsErrAnd arguments (λ error. error_kind error ≡ InvalidData)
+abbrev pub HasBrokenWord : Arguments → Type 0
+HasBrokenWord arguments = IsErrAnd arguments (λ error. error_kind error ≡ InvalidData)
 
 -- by the arguments that the system gives: all but the first, which is the program's name; where one is no text, one empty word, which is no command
 pub data IsWords : Arguments → List (List ℕ) → Type 0 where
   texts : {arguments : IntoIter (String Global) Global} {words : List (List ℕ)} → words ≡ map string_bytes (drop 1 (into_iter_items arguments)) → IsWords (Ok arguments) words
-  no_text : {arguments : Arguments} {words : List (List ℕ)} → IsNoText arguments → words ≡ [] ∷ [] → IsWords arguments words
+  no_text : {arguments : Arguments} {words : List (List ℕ)} → HasBrokenWord arguments → words ≡ [] ∷ [] → IsWords arguments words

@@ -1,7 +1,7 @@
 // The words of the command line.
 ghost use Rattle.std.specs.Prelude.{◌≡◌, ◌↔◌, drop, map, string_bytes, IfOk, IsErrOf};
 ghost use Rattle.std.specs.Vec.Iter.{into_iter_items};
-ghost use Rattle.sonic_tool.specs.Words.{IsWords, IsNoText};
+ghost use Rattle.sonic_tool.specs.Words.{IsWords, HasBrokenWord};
 
 use std::alloc::{AllocError, Global};
 use std::env::Args;
@@ -33,7 +33,7 @@ impl From<AllocError> for Wordless {
 // out.
 pub(crate) fn words_of(alloc: Global, arguments: io::Result<Args>) -> Result<Vec<String>, Wordless>
     ensures words { IfOk result (λ words. IsWords arguments (map string_bytes words.items)) }
-    ensures no_text { IsErrOf result Wordless.NoText ↔ IsNoText arguments }
+    ensures no_text { IsErrOf result Wordless.NoText ↔ HasBrokenWord arguments }
 {
     match arguments {
         Ok(arguments) => Ok(after_name(alloc, arguments)?),

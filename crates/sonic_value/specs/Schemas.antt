@@ -1,5 +1,5 @@
 -- The answer where a schema is filled from a text.
-use Rattle.std.specs.Prelude.{◌≡◌, ◌≢◌, ◌≤◌, ℕ, ◌+◌, Bool, true, List, Some, take, ⊤}
+use Rattle.std.specs.Prelude.{◌≡◌, ◌≢◌, ◌≤◌, ℕ, ◌+◌, Bool, List, Some, take, ⊤, IsTrue}
 use Rattle.std.specs.Str.{IsUtf8}
 use Rattle.sonic_error.specs.Errors.{IsErrorAt, IsPlainError}
 use Rattle.sonic_error.specs.Texts.{valid_up_to}
@@ -77,7 +77,7 @@ pub data IsUnfilled (t : List ℕ) (is_bytes : Bool) (s : Tree) (i : ℕ) (stop 
   no_object : ¬ IsObject s → stop ≡ record { place = 0; code = Message SchemaNotObject } → IsUnfilled t is_bytes s i stop
   too_deep : {p : ℕ} → IsObject s → IsTooDeepIn t 255 s i p → stop ≡ record { place = p; code = RecursionLimitExceeded } → IsUnfilled t is_bytes s i stop
   fault : IsObject s → IsShallowIn t 255 s i → IsFault strict t i stop → IsUnfilled t is_bytes s i stop
-  broken_text : {x : Tree} {j : ℕ} → IsObject s → IsFilledBy t 255 s x i j → is_bytes ≡ true → ¬ IsUtf8 (take j t)
+  broken_text : {x : Tree} {j : ℕ} → IsObject s → IsFilledBy t 255 s x i j → IsTrue is_bytes → ¬ IsUtf8 (take j t)
       → stop ≡ record { place = valid_up_to (take j t); code = InvalidUTF8 } → IsUnfilled t is_bytes s i stop
 
 -- there is no memory, or the error says why

@@ -1,6 +1,6 @@
 // What names an item of a value.
 ghost use Rattle.std.specs.Borrow.{sem, LendsSo, LendsSoOk};
-ghost use Rattle.std.specs.Prelude.{◌≡◌, OnSome, ◌++◌, ◌∷◌, [], string_bytes, option_map, false, true, IfSome, IfNone, IfOk, IfErr, OnOk, OnErr, Ok, Some};
+ghost use Rattle.std.specs.Prelude.{◌≡◌, OnSome, ◌++◌, ◌∷◌, [], string_bytes, option_map, IfSome, IfNone, IfOk, IfErr, OnOk, OnErr, Ok, Some, IsTrue, IsFalse};
 ghost use Rattle.sonic_error.specs.Errors.{IsPlainError};
 ghost use Rattle.sonic_owned.specs.TreePuts.{put};
 ghost use Rattle.sonic_pointer.specs.Nodes.{node_of, is_key};
@@ -52,14 +52,14 @@ pub trait Index: sealed::Sealed {
     /// `"a".as_key()` is `Some("a")`.
     fn as_key(&self) -> Option<&str>
         ensures some { IfSome result (λ text. node self.now ≡ key text.now) }
-        ensures none { IfNone result (is_key (node self.now) ≡ false) };
+        ensures none { IfNone result (IsFalse (is_key (node self.now))) };
 
     /// The index, and `None` of a key.
     ///
     /// `1.as_index()` is `Some(1)`.
     fn as_index(&self) -> Option<usize>
         ensures some { IfSome result (λ number. node self.now ≡ index number) }
-        ensures none { IfNone result (is_key (node self.now) ≡ true) };
+        ensures none { IfNone result (IsTrue (is_key (node self.now))) };
 
     /// The item, to be changed. For a key that the object lacks, a member with `null` is appended
     /// first, and `null` is made an empty object before that. Once the loan ends the value has what

@@ -1,5 +1,5 @@
 // Laws of values.
-ghost use Rattle.std.specs.Prelude.{◌≡◌, ℕ, Bool, false, List, length};
+ghost use Rattle.std.specs.Prelude.{◌≡◌, ℕ, Bool, List, length, IsFalse};
 ghost use Rattle.std.specs.Str.{IsUtf8};
 ghost use Rattle.sonic_find.specs.Documents.{IsValidDocument};
 ghost use Rattle.sonic_text.specs.Trees.{Tree, Means};
@@ -53,13 +53,13 @@ pub fn level_is_that_of_the_tree()
 /// The law of readings: a text is read as one tree, or it isn't for exactly one reason, and never
 /// both.
 pub fn text_is_read_or_has_one_reason()
-    ensures { (t : List ℕ) (is_bytes : Bool) → (is_bytes ≡ false → IsUtf8 t)
+    ensures { (t : List ℕ) (is_bytes : Bool) → (IsFalse is_bytes → IsUtf8 t)
         → HasOneTreeOrReason (IsRead t) (IsUnread t is_bytes) }
 {}
 
 /// The law of schemas: a schema is filled from the value that is expected at a place to one tree, or
 /// it isn't for exactly one reason, and never both.
 pub fn schema_is_filled_or_has_one_reason()
-    ensures { (t : List ℕ) (is_bytes : Bool) (schema : Tree) (i : ℕ) → (is_bytes ≡ false → IsUtf8 t)
+    ensures { (t : List ℕ) (is_bytes : Bool) (schema : Tree) (i : ℕ) → (IsFalse is_bytes → IsUtf8 t)
         → HasOneTreeOrReason (λ made. IsFilledAt t schema made i) (IsUnfilled t is_bytes schema i) }
 {}

@@ -1,5 +1,5 @@
 // Plain values, read whole in one pass.
-ghost use Rattle.std.specs.Prelude.{◌≡◌, ◌+◌, ◌≤◌, ℕ, Bool, true, false, length, IfOk, IfErr};
+ghost use Rattle.std.specs.Prelude.{◌≡◌, ◌+◌, ◌≤◌, ℕ, Bool, true, false, length, IfOk, IfErr, IsTrue};
 ghost use Rattle.std.specs.Str.{IsUtf8};
 ghost use Rattle.sonic_error.specs.Errors.{IsPlainError};
 ghost use Rattle.sonic_find.specs.Documents.{IsValidDocument};
@@ -87,7 +87,7 @@ fn read_bytes(alloc: Global, text: &[u8]) -> std::result::Result<Value, Fault>
 
 // The value that a text is, which is UTF-8 where this says so.
 fn read_document(alloc: Global, text: &[u8], utf8: bool) -> std::result::Result<Value, Fault>
-    requires { utf8 ≡ true → IsUtf8 text.now }
+    requires { IsTrue utf8 → IsUtf8 text.now }
     ensures ok { IfOk result (λ made. IsDocumentRead
         (record { text = text.now; is_utf8 = utf8 }) (tree made)) }
     ensures err { IfErr result (IsStopFor (λ s. (is_bytes : Bool) → IsUnread text.now is_bytes s)) }

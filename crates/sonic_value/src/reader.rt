@@ -1,5 +1,5 @@
 // A cursor that makes plain values of what it passes.
-ghost use Rattle.std.specs.Prelude.{◌≡◌, ◌≢◌, ◌+◌, ◌-◌, ◌≤◌, ◌<◌, ℕ, List, None, true, false, length, slice_range, string_bytes, IfOk, IfErr, IfSome, OnOk};
+ghost use Rattle.std.specs.Prelude.{◌≡◌, ◌≢◌, ◌+◌, ◌-◌, ◌≤◌, ◌<◌, ℕ, List, None, length, slice_range, string_bytes, IfOk, IfErr, IfSome, OnOk, IsTrue, IsFalse};
 ghost use Rattle.std.specs.Cow.{cow_str_bytes};
 ghost use Rattle.std.specs.Str.{IsUtf8};
 ghost use Rattle.sonic_parser.specs.Containers.{IsEnd, IsSeparated, IsSeparatorFault};
@@ -47,7 +47,7 @@ impl<'de> Model for Reader<'de> {
 impl<'de> Reader<'de> {
     // At a place of a text, which is UTF-8 where this says so.
     pub(crate) fn at(alloc: Global, text: &'de [u8], place: usize, utf8: bool) -> Reader<'de>
-        requires utf8 { utf8 ≡ true → IsUtf8 text.now }
+        requires utf8 { IsTrue utf8 → IsUtf8 text.now }
         requires inside { place ≤ length text.now }
         ensures { result ≡ record { source = record { text = text.now; is_utf8 = utf8 }; place = place } }
     {
@@ -93,10 +93,10 @@ impl<'de> Reader<'de> {
     // at which the cursor then is, or after the closing bracket.
     pub(crate) fn enter(&mut self, kind: Kind) -> bool
         requires { byte self.old.source.text self.old.place ≡ opening kind }
-        ensures item { result ≡ true
+        ensures item { IsTrue result
             → (self.new.place ≡ after_space self.old.source.text (self.old.place + 1))
             × (byte self.old.source.text self.new.place ≢ closing kind) }
-        ensures empty { result ≡ false
+        ensures empty { IsFalse result
             → IsEnd self.old.source.text kind (self.old.place + 1) self.new.place }
         ensures moved { self.new ≡ record self.old { place = self.new.place } }
     {
@@ -105,9 +105,9 @@ impl<'de> Reader<'de> {
 
     // Goes on after an item of a container of this kind: whether another one comes.
     pub(crate) fn next_item(&mut self, kind: Kind) -> Result<bool, Stop>
-        ensures item { IfOk result (λ more. more ≡ true
+        ensures item { IfOk result (λ more. IsTrue more
             → IsSeparated self.old.source.text self.old.place self.new.place) }
-        ensures end { IfOk result (λ more. more ≡ false
+        ensures end { IfOk result (λ more. IsFalse more
             → IsEnd self.old.source.text kind self.old.place self.new.place) }
         ensures moved { self.new ≡ record self.old { place = self.new.place } }
         ensures err { IfErr result (IsSeparatorFault self.old.source.text kind self.old.place) }

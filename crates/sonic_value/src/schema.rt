@@ -1,5 +1,5 @@
 // Schemas that are filled, and the calls that do it.
-ghost use Rattle.std.specs.Prelude.{◌≡◌, ◌≤◌, true, length, IfOk, IfErr, OnErr, OnOk};
+ghost use Rattle.std.specs.Prelude.{◌≡◌, ◌≤◌, true, length, IfOk, IfErr, OnErr, OnOk, IsTrue};
 ghost use Rattle.std.specs.Str.{IsUtf8};
 ghost use Rattle.sonic_parser.specs.Faults.{IsStopFor};
 ghost use Rattle.sonic_parser.specs.Parsers.{moved, value_start};
@@ -82,7 +82,7 @@ fn fill_document(
     utf8: bool,
     schema: Value,
 ) -> std::result::Result<Value, Fault>
-    requires utf8 { utf8 ≡ true → IsUtf8 text.now }
+    requires utf8 { IsTrue utf8 → IsUtf8 text.now }
     requires inside { place ≤ length text.now }
     ensures ok { IfOk result (λ made.
         IsFilledAt text.now (tree schema) (tree made) (after_space text.now place)) }

@@ -6,7 +6,7 @@ use Rattle.sonic_text.specs.Documents.{IsRootFault}
 use Rattle.sonic_text.specs.Places.{after_space}
 use Rattle.sonic_text.specs.declared.kind.Kind.{Kind}
 use Rattle.sonic_text.specs.declared.stop.Stop.{Stop}
-use Rattle.sonic_c.specs.Containers.{HasNoItem}
+use Rattle.sonic_c.specs.Containers.{LacksItem}
 use Rattle.sonic_c.specs.Internal.Begun.{IsTrailing}
 use Rattle.sonic_c.specs.Statuses.{status_ok, status_document_error, status_no_memory, status_end}
 use Rattle.sonic_c.specs.Told.{AreNumbersOf}
@@ -15,7 +15,7 @@ use Rattle.sonic_c.specs.declared.fault.Fault.{Fault}
 
 -- no value begins the text, for this reason, and in its container no item comes after n others
 abbrev pub IsItemStop : List ℕ → Kind → ℕ → Stop → Type 0
-IsItemStop t kind n s = IsRootFault t s × HasNoItem t kind n
+IsItemStop t kind n s = IsRootFault t s × LacksItem t kind n
 
 -- nothing but white space follows the container that ends at e, or what follows is told
 pub data TellsClosing (t : List ℕ) (e : ℕ) (before after : Fault) (status : ℕ) : Type 0 where

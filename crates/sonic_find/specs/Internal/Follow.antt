@@ -1,5 +1,5 @@
 -- What a walk knows that follows one path.
-use Rattle.std.specs.Prelude.{◌≡◌, ◌≢◌, ℕ, Bool, true, false, List, ◌∷◌}
+use Rattle.std.specs.Prelude.{◌≡◌, ◌≢◌, ℕ, Bool, List, ◌∷◌, IsTrue, IsFalse}
 use Rattle.sonic_error.specs.declared.code.ErrorCode.TheVariants.{GetUnknownKeyInObject}
 use Rattle.sonic_text.specs.declared.stop.Stop.{Stop}
 use Rattle.sonic_text.specs.Paths.{Node, Path}
@@ -24,8 +24,8 @@ LacksNode rule t i node q = (rest : Path) → EvaluatesBy rule t i (node ∷ res
 pub record IsTried (t : List ℕ) (node : Node) (n h v : ℕ) (is : Bool) : Type 0 where
   pub name : Node
   pub item : IsNamed t (kind_of node) n h v name
-  pub same : is ≡ true → name ≡ node
-  pub other : is ≡ false → name ≢ node
+  pub same : IsTrue is → name ≡ node
+  pub other : IsFalse is → name ≢ node
 
 -- what the rest of a path comes to at the place v, the whole path does at i
 abbrev pub IsRest : KeyRule → List ℕ → ℕ → Path → ℕ → Path → Type 0

@@ -1,5 +1,5 @@
 -- What the marks of the prefixes of a tree say, in values that have to be whole before a key leads on.
-use Rattle.std.specs.Prelude.{◌≡◌, ◌≢◌, ◌⊎◌, ℕ, ◌+◌, ◌<◌, ◌≤◌, true, false, List, [], ◌∷◌, ◌++◌, Some, None, length, slice_get}
+use Rattle.std.specs.Prelude.{◌≡◌, ◌≢◌, ◌⊎◌, ℕ, ◌+◌, ◌<◌, ◌≤◌, List, [], ◌∷◌, ◌++◌, Some, None, length, slice_get, IsTrue, IsFalse}
 use Rattle.sonic_text.specs.declared.kind.Kind.{Kind}
 use Rattle.sonic_text.specs.Places.{byte, after_space}
 use Rattle.sonic_text.specs.Strings.{strict}
@@ -70,8 +70,8 @@ pub data ChildSays (g : Marking) (i : ℕ) (prefix : Path) (node : Node) (Below 
 
 -- what the mark of a prefix says of a node, whose own prefix is this
 pub data NodeSays (g : Marking) (m : Mark) (prefix : Path) (node : Node) (Below : Mark → Type 0) : Type 0 where
-  says_no_items : m.has_items ≡ false → HasNoItems g.text m.value.start (kind_of node) → NodeSays g m prefix node Below
-  says_items : m.has_items ≡ true → HasItems g.text m.value.start (kind_of node) → ChildSays g m.value.start prefix node Below → NodeSays g m prefix node Below
+  says_no_items : IsFalse m.has_items → HasNoItems g.text m.value.start (kind_of node) → NodeSays g m prefix node Below
+  says_items : IsTrue m.has_items → HasItems g.text m.value.start (kind_of node) → ChildSays g m.value.start prefix node Below → NodeSays g m prefix node Below
 
 -- and of the rest of a path
 abbrev pub Says : Marking → Path → Mark → Path → Type 0
@@ -199,6 +199,6 @@ pub record IsWholeLevel (a : Container) : Type 0 where
 -- the mark of a child's prefix is of a value inside that of this mark, which is the only one so far
 pub record IsLive (g : Marking) (m : Mark) (prefix : Path) (c : Mark) : Type 0 where
   pub is : IsMarkOf g prefix c
-  pub items : m.has_items ≡ true
+  pub items : IsTrue m.has_items
   pub later : m.value.start < c.value.start
   pub first : c.again ≡ None

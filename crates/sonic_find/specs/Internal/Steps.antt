@@ -1,5 +1,5 @@
 -- What the steps of a walk through a text know.
-use Rattle.std.specs.Prelude.{◌≡◌, ℕ, Bool, false, List}
+use Rattle.std.specs.Prelude.{◌≡◌, ℕ, Bool, List, IsFalse}
 use Rattle.sonic_text.specs.declared.kind.Kind.{Kind}
 use Rattle.sonic_text.specs.Strings.{strict}
 use Rattle.sonic_text.specs.Values.{IsKey, IsValue}
@@ -17,12 +17,12 @@ HasWhole t i = (j : ℕ) × IsValue strict t i j
 
 -- where they don't look, a whole value begins at the place
 abbrev pub IsSkippable : Stepping → Type 0
-IsSkippable steps = steps.checks ≡ false → HasWhole steps.text steps.place
+IsSkippable steps = IsFalse steps.checks → HasWhole steps.text steps.place
 
 -- where they don't look, a key with its colon is at the place
 abbrev pub IsAtKey : Stepping → Type 0
-IsAtKey steps = steps.checks ≡ false → (v : ℕ) × (b : List ℕ) × IsKey strict steps.text steps.place v b
+IsAtKey steps = IsFalse steps.checks → (v : ℕ) × (b : List ℕ) × IsKey strict steps.text steps.place v b
 
 -- where they don't look, a comma or the closing bracket comes after what ended at the place
 abbrev pub IsAfterItem : Kind → Stepping → Type 0
-IsAfterItem kind steps = steps.checks ≡ false → GoesOn steps.text kind steps.place
+IsAfterItem kind steps = IsFalse steps.checks → GoesOn steps.text kind steps.place

@@ -1,5 +1,5 @@
 -- What the fields of a walk and of a level denote.
-use Rattle.std.specs.Prelude.{◌≡◌, ◌<◌, ◌≤◌, ℕ, Bool, true, List}
+use Rattle.std.specs.Prelude.{◌≡◌, ◌<◌, ◌≤◌, ℕ, Bool, List, IsTrue}
 use Rattle.sonic_text.specs.Paths.{index}
 use Rattle.sonic_pointer.specs.Paths.{HasNextNode}
 use Rattle.sonic_pointer.specs.Views.{View}
@@ -22,7 +22,7 @@ walking_of walk = record {
 
 -- it looks at what it skips, and each value that was found says whether it is a string with a backslash
 pub record IsWalk (walk : Inside) : Type 0 where
-  pub checks : walk.steps.checks ≡ true
+  pub checks : IsTrue walk.steps.checks
   pub escaped : FlagEscapes walk.steps.text walk.spans.items
 
 -- the prefix of a view, whose value is expected where the walk has come to

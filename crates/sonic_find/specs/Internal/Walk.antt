@@ -1,5 +1,5 @@
 -- What a walk knows that goes through a text once, and follows all paths of a tree in it.
-use Rattle.std.specs.Prelude.{◌≡◌, ◌⊎◌, ℕ, ◌<◌, ◌≤◌, Bool, true, false, List, [], ◌∷◌, ◌++◌, Option, Some, None, length, map, slice_get}
+use Rattle.std.specs.Prelude.{◌≡◌, ◌⊎◌, ℕ, ◌<◌, ◌≤◌, Bool, false, List, [], ◌∷◌, ◌++◌, Option, Some, None, length, map, slice_get, IsTrue}
 use Rattle.std.specs.List.{Contains}
 use Rattle.sonic_text.specs.declared.kind.Kind.{Kind}
 use Rattle.sonic_text.specs.declared.kind.Kind.TheVariants.{Array}
@@ -76,18 +76,18 @@ pub record SomeLack (rule : KeyRule) (t : List ℕ) (paths : List Path) : Type 0
 pub record AreFindings (rule : KeyRule) (t : List ℕ) (paths : List Path) (f : Findings) : Type 0 where
   pub long : length f.spans ≡ length paths
   pub found_there : (k i j : ℕ) → slice_get f.spans k ≡ Some (Some (i, j)) → (path : Path) × (slice_get paths k ≡ Some path) × LeadsUnder rule t path (found i j)
-  pub lack : f.lacking ≡ true → SomeLack rule t paths
+  pub lack : IsTrue f.lacking → SomeLack rule t paths
 
 -- they are, and what was found before is kept
 pub record IsLater (rule : KeyRule) (t : List ℕ) (paths : List Path) (before now : Findings) : Type 0 where
   pub are : AreFindings rule t paths now
   pub kept : (k i j : ℕ) → slice_get before.spans k ≡ Some (Some (i, j)) → slice_get now.spans k ≡ Some (Some (i, j))
-  pub lack : before.lacking ≡ true → now.lacking ≡ true
+  pub lack : IsTrue before.lacking → IsTrue now.lacking
 
 -- where the path with the number k leads is known: its span is kept, or that some path lacks its key
 pub data IsKnown (rule : KeyRule) (t : List ℕ) (f : Findings) (k : ℕ) (path : Path) : Type 0 where
   was_found : {i j : ℕ} → LeadsUnder rule t path (found i j) → slice_get f.spans k ≡ Some (Some (i, j)) → IsKnown rule t f k path
-  was_lacked : {q : ℕ} → LeadsUnder rule t path (lacks q) → f.lacking ≡ true → IsKnown rule t f k path
+  was_lacked : {q : ℕ} → LeadsUnder rule t path (lacks q) → IsTrue f.lacking → IsKnown rule t f k path
 
 -- so it is for each path with the prefix
 abbrev pub AllSettled : Point → Findings → Type 0
@@ -114,7 +114,7 @@ NoneNearer p s = (k : ℕ) (rest : Path) (r : Stop) → IsPath p k rest → Eval
 -- some path with the prefix is stopped so, or the value has this fault and has to be whole: as it is asked for, or as some path lacks its key
 pub data IsCause (p : Point) (needs : Bool) (s : Stop) : Type 0 where
   path_stops : (k : ℕ) (rest : Path) → IsPath p k rest → IsPathStop p.rule p.text p.place rest s → IsCause p needs s
-  value_stops : IsFault strict p.text p.place s → (needs ≡ true) ⊎ SomeLack p.rule p.text p.paths → IsCause p needs s
+  value_stops : IsFault strict p.text p.place s → IsTrue needs ⊎ SomeLack p.rule p.text p.paths → IsCause p needs s
 
 -- why the walk stops inside the value at a point
 pub record IsStop (p : Point) (needs : Bool) (s : Stop) : Type 0 where
@@ -142,7 +142,7 @@ IsUnvisited a visited node = (c : ℕ) × (slice_get visited c ≡ Some false) �
 
 -- more is needed: the whole value, as it is asked for or as some path lacks its key, or a child
 abbrev pub IsWanted : Container → Progress → Type 0
-IsWanted a g = (a.needs ≡ true) ⊎ (g.findings.lacking ≡ true) ⊎ SomeOpen g.visited
+IsWanted a g = IsTrue a.needs ⊎ IsTrue g.findings.lacking ⊎ SomeOpen g.visited
 
 -- of all before the next item everything is known: a child that was not visited is still to come, and the paths of the others are settled
 pub record IsFollowed (a : Container) (g : Progress) : Type 0 where

@@ -1,5 +1,5 @@
 -- What the steps of an iterator know of the items that they pass.
-use Rattle.std.specs.Prelude.{◌≡◌, ℕ, ◌+◌, ◌<◌, ◌≤◌, true, false, List, length, IfSome}
+use Rattle.std.specs.Prelude.{◌≡◌, ℕ, ◌+◌, ◌<◌, ◌≤◌, List, length, IfSome, IsTrue, IsFalse}
 use Rattle.std.specs.Str.{IsUtf8}
 use Rattle.std.specs.declared.borrow.CowStr.{CowStr}
 use Rattle.std.specs.declared.option.Option.{Option}
@@ -73,7 +73,7 @@ iterating_of items = record {
 pub record IsIterator (items : Inside) : Type 0 where
   pub raw : slice_bytes items.raw ≡ items.steps.text
   pub text : items.text.now ≡ items.steps.text
-  pub after : items.ended ≡ false → IsAfterItems items.steps.text items.kind items.given items.steps.place
+  pub after : IsFalse items.ended → IsAfterItems items.steps.text items.kind items.given items.steps.place
   pub within : items.given ≤ length items.steps.text
-  pub utf8 : items.steps.checks ≡ true → (items.is_bytes ≡ true → 0 < items.given) → IsUtf8 items.steps.text
-  pub sure : items.steps.checks ≡ false → StartsWithUtf8Value items.steps.text × (items.is_bytes ≡ false)
+  pub utf8 : IsTrue items.steps.checks → (IsTrue items.is_bytes → 0 < items.given) → IsUtf8 items.steps.text
+  pub sure : IsFalse items.steps.checks → StartsWithUtf8Value items.steps.text × IsFalse items.is_bytes

@@ -1,5 +1,5 @@
 // Parts that are lent to be changed.
-ghost use Rattle.std.specs.Prelude.{◌≡◌, ◌≢◌, ◌<◌, ◌∷◌, [], true, false, length, None, Some, IfOk, IfErr, IsErr, IfSome, OnErr, OnSome, ◌↔◌, ◌≤◌, IsTrue};
+ghost use Rattle.std.specs.Prelude.{◌≡◌, ◌≢◌, ◌<◌, ◌∷◌, [], length, None, Some, IfOk, IfErr, IsErr, IfSome, OnErr, OnSome, ◌↔◌, ◌≤◌, IsTrue, IsFalse};
 ghost use Rattle.std.specs.Borrow.{sem, follows_so, LendsSo, LendsSoOk};
 ghost use Rattle.sonic_error.specs.Errors.{IsPlainError};
 ghost use Rattle.sonic_find.specs.Paths.{kind_of};
@@ -49,9 +49,9 @@ pub(crate) trait Opens {
 
     // Opens the first level, and says whether there was memory for it.
     fn open_level(&mut self, alloc: Global) -> bool
-        ensures opened { result ≡ true → IsOpened (seen self.old) (seen self.new) }
-        ensures same { result ≡ false → seen self.new ≡ seen self.old }
-        ensures memory { result ≡ false → IsClosedContainer (seen self.old) };
+        ensures opened { IsTrue result → IsOpened (seen self.old) (seen self.new) }
+        ensures same { IsFalse result → seen self.new ≡ seen self.old }
+        ensures memory { IsFalse result → IsClosedContainer (seen self.old) };
 
     // The array that the value is opened to.
     fn array_level<'a>(&'a mut self) -> Option<&'a mut LazyArray>

@@ -46,7 +46,7 @@ pub record RemainsFromValue (walk : Descending) (label : Option (List ℕ)) (res
   pub are : rest ≡ tags label tree (tags_after frames)
 
 -- or to the end of a value
-pub record HasEnded (walk : Descending) (rest : List Tag) : Type 0 where
+pub record RemainsAfterItem (walk : Descending) (rest : List Tag) : Type 0 where
   pub frames : List Frame
   pub opened : walk.opened ≡ kinds_of frames
   pub follows : Follows walk.text walk.place frames
@@ -54,7 +54,7 @@ pub record HasEnded (walk : Descending) (rest : List Tag) : Type 0 where
 
 -- these tags are to come
 abbrev pub Remains : Walk → List Tag → Type 0
-Remains walk rest = (walk.inner.lossy ≡ strict) × MatchBool walk.ended (HasEnded walk.inner rest) (RemainsFromItem walk.inner rest)
+Remains walk rest = (walk.inner.lossy ≡ strict) × MatchBool walk.ended (RemainsAfterItem walk.inner rest) (RemainsFromItem walk.inner rest)
 
 -- the whole text is a string, and denotes these bytes
 abbrev pub IsWord : List ℕ → List ℕ → Type 0

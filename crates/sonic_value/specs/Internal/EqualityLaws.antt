@@ -1,5 +1,5 @@
 -- The same trees are those that are equal. The laws of `PartialEq` and `Eq` cite these.
-use Rattle.std.proofs.Common.{◌≡◌, ◌&&◌, ℕ, ap, ap₂, refl, sym, Bool, true, List, Option, Some, None, Decides}
+use Rattle.std.proofs.Common.{◌≡◌, ◌&&◌, ℕ, ap, ap₂, refl, sym, Bool, true, List, Option, Some, None, Decides, IsTrue}
 use Rattle.std.proofs.lemmas.Bool.Decides.{same_from_decides, Decides-eqb}
 use Rattle.std.proofs.lemmas.Bool.{and_parts, false≢true}
 use Rattle.std.proofs.lemmas.Slice.Eq.{slice_eq-Decides}
@@ -26,7 +26,7 @@ label_same (Some k) (Some l) = (λ e. ap Some ((bytes_same k l).0 e), λ e. (byt
 label_same None (Some l) = (λ e. absurd (false≢true e), λ e. absurd cc)
 label_same (Some k) None = (λ e. absurd (false≢true e), λ e. absurd cc)
 
-both : (a b : Bool) → a ≡ true → b ≡ true → a && b ≡ true
+both : (a b : Bool) → IsTrue a → IsTrue b → IsTrue (a && b)
 both a b e f = rw (e, f) refl
 
 mutual

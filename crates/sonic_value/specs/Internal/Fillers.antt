@@ -1,5 +1,5 @@
 -- What is known while a schema is filled: facts on which no public clause rests.
-use Rattle.std.specs.Prelude.{◌≡◌, ◌<◌, ◌+◌, ℕ, Bool, true, false, List, map, Option, Some, None, drop, slice_get, string_bytes}
+use Rattle.std.specs.Prelude.{◌≡◌, ◌<◌, ◌+◌, ℕ, Bool, true, false, List, map, Option, Some, None, drop, slice_get, string_bytes, IsFalse}
 use Rattle.std.specs.declared.alloc.Global.{Global}
 use Rattle.std.specs.declared.string.String.{String}
 use Rattle.sonic_error.specs.declared.code.ErrorCode.TheVariants.{RecursionLimitExceeded}
@@ -87,11 +87,11 @@ pub record IsLastWith (b : List ℕ) (ms : List (String Global × Value)) (n : �
   pub member : String Global × Value
   pub is : slice_get ms n ≡ Some member
   pub key : string_bytes member.0 ≡ b
-  pub last : has_key b (items_of (drop (n + 1) ms)) ≡ false
+  pub last : IsFalse (has_key b (items_of (drop (n + 1) ms)))
 
 -- it is at this position, or none has it
 abbrev pub IsPlaceOf : List ℕ → List (String Global × Value) → Option ℕ → Type 0
-IsPlaceOf b ms None = has_key b (items_of ms) ≡ false
+IsPlaceOf b ms None = IsFalse (has_key b (items_of ms))
 IsPlaceOf b ms (Some n) = IsLastWith b ms n
 
 -- of the member that is expected at h the value is expected at v, and it fills the one at this position, or none

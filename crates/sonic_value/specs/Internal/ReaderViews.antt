@@ -1,5 +1,5 @@
 -- What the fields of a reader denote.
-use Rattle.std.specs.Prelude.{◌≡◌, true}
+use Rattle.std.specs.Prelude.{◌≡◌, IsTrue}
 use Rattle.std.specs.Str.{IsUtf8}
 use Rattle.sonic_text.specs.Strings.{strict}
 use Rattle.sonic_value.specs.Internal.Readers.{ReaderState}
@@ -11,4 +11,4 @@ cursor_of reader = record { source = record { text = reader.parser.text; is_utf8
 
 -- which reads strictly, and says that the text is UTF-8 only where it is
 abbrev pub IsReader : Inside → Type 0
-IsReader reader = (reader.parser.lossy ≡ strict) × (reader.utf8 ≡ true → IsUtf8 reader.parser.text)
+IsReader reader = (reader.parser.lossy ≡ strict) × (IsTrue reader.utf8 → IsUtf8 reader.parser.text)
