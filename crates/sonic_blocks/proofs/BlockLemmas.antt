@@ -7,7 +7,7 @@ use Rattle.sonic_blocks.proofs.CountLemmas.{count_odd, escaped_suc, count_few}
 use Rattle.sonic_blocks.proofs.OutsideLemmas.{escaped_next, inside_next, outside_next, escaped_start, inside_start}
 use Rattle.sonic_blocks.specs.Bits.{is_set, is_odd, count_below, run_before, is_escaped, is_quote, is_inside}
 use Rattle.sonic_blocks.specs.Outside.{holds_outside, is_escaped_at, is_inside_at, outside}
-use Rattle.sonic_blocks.specs.Internal.Carried.{AreCarried}
+use Rattle.sonic_blocks.specs.Carried.{AreCarried}
 use Rattle.sonic_blocks.specs.Views.{IsMask}
 
 one_odd : (b : Bool) → is_odd (cond b 1 0) ≡ b

@@ -1,4 +1,5 @@
 pub mod Bits
+pub mod Carried
 pub mod Closings
 pub mod Elements
 pub mod Firsts

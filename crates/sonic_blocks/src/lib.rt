@@ -10,6 +10,9 @@ mod closing;
 mod count;
 // Numbers between commas, in a block of 64 bytes.
 mod elements;
+// What the crates above need, and no user of this one.
+#[doc(hidden)]
+pub mod internal;
 // White space in a block of 64 bytes, as bits.
 mod lanes;
 // Where a run of bytes of one kind ends, and where the first byte of another kind is.
@@ -22,13 +25,7 @@ mod string_block;
 mod tape;
 
 pub use bits::{get_escaped, get_string_bits, next_bit, prefix_xor};
-pub use closing::closing_bit;
-pub use count::count_of;
-pub use elements::whole_elements;
 pub use lanes::get_nonspace_bits;
-pub use runs::{
-    digits_end, first_backslash, first_of, near_digits_end, near_plain_end, plain_end, space_end,
-};
 pub use steps::Steps;
 pub use string_block::StringBlock;
 pub use tape::{Masks, Tape};

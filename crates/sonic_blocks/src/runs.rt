@@ -139,7 +139,7 @@ fn run_end<K: ByteKind>(kind: &K, text: &[u8], place: usize) -> usize
 {
     let mut at = place;
     while text.len() - at >= 16 {
-        if let Some(end) = near_end(kind, text, at) {
+        if let Some(end) = short_end(kind, text, at) {
             return end;
         }
         at += 16;
@@ -160,7 +160,7 @@ fn long_run_end<K: ByteKind>(kind: &K, text: &[u8], place: usize) -> usize
     let near = place + 256;
     let mut at = place;
     while near - at >= 16 {
-        if let Some(end) = near_end(kind, text, at) {
+        if let Some(end) = short_end(kind, text, at) {
             return end;
         }
         at += 16;
@@ -197,7 +197,7 @@ fn all_hold<K: ByteKind>(kind: &K, text: &[u8], place: usize) -> bool
 
 // The first place that holds no byte of the kind, where it is one of the 16 bytes at `place`.
 #[inline(always)]
-fn near_end<K: ByteKind>(kind: &K, text: &[u8], place: usize) -> Option<usize>
+fn short_end<K: ByteKind>(kind: &K, text: &[u8], place: usize) -> Option<usize>
     requires { place + 16 ≤ length text.now }
     ensures some { IfSome result (λ end. end ≡ place + prefix_len (K.test kind.now) (drop place text.now)) }
     ensures near { IfSome result (λ end. end < place + 16) }
@@ -241,13 +241,13 @@ pub fn digits_end(text: &[u8], place: usize) -> usize
 ///
 /// Of `120]` and twelve bytes more from 0 on it is 3.
 #[inline(always)]
-pub fn near_digits_end(text: &[u8], place: usize) -> Option<usize>
+pub fn short_digits_end(text: &[u8], place: usize) -> Option<usize>
     requires { place + 16 ≤ length text.now }
     ensures some { IfSome result (λ end. end ≡ place + prefix_len is_ascii_digit (drop place text.now)) }
     ensures near { IfSome result (λ end. end < place + 16) }
     ensures none { IfNone result (16 ≤ prefix_len is_ascii_digit (drop place text.now)) }
 {
-    near_end(&Digits, text, place)
+    short_end(&Digits, text, place)
 }
 
 /// The first place from `place` on that holds no white space (RFC 8259, section 2), or the end.
@@ -279,13 +279,13 @@ pub fn plain_end(text: &[u8], place: usize) -> usize
 ///
 /// Of `ab"` and thirteen bytes more from 0 on it is 2.
 #[inline(always)]
-pub fn near_plain_end(text: &[u8], place: usize) -> Option<usize>
+pub fn short_plain_end(text: &[u8], place: usize) -> Option<usize>
     requires { place + 16 ≤ length text.now }
     ensures some { IfSome result (λ end. end ≡ place + prefix_len is_plain (drop place text.now)) }
     ensures near { IfSome result (λ end. end < place + 16) }
     ensures none { IfNone result (16 ≤ prefix_len is_plain (drop place text.now)) }
 {
-    near_end(&Plain, text, place)
+    short_end(&Plain, text, place)
 }
 
 /// The first backslash from `place` on, or the end.

@@ -3,7 +3,8 @@
 ghost use Rattle.std.specs.Prelude.{◌≡◌, ◌+◌, ◌<◌, ◌≤◌, length};
 
 use crate::same::{same, same_at};
-use sonic_blocks::{Masks, Steps, Tape, closing_bit};
+use sonic_blocks::internal::closing_bit;
+use sonic_blocks::{Masks, Steps, Tape};
 use std::marker::Brand;
 use std::process::Abort;
 use std::sync::ledger::{Blank, Ledger};

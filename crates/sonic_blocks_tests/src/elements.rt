@@ -1,6 +1,6 @@
 // What no clause says: that as many bytes are counted as the worked examples say.
 use crate::same::{same, same_at};
-use sonic_blocks::whole_elements;
+use sonic_blocks::internal::whole_elements;
 use std::process::Abort;
 
 // A block that begins with this text and goes on with one byte.

@@ -3,9 +3,10 @@
 ghost use Rattle.std.specs.Prelude.{◌+◌, ◌≤◌, length};
 
 use crate::same::{same, same_at};
-use sonic_blocks::{
-    StringBlock, count_of, digits_end, first_backslash, first_of, near_digits_end, near_plain_end,
-    plain_end, space_end,
+use sonic_blocks::StringBlock;
+use sonic_blocks::internal::{
+    count_of, digits_end, first_backslash, first_of, plain_end, short_digits_end, short_plain_end,
+    space_end,
 };
 use std::process::Abort;
 
@@ -101,12 +102,12 @@ fn run_end(run: Run, text: &[u8], from: usize) -> usize
 }
 
 // The same, where only the 16 bytes at the place are looked at.
-fn near_end(run: Run, text: &[u8], from: usize) -> Option<usize>
+fn short_end(run: Run, text: &[u8], from: usize) -> Option<usize>
     requires { from + 16 ≤ length text.now }
 {
     match run {
-        Run::Digits => near_digits_end(text, from),
-        Run::Plain => near_plain_end(text, from),
+        Run::Digits => short_digits_end(text, from),
+        Run::Plain => short_plain_end(text, from),
         Run::Spaces | Run::NoBackslash => near(run_end(run, text, from), from),
     }
 }
@@ -132,7 +133,7 @@ fn check_runs(rt: &impl Abort, run: Run, inside: u8, other: u8) {
             if from <= 34 {
                 same_at(
                     rt,
-                    near_end(run, &text, from),
+                    short_end(run, &text, from),
                     near(end, from),
                     (inside, other, from),
                 );

@@ -23,7 +23,7 @@ use Rattle.sonic_text.proofs.Values.{head_one, items_kind, items_not_empty, item
 use Rattle.sonic_text.proofs.Within.{after_space_within, value_within}
 use Rattle.sonic_text.specs.Documents.{IsWhole}
 use Rattle.sonic_text.specs.Faults.{IsFault, IsKeyFault, in_key, in_value, after_item, code_after_item}
-use Rattle.sonic_text.specs.Places.{byte, is_space, after_space, bad}
+use Rattle.sonic_text.specs.Places.{byte, is_space, after_space, stop_at}
 use Rattle.sonic_text.specs.Strings.{strict}
 use Rattle.sonic_text.specs.Values.{opening, ItemHead, no_head, key_head, IsValue, ItemsFit, next_item, empty, filled}
 use Rattle.sonic_text.specs.declared.kind.Kind.{Kind}
@@ -94,7 +94,7 @@ none_left {t} {n = n} (last_item k m last z e end) item x =
     no_item_after z (omega (arith, e)) (λ c. closing_no_comma k (sym end.0 ∙ c)) item y
 
 -- a place that is bad is within the text
-bad_within : (t : List ℕ) (p : ℕ) (code : ErrorCode) (s : Stop) → s ≡ bad t p code → s.place ≤ length t
+bad_within : (t : List ℕ) (p : ℕ) (code : ErrorCode) (s : Stop) → s ≡ stop_at t p code → s.place ≤ length t
 bad_within t p code s e = rw e (grind (arith, nat_tests))
 
 -- that of a key, and that after an item

@@ -5,7 +5,7 @@ use Rattle.sonic_error.specs.declared.json_type.JsonType.{JsonType}
 use Rattle.sonic_error.specs.declared.json_type.JsonType.TheVariants.{Null, Boolean, Number, String, Object, Array}
 use Rattle.sonic_find.specs.Documents.{IsInvalid}
 use Rattle.sonic_text.specs.Faults.{BeginsNone}
-use Rattle.sonic_text.specs.Places.{byte, after_space, bad, IsDigit}
+use Rattle.sonic_text.specs.Places.{byte, after_space, stop_at, IsDigit}
 use Rattle.sonic_text.specs.declared.stop.Stop.{Stop}
 use Rattle.sonic_c.specs.Statuses.{status_document_error, status_wrong_type}
 use Rattle.sonic_c.specs.Told.{AreNumbersOf}
@@ -32,7 +32,7 @@ Begins t kind = BeginsWith kind (first_byte t)
 
 -- why no value begins it
 abbrev pub no_begin : List ℕ → Stop
-no_begin t = bad t (after_space t 0) InvalidJsonValue
+no_begin t = stop_at t (after_space t 0) InvalidJsonValue
 
 -- the type is one of those that are expected
 abbrev pub IsExpected : Expected → JsonType → Type 0

@@ -10,7 +10,8 @@ ghost use Rattle.sonic_c.specs.Internal.Begun.{HasBegun, Misses, TellsRefusal, I
 use crate::fault::{Fault, tell_stop};
 use crate::status::WRONG_TYPE;
 use sonic_error::{ErrorCode, JsonType};
-use sonic_text::{Kind, Stop, byte_at, skip_space, stop_at, type_of};
+use sonic_text::internal::stop_at;
+use sonic_text::{Kind, Stop, byte_at, skip_space, type_of};
 
 // The types of which one is expected.
 #[derive(Clone, Copy)]

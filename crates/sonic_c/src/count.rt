@@ -15,8 +15,8 @@ use crate::begun::{Expected, expect, kind_begun, pass_rest, refuse};
 use crate::fault;
 use crate::fault::tell_stop;
 use crate::status::{NO_MEMORY, OK};
-use crate::walk::{pass_item, steps_at};
-use sonic_find::{Steps, check};
+use crate::walk::{cursor_at, pass_item};
+use sonic_find::internal::{Cursor, check};
 use sonic_parser::Fault;
 use sonic_text::Kind;
 use std::alloc::Global;
@@ -76,26 +76,26 @@ fn count_alone(alloc: Global, text: &[u8], start: usize) -> Result<usize, Fault>
     ensures stop { IfErr result (IsStopFor (λ s. s.place ≤ length text.now)) }
 {
     let kind = kind_begun(text, start);
-    let mut steps = steps_at(alloc, text, 0);
-    let count = count_items(&mut steps, kind)?;
-    pass_rest(text, steps.place())?;
+    let mut cursor = cursor_at(alloc, text, 0);
+    let count = count_items(&mut cursor, kind)?;
+    pass_rest(text, cursor.place())?;
     check(text, text.len())?;
     Ok(count)
 }
 
 // How many items the container of this kind at the cursor has, which begins the text.
-fn count_items(steps: &mut Steps<'_>, kind: Kind) -> Result<usize, Fault>
-    requires checks { IsTrue steps.old.checks }
-    requires start { steps.old.place ≡ after_space steps.old.text 0 }
-    requires bracket { byte steps.old.text steps.old.place ≡ opening kind }
-    ensures ok { IfOk result (λ count. HasItemCount steps.old.text count steps.new.place) }
-    ensures moved { steps.new ≡ record steps.old { place = steps.new.place } }
-    ensures err { IfErr result (IsStopFor (IsRootFault steps.old.text)) }
+fn count_items(cursor: &mut Cursor<'_>, kind: Kind) -> Result<usize, Fault>
+    requires checks { IsTrue cursor.old.checks }
+    requires start { cursor.old.place ≡ after_space cursor.old.text 0 }
+    requires bracket { byte cursor.old.text cursor.old.place ≡ opening kind }
+    ensures ok { IfOk result (λ count. HasItemCount cursor.old.text count cursor.new.place) }
+    ensures moved { cursor.new ≡ record cursor.old { place = cursor.new.place } }
+    ensures err { IfErr result (IsStopFor (IsRootFault cursor.old.text)) }
 {
     let mut count = 0;
     let mut first = true;
     'items: loop {
-        let found = pass_item(steps, kind, first)?;
+        let found = pass_item(cursor, kind, first)?;
         let Some(_) = found else {
             return Ok(count);
         };

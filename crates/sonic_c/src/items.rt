@@ -10,8 +10,8 @@ ghost use Rattle.sonic_c.specs.Statuses.{status_end};
 use crate::begun::{Expected, expect, kind_begun, pass_rest, refuse};
 use crate::fault::{Fault, tell_stop};
 use crate::status::{END, NO_MEMORY, OK};
-use crate::walk::{Item, pass_item, steps_at};
-use sonic_find::check;
+use crate::walk::{Item, cursor_at, pass_item};
+use sonic_find::internal::check;
 use sonic_text::{Kind, byte_at, skip_space};
 use std::alloc::Global;
 
@@ -88,8 +88,8 @@ pub extern "C" fn sonic_items_next(
     let Some((kind, first)) = going(json, *items) else {
         return END;
     };
-    let mut steps = steps_at(alloc, json, items.place);
-    match pass_item(&mut steps, kind, first) {
+    let mut cursor = cursor_at(alloc, json, items.place);
+    match pass_item(&mut cursor, kind, first) {
         Ok(Some(found)) => {
             let place = found.value.end;
             let state = state_of(kind, false);
@@ -97,7 +97,7 @@ pub extern "C" fn sonic_items_next(
             *item = found;
             OK
         }
-        Ok(None) => close(json, steps.place(), items, error),
+        Ok(None) => close(json, cursor.place(), items, error),
         Err(sonic_parser::Fault::OutOfMemory) => NO_MEMORY,
         Err(sonic_parser::Fault::At(stop)) => {
             *items = items.ended();

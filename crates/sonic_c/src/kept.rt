@@ -1,4 +1,4 @@
-// Paths that are kept, with the room of a walk along them.
+// Paths that are kept, with the buffers of a walk along them.
 ghost use Rattle.std.specs.Prelude.{◌≡◌, ◌≢◌, length, map, [], IfOk};
 ghost use Rattle.sonic_pointer.specs.declared.rule.KeyRule.TheVariants.{First};
 ghost use Rattle.sonic_text.specs.Documents.{StartsWithUtf8Value};
@@ -10,18 +10,18 @@ use crate::fault::{Fault, tell};
 use crate::many::tell_all;
 use crate::span::{Span, shown};
 use crate::status::{OK, WRONG_COUNT};
-use sonic_find::{Room, find_many_by, find_many_unchecked};
+use sonic_find::{WalkBuffers, find_many_by, find_many_unchecked};
 use sonic_pointer::{KeyRule, PointerTree};
 use std::alloc::{AllocError, Global};
 use std::marker::Model;
 
 // A tree of paths, which of equal keys counts, and where a walk puts what it finds: one that judges what
-// it passes to the room, and one that doesn't to the slots.
+// it passes to the buffers, and one that doesn't to the slots.
 #[derive(Drop)]
 pub(crate) struct Kept {
     tree: PointerTree,
     rule: KeyRule,
-    room: Room,
+    buffers: WalkBuffers,
     slots: Vec<Option<sonic_find::Span>>,
 }
 
@@ -42,11 +42,11 @@ impl Kept {
         ensures { IfOk result (λ kept. kept ≡ record { rule = rule; paths = tree }) }
     {
         let slots = vec![in alloc; None; tree.size()]?;
-        let room = Room::new(alloc);
+        let buffers = WalkBuffers::new(alloc);
         Ok(Kept {
             tree,
             rule,
-            room,
+            buffers,
             slots,
         })
     }
@@ -121,9 +121,9 @@ impl Kept {
         if spans.is_empty() {
             return OK;
         }
-        match find_many_by(alloc, &mut self.room, json, &self.tree, self.rule) {
+        match find_many_by(alloc, &mut self.buffers, json, &self.tree, self.rule) {
             Ok(()) => {
-                fill_from_room(spans, &self.room);
+                fill_from_buffers(spans, &self.buffers);
                 OK
             }
             Err(reason) => tell(error, &reason),
@@ -153,11 +153,11 @@ fn walk_unchecked(
 }
 
 // Writes what was found to the caller's array.
-fn fill_from_room(spans: &mut [Span], room: &Room)
-    requires { length room.now ≡ length spans.old }
-    ensures { spans.new ≡ map shown_slot room.now }
+fn fill_from_buffers(spans: &mut [Span], buffers: &WalkBuffers)
+    requires { length buffers.now ≡ length spans.old }
+    ensures { spans.new ≡ map shown_slot buffers.now }
 {
-    for i in 0..room.len() {
-        spans[i] = shown(room.at(i));
+    for i in 0..buffers.len() {
+        spans[i] = shown(buffers.at(i));
     }
 }

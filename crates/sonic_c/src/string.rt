@@ -11,7 +11,7 @@ use crate::begun::{Expected, Refusal, expect, pass_rest, refuse};
 use crate::fault::Fault;
 use crate::room::write_text;
 use crate::status::NO_MEMORY;
-use sonic_find::check;
+use sonic_find::internal::check;
 use sonic_parser::ValueSpan;
 use sonic_text::{StringEnd, string_end};
 use std::alloc::Global;

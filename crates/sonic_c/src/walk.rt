@@ -10,7 +10,7 @@ ghost use Rattle.sonic_c.specs.Containers.{IsHeadAt, IsExpectedItem, IsNthItem, 
 ghost use Rattle.sonic_c.specs.Internal.Items.{IsItemStop};
 
 use crate::span::Span;
-use sonic_find::Steps;
+use sonic_find::internal::Cursor;
 use sonic_input::{JsonSlice, Read};
 use sonic_parser::Fault;
 use sonic_text::{Kind, Stop};
@@ -27,8 +27,8 @@ pub struct Item {
     pub value: Span,
 }
 
-// Steps through a text, from the first byte on after a place that is no white space.
-pub(crate) fn steps_at(alloc: Global, text: &[u8], place: usize) -> Steps<'_>
+// A cursor at the first byte of a text from a place on that is no white space.
+pub(crate) fn cursor_at(alloc: Global, text: &[u8], place: usize) -> Cursor<'_>
     requires { place ≤ length text.now }
     ensures { result ≡ record {
       text = text.now;
@@ -38,89 +38,89 @@ pub(crate) fn steps_at(alloc: Global, text: &[u8], place: usize) -> Steps<'_>
 {
     let mut read = Read::unscanned(JsonSlice::Raw(text));
     read.set_index(place);
-    Steps::checked(alloc, read)
+    Cursor::checked(alloc, read)
 }
 
 // Passes the item that comes after those that were passed, if there is one, or the closing bracket.
 pub(crate) fn pass_item(
-    steps: &mut Steps<'_>,
+    cursor: &mut Cursor<'_>,
     kind: Kind,
     first: bool,
 ) -> Result<Option<Item>, Fault>
-    requires checks { IsTrue steps.old.checks }
-    requires bracket { IsTrue first → byte steps.old.text steps.old.place ≡ opening kind }
+    requires checks { IsTrue cursor.old.checks }
+    requires bracket { IsTrue first → byte cursor.old.text cursor.old.place ≡ opening kind }
     ensures item { IfOk result (λ found. IfSome found (λ item. (n : ℕ)
-        → HasPassed steps.old.text kind n first steps.old.place → IsNthItem steps.old.text kind n item)) }
-    ensures end { IfOk result (λ found. IfSome found (λ item. item.value.end ≡ steps.new.place)) }
-    ensures later { IfOk result (λ found. IfSome found (λ _. steps.old.place < steps.new.place)) }
-    ensures fits { IfOk result (λ found. IfSome found (λ _. steps.new.place < 2 ^ 64)) }
+        → HasPassed cursor.old.text kind n first cursor.old.place → IsNthItem cursor.old.text kind n item)) }
+    ensures end { IfOk result (λ found. IfSome found (λ item. item.value.end ≡ cursor.new.place)) }
+    ensures later { IfOk result (λ found. IfSome found (λ _. cursor.old.place < cursor.new.place)) }
+    ensures fits { IfOk result (λ found. IfSome found (λ _. cursor.new.place < 2 ^ 64)) }
     ensures closed { IfOk result (λ found. found ≡ None → (n : ℕ)
-        → HasPassed steps.old.text kind n first steps.old.place → HasItemCount steps.old.text n steps.new.place) }
-    ensures moved { steps.new ≡ record steps.old { place = steps.new.place } }
+        → HasPassed cursor.old.text kind n first cursor.old.place → HasItemCount cursor.old.text n cursor.new.place) }
+    ensures moved { cursor.new ≡ record cursor.old { place = cursor.new.place } }
     ensures err { IfErr result (IsStopFor (λ s. (n : ℕ)
-        → HasPassed steps.old.text kind n first steps.old.place → IsItemStop steps.old.text kind n s)) }
-    ensures stop { IfErr result (IsStopFor (λ s. s.place ≤ length steps.old.text)) }
+        → HasPassed cursor.old.text kind n first cursor.old.place → IsItemStop cursor.old.text kind n s)) }
+    ensures stop { IfErr result (IsStopFor (λ s. s.place ≤ length cursor.old.text)) }
 {
-    if !go_on(steps, kind, first)? {
+    if !go_on(cursor, kind, first)? {
         return Ok(None);
     }
-    let item = item_at(steps, kind)?;
+    let item = item_at(cursor, kind)?;
     Ok(Some(item))
 }
 
 // Goes on to the item that comes after those that were passed, or past the closing bracket: whether there
 // is one.
-fn go_on(steps: &mut Steps<'_>, kind: Kind, first: bool) -> Result<bool, Stop>
-    requires checks { IsTrue steps.old.checks }
-    requires bracket { IsTrue first → byte steps.old.text steps.old.place ≡ opening kind }
+fn go_on(cursor: &mut Cursor<'_>, kind: Kind, first: bool) -> Result<bool, Stop>
+    requires checks { IsTrue cursor.old.checks }
+    requires bracket { IsTrue first → byte cursor.old.text cursor.old.place ≡ opening kind }
     ensures item { IfOk result (λ more. IsTrue more → (n : ℕ)
-        → HasPassed steps.old.text kind n first steps.old.place
-        → ItemsFit strict steps.old.text kind (after_space steps.old.text 0) n steps.new.place) }
+        → HasPassed cursor.old.text kind n first cursor.old.place
+        → ItemsFit strict cursor.old.text kind (after_space cursor.old.text 0) n cursor.new.place) }
     ensures closed { IfOk result (λ more. IsFalse more → (n : ℕ)
-        → HasPassed steps.old.text kind n first steps.old.place → HasItemCount steps.old.text n steps.new.place) }
-    ensures later { IfOk result (λ more. IsTrue more → steps.old.place < steps.new.place) }
-    ensures moved { steps.new ≡ record steps.old { place = steps.new.place } }
+        → HasPassed cursor.old.text kind n first cursor.old.place → HasItemCount cursor.old.text n cursor.new.place) }
+    ensures later { IfOk result (λ more. IsTrue more → cursor.old.place < cursor.new.place) }
+    ensures moved { cursor.new ≡ record cursor.old { place = cursor.new.place } }
     ensures err { IfErr result (λ s. (n : ℕ)
-        → HasPassed steps.old.text kind n first steps.old.place → IsItemStop steps.old.text kind n s) }
-    ensures stop { IfErr result (λ s. s.place ≤ length steps.old.text) }
+        → HasPassed cursor.old.text kind n first cursor.old.place → IsItemStop cursor.old.text kind n s) }
+    ensures stop { IfErr result (λ s. s.place ≤ length cursor.old.text) }
 {
     if first {
-        return Ok(steps.open(kind));
+        return Ok(cursor.enter(kind));
     }
-    match steps.next_item(kind) {
+    match cursor.next_item(kind) {
         Ok(more) => Ok(more),
         Err(stop) => Err(stop),
     }
 }
 
 // Passes the item that is expected at the cursor.
-fn item_at(steps: &mut Steps<'_>, kind: Kind) -> Result<Item, Fault>
-    requires checks { IsTrue steps.old.checks }
-    ensures item { IfOk result (IsExpectedItem steps.old.text kind steps.old.place) }
-    ensures end { IfOk result (λ item. item.value.end ≡ steps.new.place) }
-    ensures later { OnOk result (steps.old.place < steps.new.place) }
-    ensures fits { OnOk result (steps.new.place < 2 ^ 64) }
-    ensures moved { steps.new ≡ record steps.old { place = steps.new.place } }
+fn item_at(cursor: &mut Cursor<'_>, kind: Kind) -> Result<Item, Fault>
+    requires checks { IsTrue cursor.old.checks }
+    ensures item { IfOk result (IsExpectedItem cursor.old.text kind cursor.old.place) }
+    ensures end { IfOk result (λ item. item.value.end ≡ cursor.new.place) }
+    ensures later { OnOk result (cursor.old.place < cursor.new.place) }
+    ensures fits { OnOk result (cursor.new.place < 2 ^ 64) }
+    ensures moved { cursor.new ≡ record cursor.old { place = cursor.new.place } }
     ensures err { IfErr result (IsStopFor (λ s. (n : ℕ)
-        → ItemsFit strict steps.old.text kind (after_space steps.old.text 0) n steps.old.place
-        → IsItemStop steps.old.text kind n s)) }
-    ensures stop { IfErr result (IsStopFor (λ s. s.place ≤ length steps.old.text)) }
+        → ItemsFit strict cursor.old.text kind (after_space cursor.old.text 0) n cursor.old.place
+        → IsItemStop cursor.old.text kind n s)) }
+    ensures stop { IfErr result (IsStopFor (λ s. s.place ≤ length cursor.old.text)) }
 {
-    let key = key_at(steps, kind)?;
-    let value = Span::of_value(steps.skip()?);
+    let key = key_at(cursor, kind)?;
+    let value = Span::of_value(cursor.skip()?);
     Ok(Item { key, value })
 }
 
 // Passes what comes before the value of the item that is expected at the cursor: nothing, or a key.
-fn key_at(steps: &mut Steps<'_>, kind: Kind) -> Result<Span, Stop>
-    requires checks { IsTrue steps.old.checks }
-    ensures head { IfOk result (IsHeadAt steps.old.text kind steps.old.place steps.new.place) }
-    ensures moved { steps.new ≡ record steps.old { place = steps.new.place } }
+fn key_at(cursor: &mut Cursor<'_>, kind: Kind) -> Result<Span, Stop>
+    requires checks { IsTrue cursor.old.checks }
+    ensures head { IfOk result (IsHeadAt cursor.old.text kind cursor.old.place cursor.new.place) }
+    ensures moved { cursor.new ≡ record cursor.old { place = cursor.new.place } }
     ensures err { IfErr result (λ s. (kind ≡ Kind.Object)
-        × IsKeyFault strict steps.old.text steps.old.place s) }
+        × IsKeyFault strict cursor.old.text cursor.old.place s) }
 {
     match kind {
         Kind::Array => Ok(Span { start: 0, end: 0 }),
-        Kind::Object => Ok(Span::of_value(steps.key()?)),
+        Kind::Object => Ok(Span::of_value(cursor.key()?)),
     }
 }

@@ -14,7 +14,7 @@ use Rattle.sonic_text.specs.Places.{byte, after_space}
 use Rattle.sonic_lazy.proofs.IteratorLemmas.{never_ends}
 use Rattle.sonic_lazy.proofs.ListingLemmas.{listing_one}
 use Rattle.sonic_lazy.specs.Items.{Item, closed, Listing, EndsItems, at_broken_text, at_bracket, at_stop, IsItemAt, AreItems, no_items, one_more_item, AreClosed, closed_empty, closed_after, IsListing}
-use Rattle.sonic_lazy.specs.Iterators.{Iterating, iterator_over, ShowsElement, IsOver}
+use Rattle.sonic_lazy.specs.Iterators.{IteratorState, iterator_over, ShowsElement, IsOver}
 use Rattle.sonic_lazy.specs.LazyValues.{raw_bytes}
 use Rattle.sonic_find.specs.Answers.{span_text}
 use Rattle.sonic_lazy.specs.declared.lazyvalue.LazyValue.{LazyValue}
@@ -125,7 +125,7 @@ element_first {t} vs v first x = record {
 }
 
 -- an iterator over an array that has given so many elements
-abbrev pub HasGiven : Iterating → List ℕ → ℕ → Type 0
+abbrev pub HasGiven : IteratorState → List ℕ → ℕ → Type 0
 HasGiven it t n = it ≡ record (iterator_over Array t false false) { given = n }
 
 -- where items end with the bracket, they are closed
@@ -135,7 +135,7 @@ ends_closed (at_bracket u x e) = x
 ends_closed (at_stop u x is) = absurd cc
 
 -- where the iterator is over these are all
-pub all_first : {it now : Iterating} {t : List ℕ} {texts : List (List ℕ)} → HasGiven it t it.given → AreFirst t it.given texts → IsOver it now → AreElementTexts t texts
+pub all_first : {it now : IteratorState} {t : List ℕ} {texts : List (List ℕ)} → HasGiven it t it.given → AreFirst t it.given texts → IsOver it now → AreElementTexts t texts
 all_first {it} {t = t} g first over = elim over.reason [
   | inl ended ↦ (let going : it.ended ≡ false = rw g refl in absurd cc)
   | inr ends ↦

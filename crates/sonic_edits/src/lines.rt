@@ -4,7 +4,7 @@ ghost use Rattle.sonic_edits.specs.Heads.{SaysNextEdit, SaysEdits};
 
 use crate::edit::Edit;
 use crate::line::edit_of_line;
-use sonic_paths::{HeadEnd, LineReader, read_head};
+use sonic_paths::internal::{HeadEnd, LineReader, read_head};
 use std::alloc::{AllocError, Global};
 
 /// What the head of an input says.

@@ -5,7 +5,7 @@ ghost use Rattle.sonic_error.specs.Texts.{dots, mask_text};
 ghost use Rattle.sonic_error.specs.declared.fragment.TheConstants.{FRAGMENT_ROOM};
 
 use crate::fragment::{FRAGMENT_ROOM, Lossy, end_of_fragment, fragment_of, start_of_fragment};
-use sonic_blocks::count_of;
+use sonic_blocks::internal::count_of;
 use std::fmt;
 
 /// A place in a text, with the bytes round it, so that it is printed without the text.

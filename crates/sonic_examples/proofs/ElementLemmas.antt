@@ -9,7 +9,7 @@ use Rattle.sonic_examples.specs.Elements.{item_text, AreFirst, AreElements, IsCl
 use Rattle.sonic_lazy.specs.declared.lazyvalue.LazyValue.{LazyValue}
 use Rattle.sonic_lazy.proofs.ListingLemmas.{listing_one}
 use Rattle.sonic_lazy.specs.Items.{Listing, closed, stopped, EndsItems, no_items, one_more_item}
-use Rattle.sonic_lazy.specs.Iterators.{Iterating, iterator_over, ShowsElement, IsNextError, out_of_memory as no_memory, no_next_item, IsOver}
+use Rattle.sonic_lazy.specs.Iterators.{IteratorState, iterator_over, ShowsElement, IsNextError, out_of_memory as no_memory, no_next_item, IsOver}
 use Rattle.sonic_lazy.specs.LazyValues.{raw_bytes}
 
 -- before the first call no element was seen
@@ -29,11 +29,11 @@ one_more_first {t} values {value} first x = record {
 }
 
 -- an iterator over text that has given so many elements
-abbrev pub HasGiven : Iterating → List ℕ → ℕ → Type 0
+abbrev pub HasGiven : IteratorState → List ℕ → ℕ → Type 0
 HasGiven it t n = it ≡ record (iterator_over Array t false true) { given = n }
 
 -- where it is over these are all
-pub all_first : {it now : Iterating} {t : List ℕ} {values : List LazyValue} → HasGiven it t it.given → AreFirst t it.given values → IsOver it now
+pub all_first : {it now : IteratorState} {t : List ℕ} {values : List LazyValue} → HasGiven it t it.given → AreFirst t it.given values → IsOver it now
     → AreElements t values
 all_first {it} {t} g first over = elim over.reason [
   | inl ended ↦ (let going : it.ended ≡ false = rw g refl in absurd cc)
@@ -43,7 +43,7 @@ all_first {it} {t} g first over = elim over.reason [
 ]
 
 -- its error is where they stop
-pub error_after : {it : Iterating} {t : List ℕ} {values : List LazyValue} {e : Error} → HasGiven it t it.given → AreFirst t it.given values → IsNextError it e
+pub error_after : {it : IteratorState} {t : List ℕ} {values : List LazyValue} {e : Error} → HasGiven it t it.given → AreFirst t it.given values → IsNextError it e
     → IsElementsError t e
 error_after g first (no_memory plain takes) = out_of_memory plain
 error_after {it} {t} g first (no_next_item {s} ends at) =

@@ -1,5 +1,5 @@
 // A log reader that takes a stream of records in pieces.
-use sonic_stream::{Next, RecordStream};
+use sonic_stream::{NextRecord, RecordStream};
 use std::alloc::Global;
 use std::{io, str};
 
@@ -22,10 +22,10 @@ fn show_record(rt: &impl Print, held: &[u8], start: usize, end: usize) -> io::Re
 fn show_next(rt: &impl Print, alloc: Global, records: &mut RecordStream) -> io::Result<()> {
     for _ in 0..=records.held().len() {
         match records.next(alloc)? {
-            Next::Record { start, end } => show_record(rt, records.held(), start, end)?,
-            Next::Wrong { place, code } => println!(rt; "dropped at {place}: {code}")?,
-            Next::Cut => println!(rt; "the last record is cut")?,
-            Next::NeedsMore | Next::End => return Ok(()),
+            NextRecord::Record { start, end } => show_record(rt, records.held(), start, end)?,
+            NextRecord::Wrong { place, code } => println!(rt; "dropped at {place}: {code}")?,
+            NextRecord::Cut => println!(rt; "the last record is cut")?,
+            NextRecord::NeedsMore | NextRecord::End => return Ok(()),
         }
     }
     Ok(())

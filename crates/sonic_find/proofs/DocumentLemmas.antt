@@ -16,7 +16,7 @@ use Rattle.sonic_find.specs.Internal.Roots.{IsRoot}
 use Rattle.sonic_find.specs.declared.document.Root.{Root}
 use Rattle.sonic_find.specs.Laws.{HoldsOrHasOneReason}
 use Rattle.sonic_parser.specs.Faults.{IsStopFor, IsErrorOf}
-use Rattle.sonic_parser.specs.Parsers.{Parsing, moved, value_start, IsPassed}
+use Rattle.sonic_parser.specs.Parsers.{ParserState, moved, value_start, IsPassed}
 use Rattle.sonic_parser.specs.declared.fault.Fault.{Fault}
 use Rattle.sonic_parser.specs.declared.fault.Fault.TheVariants.{OutOfMemory, At}
 use Rattle.sonic_parser.specs.declared.value_span.ValueSpan.{ValueSpan}
@@ -89,17 +89,17 @@ document_one t is_bytes text = record {
 }
 
 -- a parser that skipped the root, and then white space, has passed both
-pub root_passed : {t : List ℕ} {p q r s : Parsing} {x : ValueSpan} → p.text ≡ t → p.place ≡ 0 → p.lossy ≡ false → q ≡ moved p (value_start p)
+pub root_passed : {t : List ℕ} {p q r s : ParserState} {x : ValueSpan} → p.text ≡ t → p.place ≡ 0 → p.lossy ≡ false → q ≡ moved p (value_start p)
     → IsPassed q r x → r ≡ moved q r.place → s ≡ moved r (value_start r) → IsRoot t (record { value = x; after = s.place })
 root_passed {t} {p} {q} {r} {s} text start lossy first passed kept last =
-    let same : q.text ≡ t = ap (λ (x : Parsing). x.text) first ∙ text in
-    let later : r.text ≡ t = ap (λ (x : Parsing). x.text) kept ∙ same in
-    let place : q.place ≡ after_space t 0 = ap (λ (x : Parsing). x.place) first ∙ rw (text, start) refl in
-    let way : q.lossy ≡ false = ap (λ (x : Parsing). x.lossy) first ∙ lossy in
+    let same : q.text ≡ t = ap (λ (x : ParserState). x.text) first ∙ text in
+    let later : r.text ≡ t = ap (λ (x : ParserState). x.text) kept ∙ same in
+    let place : q.place ≡ after_space t 0 = ap (λ (x : ParserState). x.place) first ∙ rw (text, start) refl in
+    let way : q.lossy ≡ false = ap (λ (x : ParserState). x.lossy) first ∙ lossy in
     record {
       start = sym (passed.start ∙ place);
       value = rw passed.end (rw (way, same, place) at passed.value);
-      after = rw passed.end (sym (ap (λ (x : Parsing). x.place) last ∙ rw later refl));
+      after = rw passed.end (sym (ap (λ (x : ParserState). x.place) last ∙ rw later refl));
       escaped = rw (passed.start, passed.end) (rw same at passed.escaped);
     }
 

@@ -6,8 +6,9 @@ use Rattle.std.proofs.lemmas.Bool.Decides.{nat_tests}
 use Rattle.sonic_find.proofs.PathLemmas.Lead.{none_leads, one_more_unnamed, not_named, named_leads, past_value, past_byte, past_key}
 use Rattle.sonic_find.proofs.PathLemmas.Outcome.{nowhere_past, evaluates_one, evaluates_some, cut_is_fault, ends_before_end, ends_before_fault, EndsAt}
 use Rattle.sonic_find.proofs.PathLemmas.Rule.{by_named, by_first}
-use Rattle.sonic_find.specs.Internal.Follow.{IsDeadEnd, stops_so, lacks_so, IsDeadNode, LacksNode, IsTried, IsRest}
-use Rattle.sonic_find.specs.Internal.Walk.{IsPathStop, fails_so, cut_so, IsNoEntry}
+use Rattle.sonic_find.specs.Internal.Follow.{IsDeadNode, LacksNode, IsTried, IsRest}
+use Rattle.sonic_find.specs.DeadEnds.{IsPathStop, fails_so, cut_so, IsDeadEnd, stops_so, lacks_so}
+use Rattle.sonic_find.specs.Internal.Walk.{IsNoEntry}
 use Rattle.sonic_find.specs.Paths.{Outcome, lacks, fails, cut, past_end, kind_of, IsNamed, NoneNamed, LeadsOn, LeadsBy, EvaluatesBy, found, LeadsUnder, Leads}
 use Rattle.sonic_find.specs.Paths.EvaluatesBy.{found_here, leads_nowhere, cut_here, cut_before}
 use Rattle.sonic_pointer.specs.declared.node.PointerNode.{PointerNode}
@@ -30,7 +31,7 @@ use Rattle.sonic_text.proofs.Stops.{fault_within}
 use Rattle.sonic_text.proofs.Within.{value_within}
 use Rattle.sonic_find.proofs.SeparatorLemmas.{item_goes_on, member_has_key}
 use Rattle.sonic_text.proofs.Insides.{item_whole}
-use Rattle.sonic_find.specs.Internal.Steps.{HasWhole}
+use Rattle.sonic_find.specs.Cursors.{HasWhole}
 use Rattle.std.proofs.Math.Seq.{take-length}
 use Rattle.sonic_parser.specs.Containers.{GoesOn, IsEnd, IsSeparated, IsSeparatorFault}
 use Rattle.sonic_text.proofs.Items.{head_never_both, closing_no_comma}

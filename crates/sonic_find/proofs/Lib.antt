@@ -24,5 +24,5 @@ pub mod UncheckedLemmas
 pub mod Utf8Lemmas
 -- Which children were visited, as the bits of a word say it.
 pub mod VisitLemmas
--- The steps of a walk, a file for each.
+-- The turns of a walk, a file for each.
 pub mod WalkLemmas

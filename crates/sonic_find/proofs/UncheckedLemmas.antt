@@ -9,7 +9,7 @@ use Rattle.sonic_find.proofs.GetLemmas.{found_alone, dead_answer, dead_within, n
 use Rattle.sonic_find.proofs.Utf8Lemmas.{utf8_of_span}
 use Rattle.sonic_find.specs.Answers.{spans, IsGetAnswer}
 use Rattle.sonic_find.specs.Causes.{IsGetError}
-use Rattle.sonic_find.specs.Internal.Follow.{IsDeadEnd}
+use Rattle.sonic_find.specs.DeadEnds.{IsDeadEnd}
 use Rattle.sonic_find.specs.Paths.{found, Leads, LeadsUnder}
 use Rattle.sonic_find.specs.Parts.{IsPart}
 use Rattle.sonic_find.specs.Spans.{IsSureFinding}

@@ -1,4 +1,4 @@
--- What the steps of a walk rest on, by the clauses of specs/Internal/Walk.antt.
+-- What the turns of a walk rest on, by the clauses of specs/Internal/Walk.antt.
 -- lists in which places are set
 pub mod List
 -- the paths with a prefix, and which of them are settled

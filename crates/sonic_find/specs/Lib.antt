@@ -1,5 +1,7 @@
 pub mod Answers
 pub mod Causes
+pub mod Cursors
+pub mod DeadEnds
 pub mod Documents
 pub mod FirstPaths
 pub mod Found

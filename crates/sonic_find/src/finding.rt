@@ -11,10 +11,10 @@ ghost use Rattle.sonic_find.specs.Found.{slot_at};
 ghost use Rattle.sonic_find.specs.Spans.{IsFinding, IsSureFinding, pairs_of};
 
 use crate::answer::locate_many;
+use crate::cursor::Cursor;
 use crate::many_unchecked::clear;
 use crate::path::{locate, locate_from};
 use crate::span::Span;
-use crate::steps::Steps;
 use sonic_error::{Error, ErrorCode};
 use sonic_input::{JsonInput, Read};
 use sonic_parser::ValueSpan;
@@ -53,8 +53,8 @@ pub fn find_unchecked<'de, I: JsonInput<'de>>(
     ensures { IsSureFinding (I.JsonInput.content json) I.JsonInput.is_bytes (path_of path.now) result }
 {
     let text = json.to_u8_slice();
-    let mut steps = Steps::unchecked(Read::unscanned(json.to_json_slice()));
-    match locate(&mut steps, path) {
+    let mut cursor = Cursor::unchecked(Read::unscanned(json.to_json_slice()));
+    match locate(&mut cursor, path) {
         Ok(ValueSpan { start, end, .. }) => Ok(Span { start, end }),
         Err(fault) => Err(fault.error(text)),
     }

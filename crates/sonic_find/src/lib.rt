@@ -9,7 +9,10 @@ mod document;
 // Where paths lead in an input, as spans of it.
 mod finding;
 // Objects in which another member than the first may count.
-mod gathered;
+mod provisional;
+// What the crates above need, and no user of this one.
+#[doc(hidden)]
+pub mod internal;
 // The laws of outcomes, answers and documents.
 mod law;
 // Where many paths lead in an input that is known to begin with a value.
@@ -18,14 +21,14 @@ mod many_unchecked;
 mod marks;
 // Where one path leads in a text.
 mod path;
-// What many paths find in many texts, in room that is used again.
-mod room;
+// What many paths find in many texts, in buffers that are used again.
+mod buffers;
 // A part of an input.
 mod span;
 // What a walk has come to.
 mod state;
-// The steps of a walk through a text.
-mod steps;
+// The cursor of a walk through a text.
+mod cursor;
 // Whether the bytes of a text are UTF-8.
 mod utf8;
 // Which children of a prefix of the tree were visited.
@@ -33,8 +36,8 @@ mod visited;
 // One walk that finds what all paths of a tree lead to.
 mod walk;
 
-pub use answer::locate_many;
-pub use document::{pass_alone, validate};
+pub use buffers::{WalkBuffers, find_many_by};
+pub use document::validate;
 pub use finding::{find, find_many, find_unchecked};
 pub use law::{
     a_cut_is_the_root_fault, a_path_goes_on_in_its_value, document_is_valid_or_has_one_reason,
@@ -42,9 +45,5 @@ pub use law::{
     outcomes_come_before_the_fault, path_has_one_answer, path_has_one_outcome,
     paths_have_one_answer, refuse_agrees_with_each_rule,
 };
-pub use many_unchecked::{find_many_unchecked, value_span};
-pub use path::{locate, locate_from};
-pub use room::{Room, fill_room, find_many_by};
+pub use many_unchecked::find_many_unchecked;
 pub use span::Span;
-pub use steps::Steps;
-pub use utf8::check;

@@ -10,19 +10,20 @@ ghost use Rattle.sonic_pointer.specs.Nodes.{node_of};
 ghost use Rattle.sonic_pointer.specs.Paths.{IsChildren};
 ghost use Rattle.sonic_find.specs.Answers.{IsAnswer, Answer};
 ghost use Rattle.sonic_find.specs.Causes.{IsAnswerable, IsAnswerError};
-ghost use Rattle.sonic_find.specs.Internal.Fill.{filling_at, origin_at, IsFuller, AllSlots, NodeSlots, IsFillBegun};
+ghost use Rattle.sonic_find.specs.Internal.Collected.{AllCollected, NodeCollected, IsFailBelow};
+ghost use Rattle.sonic_find.specs.Internal.Fill.{origin_at, found_in, settled_in};
 ghost use Rattle.sonic_find.specs.Internal.Follow.{IsDeadNode, LacksNode};
 ghost use Rattle.sonic_parser.specs.ValueSpans.{FlagsEscape};
-ghost use Rattle.sonic_find.specs.Internal.Steps.{HasWhole};
-ghost use Rattle.sonic_find.specs.Internal.Walk.{AreSetTo, IsError};
+ghost use Rattle.sonic_find.specs.Cursors.{HasWhole};
+ghost use Rattle.sonic_find.specs.Internal.Walk.{AreFindings, AreSetTo, ComesTo, IsError, IsLater};
 ghost use Rattle.sonic_find.specs.Paths.{LeadsOn};
 ghost use Rattle.sonic_find.specs.Spans.{pairs_of};
 ghost use Rattle.sonic_pointer.specs.declared.rule.KeyRule.TheVariants.{First};
 
-use crate::gathered::nearer;
+use crate::cursor::Cursor;
 use crate::path::lead_on;
+use crate::provisional::nearer;
 use crate::span::Span;
-use crate::steps::Steps;
 use sonic_error::Error;
 use sonic_input::{JsonInput, JsonSlice, Read};
 use sonic_parser::{Fault, Parser, ValueSpan};
@@ -58,6 +59,7 @@ impl<'de> Origin<'de> {
     }
 
     // Where the value is.
+    #[inline(never)]
     fn span(self) -> ValueSpan
         requires { HasWhole self.text.now self.place }
         ensures start { result.start ≡ self.entry.place }
@@ -67,7 +69,9 @@ impl<'de> Origin<'de> {
         Parser::new(self.read()).skip_value_unchecked()
     }
 
-    // The value of the first item that the node names, if there is one.
+    // The value of the first item that the node names, if there is one. Out of line it takes none of the
+    // stack that `fill` holds for each prefix.
+    #[inline(never)]
     fn child(self, node: &PointerNode<'_>) -> Result<Option<Origin<'de>>, Stop>
         requires { HasWhole self.text.now self.place }
         ensures text { IfOk result (λ child. IfSome child (λ x. x.text.now ≡ self.entry.text.now)) }
@@ -77,10 +81,10 @@ impl<'de> Origin<'de> {
             × LacksNode First self.entry.text.now self.entry.place (node_of node.now) q)) }
         ensures err { IfErr result (IsDeadNode First self.entry.text.now self.entry.place (node_of node.now)) }
     {
-        let mut steps = Steps::unchecked(self.read());
-        match lead_on(&mut steps, node) {
+        let mut cursor = Cursor::unchecked(self.read());
+        match lead_on(&mut cursor, node) {
             Ok(true) => {
-                let place = steps.place();
+                let place = cursor.place();
                 Ok(Some(Origin { place, ..self }))
             }
             Ok(false) => Ok(None),
@@ -100,52 +104,56 @@ fn keep(slots: &mut [Option<Span>], orders: &[usize], span: Span)
     }
 }
 
-// Fills the slots of the paths that begin with the prefix of the view, which leads to the value.
+// Fills the slots of the paths that begin with the prefix of the view, which leads to the value: the
+// nearest stop of those that fail.
 #[cycle(fill)]
-fn fill(
-    origin: Origin<'_>,
-    view: &TreeView<'_>,
-    slots: &mut [Option<Span>],
-    nearest: &mut Option<Stop>,
-)
-    requires { IsFillBegun (origin_at origin view.now) (filling_at slots.old nearest.old) }
-    ensures fuller { IsFuller First origin.entry.text.now view.now.paths (filling_at slots.old nearest.old)
-        (filling_at slots.new nearest.new) }
-    ensures all { AllSlots (origin_at origin.entry view.now) (filling_at slots.new nearest.new) }
+fn fill(origin: Origin<'_>, view: &TreeView<'_>, slots: &mut [Option<Span>]) -> Option<Stop>
+    requires whole { HasWhole origin.text.now origin.place }
+    requires comes { ComesTo (origin_at origin view.now) }
+    requires findings { AreFindings First origin.text.now view.now.paths (found_in slots.old) }
+    ensures later { IsLater First origin.entry.text.now view.now.paths (found_in slots.old)
+        (found_in slots.new) }
+    ensures fails { IfSome result (IsFailBelow (origin_at origin.entry view.now)) }
+    ensures all { AllCollected (origin_at origin.entry view.now) (settled_in slots.new) result }
 {
+    let mut nearest = None;
     for i in 0..view.count() {
-        fill_child(origin, view, i, slots, nearest);
+        let stop = fill_child(origin, view, i, slots);
+        nearest = nearer(nearest, stop);
     }
     let orders = view.orders();
     if orders.is_empty() {
-        return;
+        return nearest;
     }
     let ValueSpan { start, end, .. } = origin.span();
     keep(slots, orders, Span { start, end });
+    nearest
 }
 
-// Fills those of the paths that go on by one node.
+// The same for those of the paths that go on by the view's child of this number.
 #[cycle(fill)]
 fn fill_child(
     origin: Origin<'_>,
     view: &TreeView<'_>,
     i: usize,
     slots: &mut [Option<Span>],
-    nearest: &mut Option<Stop>,
-)
+) -> Option<Stop>
     requires child { i < length view.now.children }
     requires children { IsChildren view.now.paths view.now.prefix view.now.children }
-    requires begun { IsFillBegun (origin_at origin view.now) (filling_at slots.old nearest.old) }
-    ensures fuller { IsFuller First origin.entry.text.now view.now.paths (filling_at slots.old nearest.old)
-        (filling_at slots.new nearest.new) }
+    requires whole { HasWhole origin.text.now origin.place }
+    requires comes { ComesTo (origin_at origin view.now) }
+    requires findings { AreFindings First origin.text.now view.now.paths (found_in slots.old) }
+    ensures later { IsLater First origin.entry.text.now view.now.paths (found_in slots.old)
+        (found_in slots.new) }
+    ensures fails { IfSome result (IsFailBelow (origin_at origin.entry view.now)) }
     ensures all { (node : Node) → slice_get view.now.children i ≡ Some node
-        → NodeSlots (origin_at origin.entry view.now) (filling_at slots.new nearest.new) node }
+        → NodeCollected (origin_at origin.entry view.now) (settled_in slots.new) result node }
 {
     let (node, below) = view.child(i);
     match origin.child(&node) {
-        Ok(Some(child)) => fill(child, &below, slots, nearest),
-        Ok(None) => {}
-        Err(stop) => *nearest = nearer(*nearest, Some(stop)),
+        Ok(Some(child)) => fill(child, &below, slots),
+        Ok(None) => None,
+        Err(stop) => Some(stop),
     }
 }
 
@@ -165,9 +173,7 @@ fn fill_all(text: &[u8], tree: &PointerTree, slots: &mut [Option<Span>]) -> Opti
     ensures some { IfSome result (λ s. (is_bytes : Bool) → IsError First text.now is_bytes tree.now s) }
     ensures long { length slots.new ≡ length slots.old }
 {
-    let mut nearest = None;
-    fill(Origin::root(text), &tree.view(), slots, &mut nearest);
-    nearest
+    fill(Origin::root(text), &tree.view(), slots)
 }
 
 /// The spans of the values to which the paths of a tree lead, without memory, in an input that

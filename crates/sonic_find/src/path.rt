@@ -8,13 +8,13 @@ ghost use Rattle.sonic_pointer.specs.Nodes.{node_of, path_of};
 ghost use Rattle.sonic_parser.specs.Faults.{IsStopFor};
 ghost use Rattle.sonic_parser.specs.ValueSpans.{FlagsEscape};
 ghost use Rattle.sonic_find.specs.Answers.{Answer, IsGetAnswer};
-ghost use Rattle.sonic_find.specs.Internal.Follow.{IsDeadEnd, IsDeadNode, LacksNode, IsTried, IsRest};
-ghost use Rattle.sonic_find.specs.Internal.Steps.{IsAtKey, IsSkippable};
-ghost use Rattle.sonic_find.specs.Internal.Walk.{IsPathStop};
+ghost use Rattle.sonic_find.specs.Internal.Follow.{IsDeadNode, LacksNode, IsTried, IsRest};
+ghost use Rattle.sonic_find.specs.DeadEnds.{IsPathStop, IsDeadEnd};
+ghost use Rattle.sonic_find.specs.Cursors.{IsAtKey, IsSkippable};
 ghost use Rattle.sonic_find.specs.Paths.{found, lacks, kind_of, Evaluates, LeadsOn};
 ghost use Rattle.sonic_pointer.specs.declared.rule.KeyRule.TheVariants.{First};
 
-use crate::steps::Steps;
+use crate::cursor::Cursor;
 use sonic_error::ErrorCode;
 use sonic_input::Read;
 use sonic_parser::{Fault, ValueSpan};
@@ -22,29 +22,29 @@ use sonic_pointer::PointerNode;
 use sonic_text::{Kind, Stop, same_key};
 use std::alloc::Global;
 
-/// Where the value is to which a path leads from the value at the cursor of the steps.
+/// Where the value is to which a path leads from the value at the cursor.
 ///
-/// The steps are then after that value. Else the stop is where it leads nowhere, or the fault of the
-/// text before that. Steps that look at nothing take no memory, and give no `Fault::OutOfMemory`.
+/// The cursor is then after that value. Else the stop is where it leads nowhere, or the fault of the
+/// text before that. A cursor that looks at nothing takes no memory, and gives no `Fault::OutOfMemory`.
 /// Over `[5,{"a":7}]` the path `[1, "a"]` leads to the `7`, from 8 to 9.
-pub fn locate(steps: &mut Steps<'_>, path: &[PointerNode<'_>]) -> Result<ValueSpan, Fault>
-    requires { IsSkippable steps.old }
+pub fn locate(cursor: &mut Cursor<'_>, path: &[PointerNode<'_>]) -> Result<ValueSpan, Fault>
+    requires { IsSkippable cursor.old }
     ensures ok { IfOk result (λ x.
-        Evaluates steps.old.text steps.old.place (path_of path.now) (found x.start x.end)) }
-    ensures value { IfOk result (λ x. IsValue strict steps.old.text x.start x.end) }
-    ensures escaped { IfOk result (FlagsEscape steps.old.text) }
-    ensures end { IfOk result (λ x. steps.new.place ≡ x.end) }
-    ensures moved { steps.new ≡ record steps.old { place = steps.new.place } }
-    ensures err { IfErr result (IsStopFor (IsDeadEnd First steps.old.text steps.old.place
+        Evaluates cursor.old.text cursor.old.place (path_of path.now) (found x.start x.end)) }
+    ensures value { IfOk result (λ x. IsValue strict cursor.old.text x.start x.end) }
+    ensures escaped { IfOk result (FlagsEscape cursor.old.text) }
+    ensures end { IfOk result (λ x. cursor.new.place ≡ x.end) }
+    ensures moved { cursor.new ≡ record cursor.old { place = cursor.new.place } }
+    ensures err { IfErr result (IsStopFor (IsDeadEnd First cursor.old.text cursor.old.place
         (path_of path.now))) }
-    ensures memory { IsErrOf result Fault.OutOfMemory → IsTrue steps.old.checks }
+    ensures memory { IsErrOf result Fault.OutOfMemory → IsTrue cursor.old.checks }
 {
-    if !follow(steps, path)? {
-        let place = steps.place() - 1;
+    if !follow(cursor, path)? {
+        let place = cursor.place() - 1;
         let code = ErrorCode::GetUnknownKeyInObject;
         return Err(Fault::At(Stop { place, code }));
     }
-    steps.skip()
+    cursor.skip()
 }
 
 /// Where the value is to which a path leads from the start of a text, up to whose end this is UTF-8,
@@ -70,30 +70,30 @@ pub fn locate_from(
     ensures err { IfErr result (IsStopFor (λ s.
         IsGetAnswer read.entry.text is_bytes (path_of path.now) (Answer.error s))) }
 {
-    let mut steps = Steps::new(read, Some(alloc), is_bytes);
-    let found = locate(&mut steps, path)?;
+    let mut cursor = Cursor::new(read, Some(alloc), is_bytes);
+    let found = locate(&mut cursor, path)?;
     if is_bytes {
-        steps.check_utf8(found.end)?;
+        cursor.check_utf8(found.end)?;
     }
     Ok(found)
 }
 
 // Follows a path from the value at the cursor: up to the value to which it leads, or after the
 // closing brace of the object that lacks its key.
-fn follow(steps: &mut Steps<'_>, path: &[PointerNode<'_>]) -> Result<bool, Fault>
-    requires { IsSkippable steps.old }
+fn follow(cursor: &mut Cursor<'_>, path: &[PointerNode<'_>]) -> Result<bool, Fault>
+    requires { IsSkippable cursor.old }
     ensures leads { IfOk result (λ on. IsTrue on
-        → IsRest First steps.old.text steps.old.place (path_of path.now) steps.new.place []) }
-    ensures skippable { IfOk result (λ on. IsTrue on → IsSkippable steps.new) }
-    ensures lacks { IfOk result (λ on. IsFalse on → (0 < steps.new.place)
-        × Evaluates steps.old.text steps.old.place (path_of path.now) (lacks (steps.new.place - 1))) }
-    ensures moved { steps.new ≡ record steps.old { place = steps.new.place } }
-    ensures err { IfErr result (IsStopFor (IsPathStop First steps.old.text steps.old.place
+        → IsRest First cursor.old.text cursor.old.place (path_of path.now) cursor.new.place []) }
+    ensures skippable { IfOk result (λ on. IsTrue on → IsSkippable cursor.new) }
+    ensures lacks { IfOk result (λ on. IsFalse on → (0 < cursor.new.place)
+        × Evaluates cursor.old.text cursor.old.place (path_of path.now) (lacks (cursor.new.place - 1))) }
+    ensures moved { cursor.new ≡ record cursor.old { place = cursor.new.place } }
+    ensures err { IfErr result (IsStopFor (IsPathStop First cursor.old.text cursor.old.place
         (path_of path.now))) }
-    ensures memory { IsErrOf result Fault.OutOfMemory → IsTrue steps.old.checks }
+    ensures memory { IsErrOf result Fault.OutOfMemory → IsTrue cursor.old.checks }
 {
     for node in path {
-        if !lead_on(steps, node)? {
+        if !lead_on(cursor, node)? {
             return Ok(false);
         }
     }
@@ -102,26 +102,26 @@ fn follow(steps: &mut Steps<'_>, path: &[PointerNode<'_>]) -> Result<bool, Fault
 
 // Goes from the value at the cursor to the first item that the node names, up to its value: whether
 // there is one. If an object with members has none, the cursor is after its closing brace.
-pub(crate) fn lead_on(steps: &mut Steps<'_>, node: &PointerNode<'_>) -> Result<bool, Fault>
-    requires { IsSkippable steps.old }
+pub(crate) fn lead_on(cursor: &mut Cursor<'_>, node: &PointerNode<'_>) -> Result<bool, Fault>
+    requires { IsSkippable cursor.old }
     ensures leads { IfOk result (λ on. IsTrue on
-        → LeadsOn steps.old.text steps.old.place (node_of node.now) steps.new.place) }
-    ensures lacks { IfOk result (λ on. IsFalse on → (0 < steps.new.place)
-        × LacksNode First steps.old.text steps.old.place (node_of node.now) (steps.new.place - 1)) }
-    ensures moved { steps.new ≡ record steps.old { place = steps.new.place } }
-    ensures err { IfErr result (IsStopFor (IsDeadNode First steps.old.text steps.old.place
+        → LeadsOn cursor.old.text cursor.old.place (node_of node.now) cursor.new.place) }
+    ensures lacks { IfOk result (λ on. IsFalse on → (0 < cursor.new.place)
+        × LacksNode First cursor.old.text cursor.old.place (node_of node.now) (cursor.new.place - 1)) }
+    ensures moved { cursor.new ≡ record cursor.old { place = cursor.new.place } }
+    ensures err { IfErr result (IsStopFor (IsDeadNode First cursor.old.text cursor.old.place
         (node_of node.now))) }
-    ensures memory { IsErrOf result Fault.OutOfMemory → IsTrue steps.old.checks }
+    ensures memory { IsErrOf result Fault.OutOfMemory → IsTrue cursor.old.checks }
 {
     let kind = kind_of_node(node);
-    steps.enter(kind)?;
+    cursor.enter_or_explain(kind)?;
     let mut passed = 0;
     'items: loop {
-        if try_item(steps, node, passed)? {
+        if try_item(cursor, node, passed)? {
             return Ok(true);
         }
-        steps.skip()?;
-        if !steps.next_item(kind)? {
+        cursor.skip()?;
+        if !cursor.next_item(kind)? {
             break 'items;
         }
         passed += 1;
@@ -129,7 +129,7 @@ pub(crate) fn lead_on(steps: &mut Steps<'_>, node: &PointerNode<'_>) -> Result<b
     match kind {
         Kind::Object => Ok(false),
         Kind::Array => {
-            let place = steps.place() - 1;
+            let place = cursor.place() - 1;
             let code = ErrorCode::GetIndexOutOfArray;
             Err(Fault::At(Stop { place, code }))
         }
@@ -147,19 +147,19 @@ pub(crate) fn kind_of_node(node: &PointerNode<'_>) -> Kind
 }
 
 // Passes what comes before the value of the item at the cursor: whether the node names it.
-fn try_item(steps: &mut Steps<'_>, node: &PointerNode<'_>, passed: usize) -> Result<bool, Stop>
-    requires { kind_of (node_of node.now) ≡ Kind.Object → IsAtKey steps.old }
-    ensures item { IfOk result (IsTried steps.old.text (node_of node.now) passed steps.old.place
-        steps.new.place) }
-    ensures moved { steps.new ≡ record steps.old { place = steps.new.place } }
-    ensures later { OnOk result (steps.old.place ≤ steps.new.place) }
+fn try_item(cursor: &mut Cursor<'_>, node: &PointerNode<'_>, passed: usize) -> Result<bool, Stop>
+    requires { kind_of (node_of node.now) ≡ Kind.Object → IsAtKey cursor.old }
+    ensures item { IfOk result (IsTried cursor.old.text (node_of node.now) passed cursor.old.place
+        cursor.new.place) }
+    ensures moved { cursor.new ≡ record cursor.old { place = cursor.new.place } }
+    ensures later { OnOk result (cursor.old.place ≤ cursor.new.place) }
     ensures err { IfErr result (λ s. (kind_of (node_of node.now) ≡ Kind.Object)
-        × IsKeyFault strict steps.old.text steps.old.place s) }
+        × IsKeyFault strict cursor.old.text cursor.old.place s) }
 {
     match node {
         PointerNode::Key(text) => {
-            let key = steps.key()?;
-            Ok(same_key(steps.text(), key.start, key.end, *text))
+            let key = cursor.key()?;
+            Ok(same_key(cursor.text(), key.start, key.end, *text))
         }
         PointerNode::Index(number) => Ok(passed == *number),
     }

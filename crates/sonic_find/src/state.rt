@@ -13,8 +13,8 @@ ghost use Rattle.sonic_parser.specs.ValueSpans.{FlagsEscape, IsKeyAt};
 ghost use Rattle.sonic_find.specs.Found.{FlagEscapes, span_at, spans_of};
 ghost use Rattle.sonic_find.specs.Internal.Walk.{IsNoEntry, AreSetTo};
 
+use crate::cursor::Cursor;
 use crate::marks::Mark;
-use crate::steps::Steps;
 use sonic_input::Read;
 use sonic_parser::{Fault, ValueSpan};
 use sonic_pointer::KeyRule;
@@ -22,11 +22,11 @@ use sonic_text::{Kind, Stop};
 use std::alloc::{AllocError, Global};
 use std::marker::Model;
 
-// The steps of a walk, and what its paths have found so far.
+// The cursor of a walk, and what its paths have found so far.
 #[derive(Drop)]
 pub(crate) struct Walk<'de> {
     alloc: Global,
-    steps: Steps<'de>,
+    cursor: Cursor<'de>,
     // The value that each path found.
     spans: Vec<Option<ValueSpan>>,
     // Whether some path lacks its key.
@@ -38,13 +38,13 @@ pub(crate) struct Walk<'de> {
 }
 
 impl<'de> Model for Walk<'de> {
-    ghost use Rattle.sonic_find.specs.Internal.Walk.{Walking};
+    ghost use Rattle.sonic_find.specs.Internal.Walk.{WalkState};
 
-    ghost Value = { Walking };
+    ghost Value = { WalkState };
 
-    ghost use Rattle.sonic_find.specs.Internal.View.{walking_of, IsWalk};
+    ghost use Rattle.sonic_find.specs.Internal.View.{walk_state_of, IsWalk};
 
-    ghost view = { walking_of };
+    ghost view = { walk_state_of };
 
     ghost invariant = { IsWalk };
 }
@@ -71,12 +71,12 @@ impl<'de> Walk<'de> {
         ensures unmarked { IfOk result (λ walk. (n : ℕ) (m : Mark)
             → slice_get walk.marks n ≡ Some m → m.value.start ≡ 0) }
     {
-        let steps = Steps::checked(alloc, read);
+        let cursor = Cursor::checked(alloc, read);
         let lacking = false;
         let marks = marks(alloc, rule, prefixes)?;
         Ok(Walk {
             alloc,
-            steps,
+            cursor,
             spans,
             lacking,
             rule,
@@ -88,7 +88,7 @@ impl<'de> Walk<'de> {
     pub(crate) fn swap_memory(&mut self, opened: &mut Option<Vec<Kind>>)
         ensures { self.new ≡ self.old }
     {
-        self.steps.swap_memory(opened);
+        self.cursor.swap_memory(opened);
     }
 
     // Whether a container of this kind has to be whole before a node leads on in it.
@@ -134,14 +134,14 @@ impl<'de> Walk<'de> {
         ensures place { result ≡ self.now.place }
         ensures inside { result ≤ length self.now.text }
     {
-        self.steps.place()
+        self.cursor.place()
     }
 
     // The whole text.
     pub(crate) fn text(&self) -> &'de [u8]
         ensures { result.now ≡ self.now.text }
     {
-        self.steps.text()
+        self.cursor.text()
     }
 
     // The allocator that its memory comes from.
@@ -165,23 +165,23 @@ impl<'de> Walk<'de> {
         ensures moved { OnOk result (self.new ≡ record self.old { place = self.new.place }) }
         ensures err { IfErr result (IsStopFor (λ s. IsFault strict self.old.text self.old.place s)) }
     {
-        self.steps.skip()
+        self.cursor.skip()
     }
 
     // Enters the container of this kind at the cursor, up to its first item.
     #[inline(always)]
-    pub(crate) fn enter(&mut self, kind: Kind) -> Result<(), Fault>
+    pub(crate) fn enter_or_explain(&mut self, kind: Kind) -> Result<(), Fault>
         ensures ok { OnOk result (ItemsFit strict self.old.text kind self.old.place 0 self.new.place) }
         ensures moved { OnOk result (self.new ≡ record self.old { place = self.new.place }) }
         ensures err { IfErr result (IsStopFor (IsNoEntry self.old.text self.old.place kind)) }
     {
-        self.steps.enter(kind)
+        self.cursor.enter_or_explain(kind)
     }
 
     // Goes past the bracket of the container of this kind at the cursor: whether an item is expected,
     // at which the cursor then is, or after the closing bracket.
     #[inline(always)]
-    pub(crate) fn open(&mut self, kind: Kind) -> bool
+    pub(crate) fn enter(&mut self, kind: Kind) -> bool
         requires { byte self.old.text self.old.place ≡ opening kind }
         ensures item { IsTrue result
             → ItemsFit strict self.old.text kind self.old.place 0 self.new.place }
@@ -189,7 +189,7 @@ impl<'de> Walk<'de> {
             → IsEnd self.old.text kind (self.old.place + 1) self.new.place }
         ensures moved { self.new ≡ record self.old { place = self.new.place } }
     {
-        self.steps.open(kind)
+        self.cursor.enter(kind)
     }
 
     // Goes on after an item of a container of this kind: whether another one comes.
@@ -203,7 +203,7 @@ impl<'de> Walk<'de> {
         ensures fits { OnOk result (self.new.place < 2 ^ 64) }
         ensures err { IfErr result (λ s. IsSeparatorFault self.old.text kind self.old.place s) }
     {
-        self.steps.next_item(kind)
+        self.cursor.next_item(kind)
     }
 
     // Passes the key at the cursor, up to the member's value, and gives where the key is.
@@ -213,7 +213,7 @@ impl<'de> Walk<'de> {
         ensures moved { self.new ≡ record self.old { place = self.new.place } }
         ensures err { IfErr result (λ s. IsKeyFault strict self.old.text self.old.place s) }
     {
-        self.steps.key()
+        self.cursor.key()
     }
 
     // Keeps a value for the paths of these numbers.
@@ -246,7 +246,7 @@ impl<'de> Walk<'de> {
         ensures spans { spans_of result.items ≡ self.entry.findings.spans }
         ensures escaped { FlagEscapes self.entry.text result.items }
     {
-        let Walk { spans, steps, .. } = self;
+        let Walk { spans, cursor, .. } = self;
         spans
     }
 }

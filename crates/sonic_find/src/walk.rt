@@ -12,7 +12,7 @@ ghost use Rattle.sonic_find.specs.Internal.Walk.{IsStop, ComesTo, AreFindings, I
 ghost use Rattle.sonic_find.specs.Internal.Marks.{KeepsMarks};
 ghost use Rattle.sonic_find.specs.Internal.View.{point_at, container_at, marking_at, progress_at, progress_of, NoneBefore};
 
-use crate::gathered::follow_whole;
+use crate::provisional::follow_whole;
 use crate::state::Walk;
 use crate::visited::Visited;
 use sonic_error::ErrorCode;
@@ -140,7 +140,7 @@ fn items(walk: &mut Walk<'_>, level: &Level<'_, '_>) -> Result<bool, Fault>
     ensures rule { OnOk result (walk.new.rule ≡ walk.old.rule) }
     ensures err { IfErr result (IsStopFor (IsStop (container_at walk.old level.now).point level.now.needs)) }
 {
-    walk.enter(level.kind)?;
+    walk.enter_or_explain(level.kind)?;
     let mut visited = Visited::new(walk.alloc(), level.view.count())?;
     let mut passed = 0;
     let mut next_child = 0;

@@ -14,13 +14,13 @@ use Rattle.sonic_text.specs.Documents.{IsRootFault}
 use Rattle.sonic_text.specs.Faults.{IsFault, IsKeyFault}
 use Rattle.sonic_text.proofs.Items.{opening_one}
 use Rattle.sonic_text.proofs.Values.{items_open}
-use Rattle.sonic_parser.specs.declared.container.Next.TheVariants.{Item, End}
+use Rattle.sonic_parser.specs.declared.container.AfterItem.TheVariants.{Item, End}
 use Rattle.sonic_parser.specs.declared.parts.ValueAt.TheVariants.{Ends}
 use Rattle.sonic_parser.specs.Containers.{IsSeparatorFault}
 use Rattle.sonic_parser.specs.OpenContainers.{here, IsItemEnded, IsTop}
 use Rattle.sonic_parser.specs.Parts.{IsAfterValue, IsItem, IsValueAt}
 use Rattle.sonic_parser.proofs.DescentLemmas.{entered_at, head_at, nested_begins, separated_at}
-use Rattle.sonic_parser.proofs.SkippingLemmas.{added_top, closed_all, closed_more, fault_after, fault_item, fault_up, last_ended, IsClosed}
+use Rattle.sonic_parser.proofs.SkippingLemmas.{added_top, closed_all, closed_more, fault_after, fault_item, fault_up, last_ended}
 use Rattle.sonic_find.specs.Documents.{IsAfterRoot}
 use Rattle.sonic_index.specs.declared.build.At.{At}
 use Rattle.sonic_index.specs.declared.build.Item.{Item as ItemOf}

@@ -19,11 +19,12 @@ use crate::cell::Cell;
 use crate::members::WIDE;
 use crate::room::room;
 use sonic_error::ErrorCode;
-use sonic_find::check;
+use sonic_find::internal::check;
 use sonic_input::Read;
-use sonic_parser::{
-    Fault, Next, ValueAt, after_comma, item_at, next_item, opens_nested_array, scalar_end,
-    value_at, value_place,
+use sonic_parser::Fault;
+use sonic_parser::internal::{
+    AfterItem, ValueAt, after_comma, item_at, next_item, opens_nested_array, scalar_end, value_at,
+    value_place,
 };
 use sonic_text::{Kind, Stop, byte_at, skip_space};
 use std::alloc::{AllocError, Global};
@@ -233,13 +234,13 @@ fn item_of(text: &[u8], cells: &[Cell], cell: Cell) -> Item
 // What comes after a value in a container of this kind, where mostly the bracket of an array comes directly
 // behind it.
 #[inline(always)]
-fn after_value(text: &[u8], end: usize, kind: Kind) -> Result<Next, Stop>
+fn after_value(text: &[u8], end: usize, kind: Kind) -> Result<AfterItem, Stop>
     requires { end ≤ length text.now }
     ensures ok { IfOk result (λ next. IsAfterValue text.now kind end next) }
     ensures err { IfErr result (λ s. IsSeparatorFault text.now kind end s) }
 {
     if kind == Kind::Array && byte_at(text, end) == b']' {
-        return Ok(Next::End(end + 1));
+        return Ok(AfterItem::End(end + 1));
     }
     next_item(text, end, kind)
 }
@@ -256,8 +257,8 @@ fn leave(text: &[u8], written: &mut Written, at: At) -> Result<Left, Stop>
     let mut at = at;
     'containers: loop {
         let end = match after_value(text, at.place, at.item.kind)? {
-            Next::Item(place) => return Ok(at.item.next_at(place)),
-            Next::End(end) => end,
+            AfterItem::Item(place) => return Ok(at.item.next_at(place)),
+            AfterItem::End(end) => end,
         };
         let cell = written.end(at.item, end);
         if at.item.parent == 0 {

@@ -7,7 +7,8 @@ ghost use Rattle.sonic_index.specs.Internal.Items.{GoesNowhere, GoesTo};
 ghost use Rattle.sonic_index.specs.Internal.Members.{compare_key_of, AreCollected, AreJoined, AreLinked, AreOrdered, IsFirstMember, IsMember, IsPlaceFor, IsWide};
 
 use crate::cell::Cell;
-use sonic_text::{byte_at, compare_key, string_end, unescape_into};
+use sonic_text::internal::compare_key;
+use sonic_text::{byte_at, string_end, unescape_into};
 use std::alloc::{AllocError, Global};
 use std::cmp::Ordering;
 

@@ -1,3 +1,3 @@
-pub mod Cursors
 pub mod Internal
+pub mod ReadStates
 pub mod Slices

@@ -3,7 +3,7 @@ ghost use Rattle.std.specs.Prelude.{◌≡◌, ◌≢◌, ◌+◌, ◌-◌, ◌<
 ghost use Rattle.std.specs.Option.{SomeIff};
 ghost use Rattle.std.specs.Str.{IsUtf8};
 ghost use Rattle.sonic_error.specs.Errors.{IsErrorAt};
-ghost use Rattle.sonic_input.specs.Cursors.{IsNextInvalid, no_invalid};
+ghost use Rattle.sonic_input.specs.ReadStates.{IsNextInvalid, no_invalid};
 
 use crate::input::JsonInput;
 use crate::slice::JsonSlice;
@@ -35,13 +35,13 @@ pub struct Read<'de> {
 }
 
 impl<'de> Model for Read<'de> {
-    ghost use Rattle.sonic_input.specs.Cursors.{Cursor};
+    ghost use Rattle.sonic_input.specs.ReadStates.{ReadState};
 
-    ghost Value = { Cursor };
+    ghost Value = { ReadState };
 
-    ghost use Rattle.sonic_input.specs.Internal.Reads.{cursor_of, IsSoundRead};
+    ghost use Rattle.sonic_input.specs.Internal.Reads.{read_state_of, IsSoundRead};
 
-    ghost view = { cursor_of };
+    ghost view = { read_state_of };
 
     ghost invariant = { IsSoundRead };
 }

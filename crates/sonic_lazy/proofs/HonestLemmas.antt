@@ -14,9 +14,9 @@ use Rattle.sonic_find.proofs.HonestLemmas.{broken_other, of_other, of_root, othe
 use Rattle.sonic_parser.proofs.HonestLemmas.{honest_of_memory}
 use Rattle.sonic_lazy.specs.Items.AreStopped.{no_container, no_item, no_separator, no_key, no_value}
 use Rattle.sonic_lazy.specs.Items.EndsItems.{at_broken_text, at_bracket, at_stop}
-use Rattle.sonic_lazy.specs.Items.{stop_at, stopped, AreStopped, EndsItems}
+use Rattle.sonic_lazy.specs.Items.{stop_with, stopped, AreStopped, EndsItems}
 use Rattle.sonic_lazy.specs.Iterators.IsNextError.{out_of_memory as ran_out, no_next_item}
-use Rattle.sonic_lazy.specs.Iterators.{Iterating, IsNextError, IsNext, IsOwnCode, IsHonestNext}
+use Rattle.sonic_lazy.specs.Iterators.{IteratorState, IsNextError, IsNext, IsOwnCode, IsHonestNext}
 
 -- why an iterator stops
 of_stopped : {t : List ℕ} {kind : Kind} {n : ℕ} {s : Stop} {e : Error} → AreStopped t kind n s → IsErrorAt e s.code t s.place → ¬ IsOwnCode kind (error_code e)
@@ -31,7 +31,7 @@ of_stopped (no_value r b h f) x other = of_root (in_value r h f) x
 of_ending : {t : List ℕ} {is_bytes : Bool} {kind : Kind} {n : ℕ} {s : Stop} {e : Error} → EndsItems t is_bytes kind n (stopped s) → IsErrorAt e s.code t s.place
     → ¬ IsOwnCode kind (error_code e) → IsHonest strict t 0 e
 of_ending {t} {s = s} (at_broken_text b u n is) x other =
-    let same : s ≡ stop_at (valid_up_to t) InvalidUTF8 = cc in
+    let same : s ≡ stop_with (valid_up_to t) InvalidUTF8 = cc in
     of_other (other_stop same broken_other) x
 of_ending (at_bracket u c is) x other = absurd cc
 of_ending {t} {kind = kind} {n} {s} (at_stop {s = r} u h is) x other =
@@ -39,12 +39,12 @@ of_ending {t} {kind = kind} {n} {s} (at_stop {s = r} u h is) x other =
     let stopped_so : AreStopped t kind n s = rw same at h in
     of_stopped stopped_so x other
 
-pub honest_of_next : {it : Iterating} {e : Error} → IsNextError it e → IsHonestNext it e
+pub honest_of_next : {it : IteratorState} {e : Error} → IsNextError it e → IsHonestNext it e
 honest_of_next (ran_out x m) other = honest_of_memory x
 honest_of_next (no_next_item h x) other = of_ending h x other
 
 -- so is what a call gives
-pub honest_next : {V : Type 0} {Shows : List ℕ → ℕ → V → Type 0} {before now : Iterating} (result : Option (Result V Error)) → IsNext Shows before now result
+pub honest_next : {V : Type 0} {Shows : List ℕ → ℕ → V → Type 0} {before now : IteratorState} (result : Option (Result V Error)) → IsNext Shows before now result
     → IfSome result (λ r. IfErr r (IsHonestNext before))
 honest_next None x = tt
 honest_next (Some (Ok item)) x = tt

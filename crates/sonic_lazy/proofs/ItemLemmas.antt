@@ -9,8 +9,8 @@ use Rattle.std.proofs.lemmas.Bool.Decides.{nat_tests}
 use Rattle.sonic_error.specs.declared.code.ErrorCode.{ErrorCode}
 use Rattle.sonic_parser.specs.ValueSpans.{IsKeyAt}
 use Rattle.sonic_lazy.specs.Internal.Items.{IsAfterItems, before_all, after_last, IsFoundHead, no_key, a_key, IsFound, IsFoundPart, IsKeyOf, IsTextSpan}
-use Rattle.sonic_find.specs.Internal.Steps.{HasWhole}
-use Rattle.sonic_lazy.specs.Items.{ItemsReach, IsItemAt, AreClosed, closed_after, BeginsNoItem, no_quote, text_ends, stop_at, AreStopped, no_container, no_item, no_separator, no_key as key_stops, no_value}
+use Rattle.sonic_find.specs.Cursors.{HasWhole}
+use Rattle.sonic_lazy.specs.Items.{ItemsReach, IsItemAt, AreClosed, closed_after, BeginsNoItem, no_quote, text_ends, stop_with, AreStopped, no_container, no_item, no_separator, no_key as key_stops, no_value}
 use Rattle.sonic_lazy.specs.declared.items.Found.{Found}
 use Rattle.sonic_parser.specs.declared.value_span.ValueSpan.{ValueSpan}
 use Rattle.sonic_find.specs.Parts.{IsPart}
@@ -29,7 +29,7 @@ use Rattle.sonic_text.proofs.Values.{value-longer, head-later}
 use Rattle.sonic_text.proofs.Within.{after_space_within, value_within, items_within}
 use Rattle.sonic_text.specs.Documents.{StartsWithUtf8Value}
 use Rattle.sonic_text.specs.Faults.{IsFault, IsKeyFault, in_key, code_after_item}
-use Rattle.sonic_text.specs.Places.{byte, after_space, bad}
+use Rattle.sonic_text.specs.Places.{byte, after_space, stop_at}
 use Rattle.sonic_text.specs.Strings.{strict, IsString, IsEscapedString}
 use Rattle.sonic_text.specs.Values.{IsKey, ItemHead, no_head, key_head, IsValue, ItemsFit, next_item}
 use Rattle.sonic_text.specs.declared.kind.Kind.{Kind}
@@ -51,16 +51,16 @@ closed_next {t} {kind} {j = j} (after_last {last = last} x e q) l c =
     closed_after x e y.0
 
 -- a place within the text is that of its stop
-bad_place : (t : List ℕ) (p : ℕ) (code : ErrorCode) (s : Stop) → s ≡ bad t p code → p ≤ length t → s.place ≡ p
-bad_place t p code s e l = rw e (grind (arith, nat_tests))
+stop_at_place : (t : List ℕ) (p : ℕ) (code : ErrorCode) (s : Stop) → s ≡ stop_at t p code → p ≤ length t → s.place ≡ p
+stop_at_place t p code s e l = rw e (grind (arith, nat_tests))
 
 -- after neither the items stop
 pub stopped_next : {t : List ℕ} {kind : Kind} {n p : ℕ} {s : Stop} → IsAfterItems t kind n p → 0 < n → IsSeparatorFault t kind p s
-    → AreStopped t kind n (stop_at s.place (code_after_item kind))
+    → AreStopped t kind n (stop_with s.place (code_after_item kind))
 stopped_next (before_all e q) l f = absurd (omega arith)
 stopped_next {t} {kind} {s = s} (after_last {last = last} x e q) l f =
     let y : IsSeparatorFault t kind last.span.1 s = rw q at f in
-    let place = bad_place t (after_space t last.span.1) (code_after_item kind) s y.1 (after_space_within t last.span.1 (value_within x.value)) in
+    let place = stop_at_place t (after_space t last.span.1) (code_after_item kind) s y.1 (after_space_within t last.span.1 (value_within x.value)) in
     no_separator x e y.0 (rw place refl)
 
 -- before the first item of an array none begins at the end of the text alone
@@ -121,7 +121,7 @@ stopped_within (no_value r b y f) = fault_within f
 pub found_item : {t : List ℕ} {kind : Kind} {n : ℕ} {x : Found} → IsFound t kind n x → (label : Option (List ℕ)) × IsItemAt t kind n (record { label = label; span = (x.value.start, x.value.end) })
 found_item f = let y = head_of f.head in (y.0, record { place = f.place; before = f.before; head = y.1; value = f.value })
 
--- the steps have come to its end
+-- the cursor has come to its end
 pub after_found : {t : List ℕ} {kind : Kind} {n p : ℕ} {x : Found} → IsFound t kind n x → p ≡ x.value.end → IsAfterItems t kind (n + 1) p
 after_found f e = after_last (found_item f).1 refl e
 

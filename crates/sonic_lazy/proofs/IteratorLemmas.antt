@@ -11,7 +11,7 @@ use Rattle.sonic_error.specs.declared.error.Error.{Error}
 use Rattle.sonic_lazy.proofs.ItemLemmas.{found_item}
 use Rattle.sonic_lazy.specs.Internal.Items.{IsFoundHead, no_key, a_key, IsFoundPart, IsKeyText}
 use Rattle.sonic_lazy.specs.Items.{Item, ItemsReach, IsItemAt, AreClosed, closed_empty, closed_after, BeginsNoItem, no_quote, text_ends, Ending, stopped, AreStopped, no_container, no_item, no_separator, no_key as key_stops, no_value, EndsItems, at_broken_text, at_bracket, at_stop}
-use Rattle.sonic_lazy.specs.Iterators.{Iterating, IsEscapedKey, ShowsElement, ShowsMember, HasNext, IsNextError, out_of_memory, no_next_item, IsGiven, IsStuck, IsOver, IsNext}
+use Rattle.sonic_lazy.specs.Iterators.{IteratorState, IsEscapedKey, ShowsElement, ShowsMember, HasNext, IsNextError, out_of_memory, no_next_item, IsGiven, IsStuck, IsOver, IsNext}
 use Rattle.sonic_lazy.specs.LazyValues.{raw_bytes}
 use Rattle.sonic_lazy.specs.declared.items.Found.{Found}
 use Rattle.sonic_parser.specs.declared.value_span.ValueSpan.{ValueSpan}
@@ -70,33 +70,33 @@ never_ends utf8 y (at_bracket b c is) = not_closed y c
 never_ends utf8 y (at_stop b s is) = not_stopped y s
 
 -- an item was given
-pub next_given : {V : Type 0} {Shows : List ℕ → ℕ → V → Type 0} {before now : Iterating} {item : V} → IsGiven Shows before now item
+pub next_given : {V : Type 0} {Shows : List ℕ → ℕ → V → Type 0} {before now : IteratorState} {item : V} → IsGiven Shows before now item
     → IsNext Shows before now (Some (Ok item))
 next_given g = record { item = g; error = tt; none = tt; complete = λ _. (refl, tt) }
 
 -- where there is an item, memory alone stops an iterator
-memory_alone : {it : Iterating} {e : Error} → HasNext it → IsNextError it e → IsPlainError e NoMemory
+memory_alone : {it : IteratorState} {e : Error} → HasNext it → IsNextError it e → IsPlainError e NoMemory
 memory_alone has (out_of_memory p m) = p
 memory_alone has (no_next_item ends e) = absurd (never_ends has.utf8 has.is ends)
 
 -- an error was given
-pub next_stuck : {V : Type 0} {Shows : List ℕ → ℕ → V → Type 0} {before now : Iterating} {e : Error} → IsStuck before now e
+pub next_stuck : {V : Type 0} {Shows : List ℕ → ℕ → V → Type 0} {before now : IteratorState} {e : Error} → IsStuck before now e
     → IsNext Shows before now (Some (Err e))
 next_stuck x = record { item = tt; error = x; none = tt; complete = λ has. (refl, memory_alone has x.error) }
 
 -- an iterator that is over has no next item
-over_has_none : {before now : Iterating} → IsOver before now → HasNext before → ⊥
+over_has_none : {before now : IteratorState} → IsOver before now → HasNext before → ⊥
 over_has_none over has = elim over.reason [
   | inl ended ↦ (let going = has.going in absurd cc)
   | inr ends ↦ never_ends has.utf8 has.is ends
 ]
 
 -- nothing was given
-pub next_over : {V : Type 0} {Shows : List ℕ → ℕ → V → Type 0} {before now : Iterating} → IsOver before now → IsNext Shows before now None
+pub next_over : {V : Type 0} {Shows : List ℕ → ℕ → V → Type 0} {before now : IteratorState} → IsOver before now → IsNext Shows before now None
 next_over over = record { item = tt; error = tt; none = over; complete = λ has. absurd (over_has_none over has) }
 
 -- the error of a fault
-pub fault_error : {it : Iterating} {e : Error} (f : Fault) → IsStopFor (λ s. EndsItems it.text it.is_bytes it.kind it.given (stopped s)) f
+pub fault_error : {it : IteratorState} {e : Error} (f : Fault) → IsStopFor (λ s. EndsItems it.text it.is_bytes it.kind it.given (stopped s)) f
     → (f ≡ OutOfMemory → it.checks ≡ true) → IsErrorOf it.text f e → IsNextError it e
 fault_error OutOfMemory ends memory e = out_of_memory e (inl (memory refl))
 fault_error (At s) ends memory e = no_next_item ends e
@@ -106,7 +106,7 @@ of_array : {t : List ℕ} {kind : Kind} {n : ℕ} {item : Item} → kind ≡ Arr
 of_array k x = rw k at x
 
 -- an element was given
-pub element_given : {before now : Iterating} {x : Found} {value : LazyValue} → before.kind ≡ Array
+pub element_given : {before now : IteratorState} {x : Found} {value : LazyValue} → before.kind ≡ Array
     → IsGiven (λ t n y. IsFoundPart t before.kind n y) before now x → raw_bytes value ≡ slice_range now.text x.value.start x.value.end
     → IsGiven ShowsElement before now value
 element_given {before} {now} k g shown =
@@ -147,7 +147,7 @@ own_escapes {t} {n} {key = key} own = (
 )
 
 -- a member was given, whose key was found
-shown_member : {Z : Type 0} {before now : Iterating} {x : Found} {text : CowStr Z} {value : LazyValue}
+shown_member : {Z : Type 0} {before now : IteratorState} {x : Found} {text : CowStr Z} {value : LazyValue}
     → IsGiven (λ t n y. IsFoundPart t before.kind n y) before now x → (key : Option ValueSpan) → x.key ≡ key → IsKeyText now.text key text
     → raw_bytes value ≡ slice_range now.text x.value.start x.value.end → IsGiven (ShowsMember {Z = Z}) before now (text, value)
 shown_member g None k t shown = absurd t
@@ -176,7 +176,7 @@ shown_member {Z} {before} {now} {x} {text} {value} g (Some key) k t shown =
     }
 
 -- a member was given
-pub member_given : {Z : Type 0} {before now : Iterating} {x : Found} {text : CowStr Z} {value : LazyValue}
+pub member_given : {Z : Type 0} {before now : IteratorState} {x : Found} {text : CowStr Z} {value : LazyValue}
     → IsGiven (λ t n y. IsFoundPart t before.kind n y) before now x → IsKeyText now.text x.key text
     → raw_bytes value ≡ slice_range now.text x.value.start x.value.end → IsGiven (ShowsMember {Z = Z}) before now (text, value)
 member_given {Z} {before} {now} {x} {text} {value} g = shown_member g x.key refl
@@ -186,7 +186,7 @@ no_key_in_array : {t : List ℕ} {kind : Kind} {h v : ℕ} → IsFoundHead t kin
 no_key_in_array (no_key e) k = cc
 
 -- memory ran out for its key
-pub member_stuck : {before now : Iterating} {x : Found} {e : Error} → IsGiven (λ t n y. IsFoundPart t before.kind n y) before now x
+pub member_stuck : {before now : IteratorState} {x : Found} {e : Error} → IsGiven (λ t n y. IsFoundPart t before.kind n y) before now x
     → (key : Option ValueSpan) → x.key ≡ key → before.kind ≡ Object → IfSome key (λ k. IsEscapedString now.text k.start k.end) → IsPlainError e NoMemory
     → IsNextError before e
 member_stuck {before} g None k object s e = absurd (no_key_in_array (rw k at g.shown.found.head) object)
@@ -198,7 +198,7 @@ member_stuck {before} {now} {x} g (Some key) k object s e =
     out_of_memory e (inr (own.0, (own_escapes own.1).0 escaped))
 
 -- a member, or running out of memory for its key
-pub member_next : {Z : Type 0} {before found now : Iterating} {x : Found} (r : Result (CowStr Z × LazyValue) Error)
+pub member_next : {Z : Type 0} {before found now : IteratorState} {x : Found} (r : Result (CowStr Z × LazyValue) Error)
     → IsGiven (λ t n y. IsFoundPart t before.kind n y) before found x → before.kind ≡ Object → OnOk r (now ≡ found)
     → IfOk r (λ m. IsKeyText found.text x.key m.0) → IfOk r (λ m. raw_bytes m.1 ≡ slice_range found.text x.value.start x.value.end)
     → IfErr r (λ e. IsPlainError e NoMemory) → OnErr r (now ≡ record found { ended = true })

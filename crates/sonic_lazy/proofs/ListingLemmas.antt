@@ -9,7 +9,7 @@ use Rattle.sonic_error.specs.Texts.{valid_up_to}
 use Rattle.sonic_find.proofs.AnswerLemmas.One.{utf8_or_not}
 use Rattle.sonic_lazy.proofs.IteratorLemmas.{never_ends}
 use Rattle.sonic_find.specs.Answers.{Span}
-use Rattle.sonic_lazy.specs.Items.{Item, Ending, closed, stopped, Listing, ItemsReach, IsItemAt, AreClosed, closed_empty, closed_after, BeginsNoItem, no_quote, text_ends, code_before_item, code_of_start, stop_at, AreStopped, no_container, no_item, no_separator, no_key, no_value, EndsItems, at_broken_text, at_bracket, at_stop, AreItems, no_items, one_more_item, IsListing}
+use Rattle.sonic_lazy.specs.Items.{Item, Ending, closed, stopped, Listing, ItemsReach, IsItemAt, AreClosed, closed_empty, closed_after, BeginsNoItem, no_quote, text_ends, code_before_item, code_of_start, stop_with, AreStopped, no_container, no_item, no_separator, no_key, no_value, EndsItems, at_broken_text, at_bracket, at_stop, AreItems, no_items, one_more_item, IsListing}
 use Rattle.sonic_find.specs.Laws.{ExactlyOne}
 use Rattle.sonic_text.proofs.Insides.{not_past_byte}
 use Rattle.sonic_text.proofs.Items.{at_key, at_value, head_one, head_never_both, key_fault_one, closing_no_comma}
@@ -61,7 +61,7 @@ item_of {t} {kind} {n} (one_more_item {p = k} {item = item} xs x m is) l = elim 
 
 -- why no item follows those that fit up to h
 data IsSlot (t : List ℕ) (kind : Kind) (n h : ℕ) (s : Stop) : Type 0 where
-  none_begins : BeginsNoItem t kind n h → s ≡ stop_at h (code_before_item kind n) → IsSlot t kind n h s
+  none_begins : BeginsNoItem t kind n h → s ≡ stop_with h (code_before_item kind n) → IsSlot t kind n h s
   key_fails : kind ≡ Object → byte t h ≡ 34 → IsKeyFault strict t h s → IsSlot t kind n h s
   value_fails : {v : ℕ} {label : Option (List ℕ)} → ¬ BeginsNoItem t kind n h → ItemHead strict t kind h v label → IsFault strict t v s → IsSlot t kind n h s
 
@@ -86,10 +86,10 @@ slot_one {t} {r = r} (value_fails {v} c y f) (value_fails {v = w} d z g) =
 
 -- the three ways to stop
 data IsWay (t : List ℕ) (kind : Kind) (n : ℕ) (s : Stop) : Type 0 where
-  at_start : n ≡ 0 → byte t (after_space t 0) ≢ opening kind → s ≡ stop_at (after_space t 0) (code_of_start kind) → IsWay t kind n s
+  at_start : n ≡ 0 → byte t (after_space t 0) ≢ opening kind → s ≡ stop_with (after_space t 0) (code_of_start kind) → IsWay t kind n s
   at_slot : {h : ℕ} → ItemsReach t kind n h → IsSlot t kind n h s → IsWay t kind n s
   at_end : {p : ℕ} {last : Item} → IsItemAt t kind p last → n ≡ p + 1 → NothingFits t last.span.1 (closing kind)
-      → s ≡ stop_at (after_space t last.span.1) (code_after_item kind) → IsWay t kind n s
+      → s ≡ stop_with (after_space t last.span.1) (code_after_item kind) → IsWay t kind n s
 
 way_of : {t : List ℕ} {kind : Kind} {n : ℕ} {s : Stop} → AreStopped t kind n s → IsWay t kind n s
 way_of (no_container z b is) = at_start z b is
@@ -254,7 +254,7 @@ listing_some t false kind = listed (λ e. absurd cc) (some_ending t kind)
 listing_some t true kind = elim (utf8_or_not t) [
   | inl utf8 ↦ listed (λ e. utf8) (some_ending t kind)
   | inr broken ↦ (
-    record { items = []; ending = stopped (stop_at (valid_up_to t) InvalidUTF8) },
+    record { items = []; ending = stopped (stop_with (valid_up_to t) InvalidUTF8) },
     record { count = 0; items = no_items refl refl; ending = at_broken_text refl broken refl refl },
   )
 ]
@@ -284,7 +284,7 @@ nothing_begins {t} {h = h} r (text_ends z e) =
     (_, in_value r (no_head refl) (no_value_here (rw none at_no_byte) refl))
 
 -- in a text that starts with a value the container alone may be missing
-stop_of_whole : {t : List ℕ} {kind : Kind} {n : ℕ} {s : Stop} → StartsWithUtf8Value t → AreStopped t kind n s → s ≡ stop_at (after_space t 0) (code_of_start kind)
+stop_of_whole : {t : List ℕ} {kind : Kind} {n : ℕ} {s : Stop} → StartsWithUtf8Value t → AreStopped t kind n s → s ≡ stop_with (after_space t 0) (code_of_start kind)
 stop_of_whole x (no_container z b is) = is
 stop_of_whole x (no_item r b is) = absurd (value_never_both x.root (nothing_begins r b).1)
 stop_of_whole x (no_separator y e f is) = absurd (value_never_both x.root (after_item y.before y.head y.value f refl))
@@ -295,11 +295,11 @@ stop_of_whole x (no_value r b y f) = absurd (value_never_both x.root (in_value r
 
 -- so its items end with the closing bracket, or there are none
 ending_of_whole : {t : List ℕ} {kind : Kind} {n : ℕ} {e : Ending} → StartsWithUtf8Value t → EndsItems t false kind n e
-    → (e ≡ closed) ⊎ (e ≡ stopped (stop_at (after_space t 0) (code_of_start kind)))
+    → (e ≡ closed) ⊎ (e ≡ stopped (stop_with (after_space t 0) (code_of_start kind)))
 ending_of_whole x (at_broken_text e broken z is) = absurd cc
 ending_of_whole x (at_bracket utf8 c is) = inl is
 ending_of_whole x (at_stop utf8 s is) = inr (is ∙ ap stopped (stop_of_whole x s))
 
 pub listing_of_whole : {t : List ℕ} {kind : Kind} {listing : Listing} → StartsWithUtf8Value t → IsListing t false kind listing
-    → (listing.ending ≡ closed) ⊎ (listing.ending ≡ stopped (stop_at (after_space t 0) (code_of_start kind)))
+    → (listing.ending ≡ closed) ⊎ (listing.ending ≡ stopped (stop_with (after_space t 0) (code_of_start kind)))
 listing_of_whole x y = ending_of_whole x y.ending

@@ -5,9 +5,8 @@ use Rattle.sonic_error.specs.declared.error.Error.{Error}
 use Rattle.sonic_find.proofs.PathLemmas.Outcome.{evaluates_one}
 use Rattle.sonic_lazy.proofs.WholeLemmas.{lazy_is_whole}
 use Rattle.sonic_find.specs.Answers.{Span, spans, ComesToAlone, value_found}
-use Rattle.sonic_find.specs.Internal.Follow.{IsDeadEnd, stops_so, lacks_so}
-use Rattle.sonic_find.specs.Internal.Steps.{HasWhole}
-use Rattle.sonic_find.specs.Internal.Walk.{fails_so, cut_so}
+use Rattle.sonic_find.specs.DeadEnds.{fails_so, cut_so, IsDeadEnd, stops_so, lacks_so}
+use Rattle.sonic_find.specs.Cursors.{HasWhole}
 use Rattle.sonic_lazy.specs.LazyValues.{raw_bytes}
 use Rattle.sonic_find.specs.Paths.{Outcome, Leads}
 use Rattle.sonic_find.specs.Paths.EvaluatesBy.{found_here, cut_here}

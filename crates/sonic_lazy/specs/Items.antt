@@ -60,16 +60,16 @@ code_of_start Array = ExpectedArrayStart
 code_of_start Object = ExpectedObjectStart
 
 -- a stop at p for this reason, which may be the end of the text
-abbrev pub stop_at : ℕ → ErrorCode → Stop
-stop_at p code = record { place = p; code = code }
+abbrev pub stop_with : ℕ → ErrorCode → Stop
+stop_with p code = record { place = p; code = code }
 
 -- why n items are all of a container that isn't closed after them
 pub data AreStopped (t : List ℕ) (kind : Kind) (n : ℕ) (s : Stop) : Type 0 where
   -- what the container itself lacks has codes of its own, at the end of the text too
-  no_container : n ≡ 0 → byte t (after_space t 0) ≢ opening kind → s ≡ stop_at (after_space t 0) (code_of_start kind) → AreStopped t kind n s
-  no_item : {h : ℕ} → ItemsReach t kind n h → BeginsNoItem t kind n h → s ≡ stop_at h (code_before_item kind n) → AreStopped t kind n s
+  no_container : n ≡ 0 → byte t (after_space t 0) ≢ opening kind → s ≡ stop_with (after_space t 0) (code_of_start kind) → AreStopped t kind n s
+  no_item : {h : ℕ} → ItemsReach t kind n h → BeginsNoItem t kind n h → s ≡ stop_with h (code_before_item kind n) → AreStopped t kind n s
   no_separator : {p : ℕ} {last : Item} → IsItemAt t kind p last → n ≡ p + 1 → NothingFits t last.span.1 (closing kind)
-      → s ≡ stop_at (after_space t last.span.1) (code_after_item kind) → AreStopped t kind n s
+      → s ≡ stop_with (after_space t last.span.1) (code_after_item kind) → AreStopped t kind n s
   -- and keys, colons and values those of each text
   no_key : {h : ℕ} → kind ≡ Object → ItemsReach t kind n h → byte t h ≡ 34 → IsKeyFault strict t h s → AreStopped t kind n s
   no_value : {h v : ℕ} {label : Option (List ℕ)} → ItemsReach t kind n h → ¬ BeginsNoItem t kind n h → ItemHead strict t kind h v label → IsFault strict t v s
@@ -77,7 +77,7 @@ pub data AreStopped (t : List ℕ) (kind : Kind) (n : ℕ) (s : Stop) : Type 0 w
 
 -- how the list ends whose items are n, over a text that came as bytes whose UTF-8 is looked at first, or not
 pub data EndsItems (t : List ℕ) (is_bytes : Bool) (kind : Kind) (n : ℕ) (ending : Ending) : Type 0 where
-  at_broken_text : IsTrue is_bytes → ¬ IsUtf8 t → n ≡ 0 → ending ≡ stopped (stop_at (valid_up_to t) InvalidUTF8) → EndsItems t is_bytes kind n ending
+  at_broken_text : IsTrue is_bytes → ¬ IsUtf8 t → n ≡ 0 → ending ≡ stopped (stop_with (valid_up_to t) InvalidUTF8) → EndsItems t is_bytes kind n ending
   at_bracket : (IsTrue is_bytes → IsUtf8 t) → AreClosed t kind n → ending ≡ closed → EndsItems t is_bytes kind n ending
   at_stop : {s : Stop} → (IsTrue is_bytes → IsUtf8 t) → AreStopped t kind n s → ending ≡ stopped s → EndsItems t is_bytes kind n ending
 

@@ -21,7 +21,7 @@ use Rattle.sonic_find.specs.Answers.{span_text}
 
 -- an iterator: the kind of its container, the text that this begins, whether that came as bytes whose UTF-8 is looked at first, whether the iterator looks
 -- at what it passes, how many items it gave, and whether it has ended
-pub record Iterating : Type 0 where
+pub record IteratorState : Type 0 where
   pub kind : Kind
   pub text : List ℕ
   pub is_bytes : Bool
@@ -30,7 +30,7 @@ pub record Iterating : Type 0 where
   pub ended : Bool
 
 -- one that has given nothing
-abbrev pub iterator_over : Kind → List ℕ → Bool → Bool → Iterating
+abbrev pub iterator_over : Kind → List ℕ → Bool → Bool → IteratorState
 iterator_over kind t is_bytes checks = record { kind = kind; text = t; is_bytes = is_bytes; checks = checks; given = 0; ended = false }
 
 -- the key of the member after n others has a backslash
@@ -57,23 +57,23 @@ pub record ShowsMember {Z : Type 0} (t : List ℕ) (n : ℕ) (member : CowStr Z 
   pub shown : raw_bytes member.1 ≡ span_text t item.span
 
 -- memory may run out at the next item: the iterator looks at what it passes, or the item's key has a backslash
-abbrev pub TakesMemory : Iterating → Type 0
+abbrev pub TakesMemory : IteratorState → Type 0
 TakesMemory it = IsTrue it.checks ⊎ (it.kind ≡ Object) × IsEscapedKey it.text it.given
 
 -- there is a next item, of a text in UTF-8 where that is looked at
-pub record HasNext (it : Iterating) : Type 0 where
+pub record HasNext (it : IteratorState) : Type 0 where
   pub going : IsFalse it.ended
   pub utf8 : IsTrue it.is_bytes → IsUtf8 it.text
   pub item : Item
   pub is : IsItemAt it.text it.kind it.given item
 
 -- the error says why there is no next item, or memory ran out
-pub data IsNextError (it : Iterating) (e : Error) : Type 0 where
+pub data IsNextError (it : IteratorState) (e : Error) : Type 0 where
   out_of_memory : IsPlainError e NoMemory → TakesMemory it → IsNextError it e
   no_next_item : {s : Stop} → EndsItems it.text it.is_bytes it.kind it.given (stopped s) → IsErrorAt e s.code it.text s.place → IsNextError it e
 
 -- the next item was given, of a text in UTF-8 where that is looked at
-pub record IsGiven {V : Type 0} (Shows : List ℕ → ℕ → V → Type 0) (before now : Iterating) (item : V) : Type 0 where
+pub record IsGiven {V : Type 0} (Shows : List ℕ → ℕ → V → Type 0) (before now : IteratorState) (item : V) : Type 0 where
   pub going : IsFalse before.ended
   pub utf8 : IsTrue before.is_bytes → IsUtf8 before.text
   pub shown : Shows before.text before.given item
@@ -81,18 +81,18 @@ pub record IsGiven {V : Type 0} (Shows : List ℕ → ℕ → V → Type 0) (bef
   pub moved : now ≡ record before { given = before.given + 1 }
 
 -- an error was given, and the iterator has ended
-pub record IsStuck (before now : Iterating) (e : Error) : Type 0 where
+pub record IsStuck (before now : IteratorState) (e : Error) : Type 0 where
   pub going : IsFalse before.ended
   pub error : IsNextError before e
   pub ended : now ≡ record before { given = now.given; ended = true }
 
 -- nothing was given: the iterator had ended, or it has now come to the closing bracket
-pub record IsOver (before now : Iterating) : Type 0 where
+pub record IsOver (before now : IteratorState) : Type 0 where
   pub reason : IsTrue before.ended ⊎ EndsItems before.text before.is_bytes before.kind before.given closed
   pub ended : now ≡ record before { ended = true }
 
 -- what a call of `next` gives of an iterator, and the iterator after it
-pub record IsNext {V : Type 0} (Shows : List ℕ → ℕ → V → Type 0) (before now : Iterating) (result : Option (Result V Error)) : Type 0 where
+pub record IsNext {V : Type 0} (Shows : List ℕ → ℕ → V → Type 0) (before now : IteratorState) (result : Option (Result V Error)) : Type 0 where
   pub item : IfSome result (λ r. IfOk r (IsGiven Shows before now))
   pub error : IfSome result (λ r. IfErr r (IsStuck before now))
   pub none : IfNone result (IsOver before now)
@@ -104,5 +104,5 @@ abbrev pub IsOwnCode : Kind → ErrorCode → Type 0
 IsOwnCode kind code = (code ≡ code_of_start kind) ⊎ (code ≡ code_after_item kind) ⊎ (n : ℕ) × (code ≡ code_before_item kind n)
 
 -- where the code is none of these, the error is honest
-abbrev pub IsHonestNext : Iterating → Error → Type 0
+abbrev pub IsHonestNext : IteratorState → Error → Type 0
 IsHonestNext it e = ¬ IsOwnCode it.kind (error_code e) → IsHonest strict it.text 0 e

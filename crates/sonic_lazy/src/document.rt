@@ -6,10 +6,9 @@ ghost use Rattle.sonic_parser.specs.Honest.{IsHonest};
 ghost use Rattle.sonic_find.specs.Documents.{IsValidDocument, IsInvalidError, IsDocumentValue};
 ghost use Rattle.sonic_lazy.specs.LazyValues.{raw_bytes};
 
-use crate::entry::entry;
 use crate::lazyvalue::LazyValue;
 use sonic_error::{Error, ErrorCode};
-use sonic_find::pass_alone;
+use sonic_find::internal::pass_alone;
 use sonic_input::{JsonSlice, Read};
 use std::alloc::Global;
 
@@ -29,7 +28,7 @@ pub fn from_str<'de>(alloc: Global, json: &'de str) -> Result<LazyValue<'de>, Er
 {
     let text = json.as_bytes();
     match pass_alone(alloc, Read::unscanned(JsonSlice::Raw(text))) {
-        Ok(found) => Ok(entry(json, found)),
+        Ok(found) => Ok(LazyValue::at(json, found)),
         Err(fault) => Err(fault.error(text)),
     }
 }

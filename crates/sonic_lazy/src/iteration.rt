@@ -8,7 +8,7 @@ ghost use Rattle.sonic_text.specs.Places.{after_space};
 ghost use Rattle.sonic_parser.specs.Faults.{IsStopFor};
 ghost use Rattle.sonic_lazy.specs.Internal.Items.{IsAfterItems, IsFound, IsFoundPart};
 ghost use Rattle.sonic_parser.specs.ValueSpans.{FlagsEscape};
-ghost use Rattle.sonic_find.specs.Internal.Steps.{HasWhole};
+ghost use Rattle.sonic_find.specs.Cursors.{HasWhole};
 ghost use Rattle.sonic_lazy.specs.Items.{stopped, AreClosed, EndsItems};
 ghost use Rattle.sonic_lazy.specs.Iterators.{iterator_over, IsGiven, IsOver};
 ghost use Rattle.sonic_lazy.specs.LazyValues.{raw_bytes};
@@ -16,7 +16,7 @@ ghost use Rattle.sonic_find.specs.Parts.{IsPart};
 
 use crate::items::{Found, find_item};
 use crate::lazyvalue::LazyValue;
-use sonic_find::{Steps, check};
+use sonic_find::internal::{Cursor, check};
 use sonic_input::{JsonInput, JsonSlice, Read};
 use sonic_parser::{Fault, ValueSpan};
 use sonic_text::{Kind, Stop};
@@ -29,7 +29,7 @@ pub(crate) struct Items<'de> {
     kind: Kind,
     raw: JsonSlice<'de>,
     text: &'de [u8],
-    steps: Steps<'de>,
+    cursor: Cursor<'de>,
     // Whether the text came as bytes whose UTF-8 is looked at before the first item.
     is_bytes: bool,
     given: usize,
@@ -37,13 +37,13 @@ pub(crate) struct Items<'de> {
 }
 
 impl<'de> Model for Items<'de> {
-    ghost use Rattle.sonic_lazy.specs.Iterators.{Iterating};
+    ghost use Rattle.sonic_lazy.specs.Iterators.{IteratorState};
 
-    ghost Value = { Iterating };
+    ghost Value = { IteratorState };
 
-    ghost use Rattle.sonic_lazy.specs.Internal.Items.{iterating_of, IsIterator};
+    ghost use Rattle.sonic_lazy.specs.Internal.Items.{iterator_state_of, IsIterator};
 
-    ghost view = { iterating_of };
+    ghost view = { iterator_state_of };
 
     ghost invariant = { IsIterator };
 }
@@ -54,12 +54,12 @@ impl<'de> Items<'de> {
         ensures { result ≡ iterator_over kind (I.JsonInput.content json) I.JsonInput.is_bytes true }
     {
         let raw = json.to_json_slice();
-        let steps = Steps::checked(alloc, Read::unscanned(raw));
+        let cursor = Cursor::checked(alloc, Read::unscanned(raw));
         Items {
             kind,
             raw,
             text: json.to_u8_slice(),
-            steps,
+            cursor,
             is_bytes: json.need_utf8_valid(),
             given: 0,
             ended: false,
@@ -71,12 +71,12 @@ impl<'de> Items<'de> {
         requires { StartsWithUtf8Value (slice_bytes raw) }
         ensures { result ≡ iterator_over kind (slice_bytes raw.entry) false false }
     {
-        let steps = Steps::unchecked(Read::unscanned(raw));
+        let cursor = Cursor::unchecked(Read::unscanned(raw));
         Items {
             kind,
             raw,
             text: raw.bytes(),
-            steps,
+            cursor,
             is_bytes: false,
             given: 0,
             ended: false,
@@ -99,7 +99,7 @@ impl<'de> Items<'de> {
         if self.ended {
             return None;
         }
-        match find_next(&mut self.steps, self.kind, self.given, self.is_bytes) {
+        match find_next(&mut self.cursor, self.kind, self.given, self.is_bytes) {
             Ok(Some(found)) => {
                 self.given += 1;
                 Some(Ok(found))
@@ -142,26 +142,26 @@ impl<'de> Items<'de> {
 // Passes the item that comes after those that were given, if there is one, in a text that came as
 // bytes, whose UTF-8 is looked at before the first item, or not.
 fn find_next(
-    steps: &mut Steps<'_>,
+    cursor: &mut Cursor<'_>,
     kind: Kind,
     given: usize,
     is_bytes: bool,
 ) -> Result<Option<Found>, Fault>
-    requires after { IsAfterItems steps.old.text kind given steps.old.place }
-    requires whole { IsFalse steps.old.checks → HasWhole steps.old.text (after_space steps.old.text 0) }
-    requires utf8 { IsTrue is_bytes → 0 < given → IsUtf8 steps.old.text }
-    ensures utf8 { OnOk result (IsTrue is_bytes → IsUtf8 steps.old.text) }
-    ensures found { IfOk result (λ found. IfSome found (IsFound steps.old.text kind given)) }
-    ensures place { IfOk result (λ found. IfSome found (λ x. steps.new.place ≡ x.value.end)) }
+    requires after { IsAfterItems cursor.old.text kind given cursor.old.place }
+    requires whole { IsFalse cursor.old.checks → HasWhole cursor.old.text (after_space cursor.old.text 0) }
+    requires utf8 { IsTrue is_bytes → 0 < given → IsUtf8 cursor.old.text }
+    ensures utf8 { OnOk result (IsTrue is_bytes → IsUtf8 cursor.old.text) }
+    ensures found { IfOk result (λ found. IfSome found (IsFound cursor.old.text kind given)) }
+    ensures place { IfOk result (λ found. IfSome found (λ x. cursor.new.place ≡ x.value.end)) }
     ensures fits { IfOk result (λ found. IfSome found (λ x. x.value.end < 2 ^ 64)) }
-    ensures closed { IfOk result (λ found. found ≡ None → AreClosed steps.old.text kind given) }
-    ensures moved { steps.new ≡ record steps.old { place = steps.new.place } }
-    ensures err { IfErr result (IsStopFor (λ s. EndsItems steps.old.text is_bytes kind given (stopped s))) }
-    ensures within { IfErr result (IsStopFor (λ s. s.place ≤ length steps.old.text)) }
-    ensures memory { IsErrOf result Fault.OutOfMemory → IsTrue steps.old.checks }
+    ensures closed { IfOk result (λ found. found ≡ None → AreClosed cursor.old.text kind given) }
+    ensures moved { cursor.new ≡ record cursor.old { place = cursor.new.place } }
+    ensures err { IfErr result (IsStopFor (λ s. EndsItems cursor.old.text is_bytes kind given (stopped s))) }
+    ensures within { IfErr result (IsStopFor (λ s. s.place ≤ length cursor.old.text)) }
+    ensures memory { IsErrOf result Fault.OutOfMemory → IsTrue cursor.old.checks }
 {
-    look(steps.text(), given, is_bytes)?;
-    find_item(steps, kind, given)
+    look(cursor.text(), given, is_bytes)?;
+    find_item(cursor, kind, given)
 }
 
 // Looks at the UTF-8 of a text that came as bytes, before the first item.

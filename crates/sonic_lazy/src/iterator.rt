@@ -37,9 +37,9 @@ pub struct ObjectJsonIter<'de> {
 impl<'de> Model for ObjectJsonIter<'de> {
     ghost use Rattle.std.specs.Prelude.{◌≡◌};
     ghost use Rattle.sonic_text.specs.declared.kind.Kind.{Kind};
-    ghost use Rattle.sonic_lazy.specs.Iterators.{Iterating};
+    ghost use Rattle.sonic_lazy.specs.Iterators.{IteratorState};
 
-    ghost Value = { Iterating };
+    ghost Value = { IteratorState };
 
     ghost view = { λ members. members.items };
 
@@ -136,9 +136,9 @@ pub struct ArrayJsonIter<'de> {
 impl<'de> Model for ArrayJsonIter<'de> {
     ghost use Rattle.std.specs.Prelude.{◌≡◌};
     ghost use Rattle.sonic_text.specs.declared.kind.Kind.{Kind};
-    ghost use Rattle.sonic_lazy.specs.Iterators.{Iterating};
+    ghost use Rattle.sonic_lazy.specs.Iterators.{IteratorState};
 
-    ghost Value = { Iterating };
+    ghost Value = { IteratorState };
 
     ghost view = { λ elements. elements.items };
 

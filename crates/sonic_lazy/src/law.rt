@@ -3,7 +3,7 @@ ghost use Rattle.std.specs.Str.{IsUtf8};
 ghost use Rattle.sonic_text.specs.declared.kind.Kind.{Kind};
 ghost use Rattle.sonic_text.specs.Documents.{StartsWithUtf8Value};
 ghost use Rattle.sonic_text.specs.Places.{after_space};
-ghost use Rattle.sonic_lazy.specs.Items.{Listing, IsListing, closed, stopped, stop_at, code_of_start};
+ghost use Rattle.sonic_lazy.specs.Items.{Listing, IsListing, closed, stopped, stop_with, code_of_start};
 ghost use Rattle.sonic_find.specs.Laws.{ExactlyOne, HoldsOrHasOneReason};
 ghost use Rattle.sonic_lazy.specs.RawNumbers.{IsNumberDocument, IsNoNumber};
 
@@ -42,5 +42,5 @@ pub fn utf8_has_the_same_items()
 pub fn items_of_a_value_are_closed()
     ensures { (t : List ℕ) (kind : Kind) (listing : Listing) → StartsWithUtf8Value t
         → IsListing t false kind listing → (listing.ending ≡ closed)
-        ⊎ (listing.ending ≡ stopped (stop_at (after_space t 0) (code_of_start kind))) }
+        ⊎ (listing.ending ≡ stopped (stop_with (after_space t 0) (code_of_start kind))) }
 {}

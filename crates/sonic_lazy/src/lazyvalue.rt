@@ -6,7 +6,7 @@ ghost use Rattle.sonic_lazy.specs.Wholes.{IsWholeValue};
 
 use crate::value_trait::JsonValueTrait;
 use sonic_error::ErrorCode;
-use sonic_input::{FastStr, JsonSlice};
+use sonic_input::{FastStr, JsonInput, JsonSlice};
 use sonic_parser::ValueSpan;
 use std::alloc::{AllocError, Global};
 use std::borrow::CowStr;
@@ -31,7 +31,9 @@ pub struct LazyValue<'a> {
 }
 
 impl<'a> LazyValue<'a> {
-    ghost use Rattle.std.specs.Prelude.{◌≡◌, ◌↔◌, IsSome, IsTrue, IfSome, IfOk, IfErr, OnErr};
+    ghost use Rattle.std.specs.Prelude.{◌≡◌, ◌↔◌, IsSome, IsTrue, IfSome, IfOk, IfErr, OnErr, slice_range};
+    ghost use Rattle.sonic_find.specs.Parts.{IsPart};
+    ghost use Rattle.sonic_parser.specs.ValueSpans.{FlagsEscape};
     ghost use Rattle.std.specs.Cow.{IsBorrowedStr, cow_str_bytes};
     ghost use Rattle.sonic_error.specs.Errors.{IsPlainError};
     ghost use Rattle.sonic_lazy.specs.LazyValues.{raw_bytes, has_escapes};
@@ -47,6 +49,16 @@ impl<'a> LazyValue<'a> {
         ensures escapes { has_escapes result ≡ has_escaped }
     {
         LazyValue { raw, has_escaped }
+    }
+
+    // The value of an input that was found where the span is.
+    #[tactic(auto, using(crate::proofs::WholeLemmas::entries))]
+    pub(crate) fn at<I: JsonInput<'a>>(input: I, found: ValueSpan) -> LazyValue<'a>
+        requires value { IsPart (I.JsonInput.content input) found.start found.end }
+        requires escaped { FlagsEscape (I.JsonInput.content input) found }
+        ensures { raw_bytes result ≡ slice_range (I.JsonInput.content input) found.start found.end }
+    {
+        LazyValue::whole(input.from_range(found.start, found.end), found.escaped)
     }
 
     /// The text of the value, as long as the value is borrowed.

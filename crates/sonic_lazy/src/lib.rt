@@ -1,15 +1,13 @@
 //! Lazy values, as paths find them in a text or one by one in a container, and what they are.
 //!
-//! Where paths lead, as spans, and which inputs are valid documents, is `sonic_find`'s. Its calls and
-//! its laws of these stand here too.
+//! Where paths lead, as spans alone, is said by `sonic_find`, whose `Span`, `find_many_unchecked` and
+//! `validate` stand here too.
 #![tactic(auto)]
 
 // What a container holds, as the collections of its kind of value.
 mod container_trait;
 // The value that a text is.
 mod document;
-// The lazy value of a span that was found.
-mod entry;
 // One item of a container after the other.
 mod items;
 // How far an iterator has come in its container.
@@ -50,13 +48,7 @@ pub use many::{get_many, get_many_with};
 pub use many_unchecked::get_many_unchecked;
 pub use one::{get, get_from_bytes, get_from_faststr, get_from_slice, get_from_str};
 pub use rawnumber::RawNumber;
-pub use sonic_find::{
-    Span, a_cut_is_the_root_fault, a_path_goes_on_in_its_value,
-    document_is_valid_or_has_one_reason, fails_at_one_place_agree, find, find_many,
-    find_many_unchecked, find_unchecked, first_is_the_plain_rule, get_many_agrees_with_get,
-    outcomes_come_before_the_fault, path_has_one_answer, path_has_one_outcome,
-    paths_have_one_answer, refuse_agrees_with_each_rule, validate,
-};
+pub use sonic_find::{Span, find_many_unchecked, validate};
 pub use unchecked::{
     get_from_bytes_unchecked, get_from_faststr_unchecked, get_from_slice_unchecked,
     get_from_str_unchecked, get_unchecked,

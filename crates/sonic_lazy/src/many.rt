@@ -12,10 +12,9 @@ ghost use Rattle.sonic_lazy.specs.Shown.{AreValues, AreValuesBy};
 ghost use Rattle.sonic_lazy.specs.Internal.Shown.{HaveTexts};
 ghost use Rattle.sonic_find.specs.Parts.{IsPart};
 
-use crate::entry::entry;
 use crate::lazyvalue::LazyValue;
 use sonic_error::{Error, ErrorCode};
-use sonic_find::locate_many;
+use sonic_find::internal::locate_many;
 use sonic_input::JsonInput;
 use sonic_parser::ValueSpan;
 use sonic_pointer::{KeyRule, PointerTree};
@@ -47,7 +46,7 @@ fn value_at<'de, I: JsonInput<'de>>(json: I, span: Option<ValueSpan>) -> Option<
         ≡ option_map (span_text (I.JsonInput.content json)) (option_map span_at span) }
 {
     match span {
-        Some(span) => Some(entry(json, span)),
+        Some(span) => Some(LazyValue::at(json, span)),
         None => None,
     }
 }

@@ -10,10 +10,10 @@ ghost use Rattle.sonic_lazy.specs.LazyValues.{raw_bytes};
 ghost use Rattle.sonic_lazy.specs.Shown.{AreValues};
 ghost use Rattle.sonic_lazy.specs.Internal.Shown.{HaveTexts};
 
-use crate::entry::entry;
 use crate::lazyvalue::LazyValue;
 use sonic_error::{Error, ErrorCode};
-use sonic_find::{Span, find_many_unchecked, value_span};
+use sonic_find::internal::value_span;
+use sonic_find::{Span, find_many_unchecked};
 use sonic_input::JsonInput;
 use sonic_pointer::PointerTree;
 use std::alloc::{AllocError, Global};
@@ -25,7 +25,7 @@ fn value_of_span<'de, I: JsonInput<'de>>(json: I, span: Option<Span>) -> Option<
         ≡ option_map (span_text (I.JsonInput.content json)) (option_map pair_of span) }
 {
     match span {
-        Some(span) => Some(entry(json, value_span(json.to_u8_slice(), span))),
+        Some(span) => Some(LazyValue::at(json, value_span(json.to_u8_slice(), span))),
         None => None,
     }
 }

@@ -5,11 +5,10 @@ ghost use Rattle.sonic_text.specs.Strings.{strict};
 ghost use Rattle.sonic_pointer.specs.Nodes.{path_of};
 ghost use Rattle.sonic_parser.specs.Honest.{IsHonest};
 
-use crate::entry::entry;
 use crate::lazyvalue::LazyValue;
 use bytes::Bytes;
 use sonic_error::Error;
-use sonic_find::locate_from;
+use sonic_find::internal::locate_from;
 use sonic_input::{FastStr, JsonInput, Read};
 use sonic_pointer::PointerNode;
 use std::alloc::Global;
@@ -33,7 +32,7 @@ pub fn get<'de, I: JsonInput<'de>>(
     let text = json.to_u8_slice();
     let read = Read::unscanned(json.to_json_slice());
     match locate_from(alloc, read, json.need_utf8_valid(), path) {
-        Ok(found) => Ok(entry(json, found)),
+        Ok(found) => Ok(LazyValue::at(json, found)),
         Err(fault) => Err(fault.error(text)),
     }
 }

@@ -17,10 +17,11 @@ ghost use Rattle.sonic_lazy.specs.RawNumbers.{IsNumberText, IsNumberDocument, Is
 use crate::lazyvalue::LazyValue;
 use crate::value_trait::JsonValueTrait;
 use sonic_error::{ErrorCode, Note, Result, Wanted};
-use sonic_find::pass_alone;
+use sonic_find::internal::pass_alone;
 use sonic_input::{FastStr, JsonSlice, Read};
 use sonic_parser::{Fault, ValueSpan};
-use sonic_text::{Stop, skip_number, type_of, whole_i64, whole_u64};
+use sonic_text::internal::skip_number;
+use sonic_text::{Stop, type_of, whole_i64, whole_u64};
 use std::alloc::Global;
 use std::fmt;
 use std::hash::{Hash, Hasher};

@@ -4,11 +4,10 @@ ghost use Rattle.sonic_text.specs.Documents.{StartsWithUtf8Value};
 ghost use Rattle.sonic_pointer.specs.Nodes.{path_of};
 ghost use Rattle.sonic_lazy.specs.Shown.{IsSureLookup};
 
-use crate::entry::entry;
 use crate::lazyvalue::LazyValue;
 use bytes::Bytes;
 use sonic_error::Error;
-use sonic_find::{Steps, locate};
+use sonic_find::internal::{Cursor, locate};
 use sonic_input::{FastStr, JsonInput, Read};
 use sonic_pointer::PointerNode;
 
@@ -27,9 +26,9 @@ pub fn get_unchecked<'de, I: JsonInput<'de>>(
     ensures { IsSureLookup (I.JsonInput.content json) I.JsonInput.is_bytes (path_of path.now) result }
 {
     let text = json.to_u8_slice();
-    let mut steps = Steps::unchecked(Read::unscanned(json.to_json_slice()));
-    match locate(&mut steps, path) {
-        Ok(found) => Ok(entry(json, found)),
+    let mut cursor = Cursor::unchecked(Read::unscanned(json.to_json_slice()));
+    match locate(&mut cursor, path) {
+        Ok(found) => Ok(LazyValue::at(json, found)),
         Err(fault) => Err(fault.error(text)),
     }
 }

@@ -5,7 +5,7 @@ ghost use Rattle.sonic_lazy.specs.LazyValues.{raw_bytes};
 ghost use Rattle.sonic_lazy.specs.Shown.{IsFoundIn, FindsNone};
 
 use crate::lazyvalue::LazyValue;
-use sonic_find::{Steps, locate};
+use sonic_find::internal::{Cursor, locate};
 use sonic_input::Read;
 use sonic_pointer::PointerNode;
 
@@ -31,8 +31,8 @@ impl<'a> LazyValue<'a> {
         ensures none { IfNone result (FindsNone (raw_bytes self.now) (path_of path.now)) }
     {
         let raw = self.raw();
-        let mut steps = Steps::unchecked(Read::of_slice(raw));
-        match locate(&mut steps, path) {
+        let mut cursor = Cursor::unchecked(Read::of_slice(raw));
+        match locate(&mut cursor, path) {
             Ok(found) => Some(LazyValue::whole(raw.part(found.start, found.end), found.escaped)),
             Err(_) => None,
         }

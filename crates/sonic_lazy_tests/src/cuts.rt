@@ -3,8 +3,9 @@
 use crate::one::starts;
 use crate::same::{same, same_at};
 use sonic_error::{Error, ErrorCode};
+use sonic_find::find_unchecked;
 use sonic_input::JsonInput;
-use sonic_lazy::{Span, find_unchecked, get, get_many, get_unchecked, validate};
+use sonic_lazy::{Span, get, get_many, get_unchecked, validate};
 use sonic_pointer::PointerTree;
 use std::alloc::Global;
 use std::process::Abort;

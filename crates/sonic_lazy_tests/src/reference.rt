@@ -12,8 +12,9 @@ ghost use Rattle.sonic_find.specs.Paths.{found, lacks, fails, cut, fails_at, emp
 use crate::lookups::{Paths, tree_of};
 use crate::same::same_at;
 use sonic_error::{Error, ErrorCode, Note, Wanted};
+use sonic_find::find_many;
 use sonic_input::{JsonSlice, Read};
-use sonic_lazy::{LazyValue, Span, find_many, get_many_with};
+use sonic_lazy::{LazyValue, Span, get_many_with};
 use sonic_parser::{Fault, Parser};
 use sonic_pointer::PointerNode::{Index, Key};
 use sonic_pointer::{KeyRule, PointerNode, PointerTree};
@@ -74,7 +75,7 @@ fn is_named(parser: &mut Parser<'_>, node: &PointerNode<'_>, passed: usize) -> R
     ensures item { IfOk result (λ is_it. (item : Node) × IsNamed parser.old.text
         (kind_of (node_of node.now)) passed parser.old.place parser.new.place item
         × (is_it ≡ true → item ≡ node_of node.now) × (is_it ≡ false → item ≢ node_of node.now)) }
-    ensures cursor { OnOk result (parser.new ≡ moved parser.old parser.new.place) }
+    ensures moved { OnOk result (parser.new ≡ moved parser.old parser.new.place) }
     ensures err { IfErr result (λ s. (kind_of (node_of node.now) ≡ Kind.Object)
         × IsKeyFault strict parser.old.text parser.old.place s) }
 {
@@ -95,7 +96,7 @@ fn seek(alloc: Global, parser: &mut Parser<'_>, node: &PointerNode<'_>) -> Resul
         → LeadsOn parser.old.text parser.old.place (node_of node.now) parser.new.place) }
     ensures no { IfOk result (λ leads. leads ≡ false
         → (v : ℕ) → ¬ LeadsOn parser.old.text parser.old.place (node_of node.now) v) }
-    ensures cursor { OnOk result (parser.new ≡ moved parser.old parser.new.place) }
+    ensures moved { OnOk result (parser.new ≡ moved parser.old parser.new.place) }
     ensures err { IfErr result (IsStopFor (λ s. (v : ℕ)
         → ¬ LeadsOn parser.old.text parser.old.place (node_of node.now) v)) }
 {

@@ -3,7 +3,8 @@
 use crate::lookups::{ANSWERED, Paths, REFUSED, tree_of};
 use crate::same::{same, same_at};
 use sonic_error::{ErrorCode, JsonType, Note, Wanted};
-use sonic_find::{Room, Span, fill_room, find_many, find_many_by};
+use sonic_find::internal::fill_buffers;
+use sonic_find::{Span, WalkBuffers, find_many, find_many_by};
 use sonic_parser::Fault;
 use sonic_pointer::PointerNode::{Index, Key};
 use sonic_pointer::{KeyRule, PointerTree};
@@ -56,7 +57,7 @@ const LINES: [Line; 8] = [
 ];
 
 // Checks what a room holds.
-fn check_slots(rt: &impl Abort, room: &Room, wanted: &[Option<Span>]) {
+fn check_slots(rt: &impl Abort, room: &WalkBuffers, wanted: &[Option<Span>]) {
     same(rt, room.len(), wanted.len());
     for (i, span) in wanted.iter().enumerate() {
         assert!(rt; i < room.len());
@@ -68,7 +69,7 @@ fn check_slots(rt: &impl Abort, room: &Room, wanted: &[Option<Span>]) {
 fn serves_lines_one_after_the_other(rt: HostRuntime) {
     let alloc = rt.alloc();
     let tree = tree_of(&rt, alloc, PATHS);
-    let mut room = Room::new(alloc);
+    let mut room = WalkBuffers::new(alloc);
     check_slots(&rt, &room, &[]);
     for &(line, wanted) in &LINES {
         match (
@@ -100,9 +101,9 @@ const FAULTS: [(&str, usize, ErrorCode); 6] = [
 fn fills_a_room_or_tells_the_fault(rt: HostRuntime) {
     let alloc = rt.alloc();
     let tree = tree_of(&rt, alloc, PATHS);
-    let mut room = Room::new(alloc);
+    let mut room = WalkBuffers::new(alloc);
     for &(line, wanted) in &LINES {
-        let filled = fill_room(alloc, &mut room, line, &tree, KeyRule::First);
+        let filled = fill_buffers(alloc, &mut room, line, &tree, KeyRule::First);
         same_at(&rt, filled.is_ok(), wanted.is_ok(), line);
         match wanted {
             Ok(spans) => check_slots(&rt, &room, &spans),
@@ -110,7 +111,7 @@ fn fills_a_room_or_tells_the_fault(rt: HostRuntime) {
         }
     }
     for &(line, place, code) in &FAULTS {
-        let filled = fill_room(alloc, &mut room, line, &tree, KeyRule::First);
+        let filled = fill_buffers(alloc, &mut room, line, &tree, KeyRule::First);
         same_at(&rt, filled, Err(Fault::At(Stop { place, code })), line);
         check_slots(&rt, &room, &[]);
     }
@@ -172,7 +173,7 @@ const RULED_LINES: [RuledLine; 6] = [
 fn serves_lines_under_each_rule(rt: HostRuntime) {
     let alloc = rt.alloc();
     let tree = tree_of(&rt, alloc, PATHS);
-    let mut room = Room::new(alloc);
+    let mut room = WalkBuffers::new(alloc);
     for &(rule, (line, wanted)) in &RULED_LINES {
         match (find_many_by(alloc, &mut room, line, &tree, rule), wanted) {
             (Ok(()), Ok(spans)) => check_slots(&rt, &room, &spans),
@@ -190,7 +191,7 @@ fn serves_lines_under_each_rule(rt: HostRuntime) {
 fn compare(
     rt: &impl Abort,
     alloc: Global,
-    room: &mut Room,
+    room: &mut WalkBuffers,
     paths: Paths,
     text: &str,
 ) -> Result<(), Fail> {
@@ -215,7 +216,7 @@ fn compare(
 #[test]
 fn holds_what_find_many_finds(rt: HostRuntime) -> Result<(), Fail> {
     let alloc = rt.alloc();
-    let mut room = Room::new(alloc);
+    let mut room = WalkBuffers::new(alloc);
     for &(paths, text, _) in &ANSWERED {
         compare(&rt, alloc, &mut room, paths, text)?;
     }
@@ -240,7 +241,7 @@ const COUNTS: [usize; 8] = [1, 63, 64, 65, 66, 130, 64, 2];
 #[test]
 fn finds_few_children_and_many(rt: HostRuntime) -> Result<(), Fail> {
     let alloc = rt.alloc();
-    let mut room = Room::new(alloc);
+    let mut room = WalkBuffers::new(alloc);
     for &count in &COUNTS {
         let tree = tree_of_elements(alloc, count)?;
         let mut text = String::new(alloc);

@@ -14,7 +14,8 @@ ghost use Rattle.sonic_lines.specs.Streams.{lines_of};
 use crate::short::{SHORT, put_entries};
 use memchr::memchr;
 use sonic_error::{Error, ErrorCode};
-use sonic_find::{Room, Span, fill_room};
+use sonic_find::internal::fill_buffers;
+use sonic_find::{Span, WalkBuffers};
 use sonic_parser::Fault;
 use sonic_pointer::{KeyRule, PointerTree};
 use sonic_text::skip_space;
@@ -48,9 +49,9 @@ pub fn append_rows(
     ensures errors { IfOk result (λ some. IsTrue some ↔ HasErrorRow tree.now (lines_of stream.now)) }
     ensures same { OnErr result (out.new.items ≡ out.old.items) }
 {
-    let mut room = Room::new(alloc);
+    let mut buffers = WalkBuffers::new(alloc);
     let written = out.len();
-    match add_rows(alloc, &mut room, tree, &Lines { before, stream }, out) {
+    match add_rows(alloc, &mut buffers, tree, &Lines { before, stream }, out) {
         Ok(has_error) => Ok(has_error),
         Err(error) => {
             out.truncate(written);
@@ -78,7 +79,7 @@ pub(crate) struct Line<'s> {
 // may be appended.
 pub(crate) fn add_rows(
     alloc: Global,
-    room: &mut Room,
+    buffers: &mut WalkBuffers,
     tree: &PointerTree,
     lines: &Lines<'_>,
     out: &mut Vec<u8>,
@@ -102,7 +103,7 @@ pub(crate) fn add_rows(
             text,
             is_text,
         };
-        if add_row(alloc, room, tree, &line, out)? {
+        if add_row(alloc, buffers, tree, &line, out)? {
             has_error = true;
         }
         start = end + 1;
@@ -129,45 +130,45 @@ fn line_end(stream: &[u8], start: usize) -> usize
 #[inline(always)]
 fn find_in_line(
     alloc: Global,
-    room: &mut Room,
+    buffers: &mut WalkBuffers,
     line: &Line<'_>,
     tree: &PointerTree,
 ) -> Result<(), Fault>
     requires { IsTrue line.now.is_text → IsUtf8 line.now.text.now }
-    ensures ok { OnOk result (IsAnswer line.now.text.now true tree.now (Answer.spans (pairs_of room.new))) }
-    ensures parts { OnOk result (AreSpans line.now.text.now room.new) }
+    ensures ok { OnOk result (IsAnswer line.now.text.now true tree.now (Answer.spans (pairs_of buffers.new))) }
+    ensures parts { OnOk result (AreSpans line.now.text.now buffers.new) }
     ensures err { IfErr result (IsStopFor (λ s. IsAnswer line.now.text.now true tree.now (Answer.error s))) }
     ensures within { IfErr result (IsStopFor (λ s. s.place ≤ length line.now.text.now)) }
 {
     if !line.is_text {
-        return find_in_bytes(alloc, room, line.text, tree);
+        return find_in_bytes(alloc, buffers, line.text, tree);
     }
     // SAFETY: the line is UTF-8, as it says.
     let text = unsafe { std::str::from_utf8_unchecked(line.text) };
-    fill_room(alloc, room, text, tree, KeyRule::First)
+    fill_buffers(alloc, buffers, text, tree, KeyRule::First)
 }
 
 // The same in a line that may be no UTF-8, out of line.
 #[inline(never)]
 fn find_in_bytes(
     alloc: Global,
-    room: &mut Room,
+    buffers: &mut WalkBuffers,
     text: &[u8],
     tree: &PointerTree,
 ) -> Result<(), Fault>
-    ensures ok { OnOk result (IsAnswer text.now true tree.now (Answer.spans (pairs_of room.new))) }
-    ensures parts { OnOk result (AreSpans text.now room.new) }
+    ensures ok { OnOk result (IsAnswer text.now true tree.now (Answer.spans (pairs_of buffers.new))) }
+    ensures parts { OnOk result (AreSpans text.now buffers.new) }
     ensures err { IfErr result (IsStopFor (λ s. IsAnswer text.now true tree.now (Answer.error s))) }
     ensures within { IfErr result (IsStopFor (λ s. s.place ≤ length text.now)) }
 {
-    fill_room(alloc, room, text, tree, KeyRule::First)
+    fill_buffers(alloc, buffers, text, tree, KeyRule::First)
 }
 
 // Appends the row of one line: whether it is an error. After running out of memory a part of it may
 // be appended.
 pub(crate) fn add_row(
     alloc: Global,
-    room: &mut Room,
+    buffers: &mut WalkBuffers,
     tree: &PointerTree,
     line: &Line<'_>,
     out: &mut Vec<u8>,
@@ -182,9 +183,9 @@ pub(crate) fn add_row(
     if skip_space(text, 0) == text.len() {
         return Ok(false);
     }
-    match find_in_line(alloc, room, line, tree) {
+    match find_in_line(alloc, buffers, line, tree) {
         Ok(()) => {
-            add_entries(text, room, out)?;
+            add_entries(text, buffers, out)?;
             Ok(false)
         }
         Err(fault) => {
@@ -196,30 +197,30 @@ pub(crate) fn add_row(
 
 // Appends the entries of a line, with a tab between two of them. Mostly they are few and short, and
 // then they are put together first and appended at once.
-fn add_entries(line: &[u8], room: &Room, out: &mut Vec<u8>) -> Result<(), AllocError>
-    requires { AreWithin line.now room.now }
+fn add_entries(line: &[u8], buffers: &WalkBuffers, out: &mut Vec<u8>) -> Result<(), AllocError>
+    requires { AreWithin line.now buffers.now }
     ensures ok { OnOk result (out.new.items
-        ≡ out.old.items ++ (entries_text line.now (pairs_of room.now) ++ codes "\n")) }
+        ≡ out.old.items ++ (entries_text line.now (pairs_of buffers.now) ++ codes "\n")) }
     ensures more { IsMore out.old.items out.new.items }
 {
     let mut short = [0; SHORT];
-    match put_entries(&mut short, line, room) {
+    match put_entries(&mut short, line, buffers) {
         Some(start) => out.extend_from_slice(&short[start..]),
-        None => add_long_entries(line, room, out),
+        None => add_long_entries(line, buffers, out),
     }
 }
 
 // Appends the entries one by one.
 #[inline(never)]
-fn add_long_entries(line: &[u8], room: &Room, out: &mut Vec<u8>) -> Result<(), AllocError>
-    requires { AreWithin line.now room.now }
+fn add_long_entries(line: &[u8], buffers: &WalkBuffers, out: &mut Vec<u8>) -> Result<(), AllocError>
+    requires { AreWithin line.now buffers.now }
     ensures ok { OnOk result (out.new.items
-        ≡ out.old.items ++ (entries_text line.now (pairs_of room.now) ++ codes "\n")) }
+        ≡ out.old.items ++ (entries_text line.now (pairs_of buffers.now) ++ codes "\n")) }
     ensures more { IsMore out.old.items out.new.items }
 {
-    for number in 0..room.len() {
+    for number in 0..buffers.len() {
         add_tab(number, out)?;
-        add_entry(line, room.at(number), out)?;
+        add_entry(line, buffers.at(number), out)?;
     }
     out.push(b'\n')?;
     Ok(())

@@ -8,9 +8,9 @@ ghost use Rattle.sonic_lines.specs.Streams.{EndsLines, IsOneLine};
 
 use crate::row::{Line, Lines, add_row, add_rows};
 use memchr::{memchr, memrchr};
-use sonic_blocks::count_of;
+use sonic_blocks::internal::count_of;
 use sonic_error::{Error, ErrorCode, Result};
-use sonic_find::Room;
+use sonic_find::WalkBuffers;
 use sonic_pointer::PointerTree;
 use std::alloc::{AllocError, Global};
 use std::marker::Model;
@@ -38,7 +38,7 @@ pub struct Rows {
     tree: PointerTree,
     lines: u64,
     held: Vec<u8>,
-    room: Room,
+    buffers: WalkBuffers,
 }
 
 impl Model for Rows {
@@ -76,7 +76,7 @@ impl Rows {
             tree,
             lines: 0,
             held: Vec::new(alloc),
-            room: Room::new(alloc),
+            buffers: WalkBuffers::new(alloc),
         }
     }
 
@@ -140,7 +140,7 @@ impl Rows {
             before: self.lines + 1,
             stream: &rest[..end],
         };
-        add_rows(alloc, &mut self.room, &self.tree, &lines, out)?;
+        add_rows(alloc, &mut self.buffers, &self.tree, &lines, out)?;
         self.lines += count_of(piece, b'\n') as u64;
         self.held = left;
         Ok(())
@@ -179,7 +179,7 @@ impl Rows {
                 text: end,
                 is_text: false,
             };
-            add_row(alloc, &mut self.room, &self.tree, &line, out)?;
+            add_row(alloc, &mut self.buffers, &self.tree, &line, out)?;
             return Ok(());
         }
         self.hold(end)?;
@@ -188,7 +188,7 @@ impl Rows {
             text: &self.held,
             is_text: false,
         };
-        add_row(alloc, &mut self.room, &self.tree, &line, out)?;
+        add_row(alloc, &mut self.buffers, &self.tree, &line, out)?;
         Ok(())
     }
 
@@ -212,7 +212,7 @@ impl Rows {
             text: &self.held,
             is_text: false,
         };
-        match add_row(alloc, &mut self.room, &self.tree, &last, out) {
+        match add_row(alloc, &mut self.buffers, &self.tree, &last, out) {
             Ok(_) => {
                 self.lines = 0;
                 self.held.clear();

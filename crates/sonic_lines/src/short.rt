@@ -6,7 +6,7 @@ ghost use Rattle.sonic_lines.specs.LineRows.{entries_text};
 ghost use Rattle.sonic_lines.specs.LineTexts.{entry_text};
 
 use crate::from_end::{put, put_counted};
-use sonic_find::{Room, Span};
+use sonic_find::{Span, WalkBuffers};
 
 // How many bytes there is room for.
 pub(crate) const SHORT: usize = 128;
@@ -16,18 +16,22 @@ const BESIDE: usize = 22;
 
 // Puts the entries of a line with a tab between two of them, and a line feed, so that they end with
 // the room: where they start, or `None` where they may need more room.
-pub(crate) fn put_entries(short: &mut [u8; SHORT], line: &[u8], room: &Room) -> Option<usize>
-    requires { AreWithin line.now room.now }
+pub(crate) fn put_entries(
+    short: &mut [u8; SHORT],
+    line: &[u8],
+    buffers: &WalkBuffers,
+) -> Option<usize>
+    requires { AreWithin line.now buffers.now }
     ensures within { IfSome result (λ start. start ≤ 128) }
     ensures text { IfSome result (λ start. drop start short.new
-        ≡ entries_text line.now (pairs_of room.now) ++ codes "\n") }
+        ≡ entries_text line.now (pairs_of buffers.now) ++ codes "\n") }
 {
     let mut at = put(short, SHORT, b"\n");
-    let mut number = room.len();
+    let mut number = buffers.len();
     while 0 < number {
-        at = put_tab(short, at, room.len() - number);
+        at = put_tab(short, at, buffers.len() - number);
         number -= 1;
-        match put_entry(short, at, line, room.at(number)) {
+        match put_entry(short, at, line, buffers.at(number)) {
             Some(start) => at = start,
             None => return None,
         }

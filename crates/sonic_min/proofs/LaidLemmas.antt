@@ -16,7 +16,7 @@ use Rattle.sonic_find.specs.Documents.{IsValidDocument}
 use Rattle.sonic_min.specs.declared.output.Output.{Output}
 use Rattle.sonic_min.specs.declared.wide.Progress.{Progress}
 use Rattle.sonic_min.specs.Internal.Lines.{IsTail, at_end, comma, colon, close, IsRestLaid, token, empty_container, filled_container, IsLaidTo, IsWideOutput}
-use Rattle.sonic_min.specs.Internal.Marks.{is_point, is_mark, HasNoMark, IsNextMark, IsToken, IsNoSpace}
+use Rattle.sonic_min.specs.Internal.Marks.{is_structural, is_mark, HasNoMark, IsNextMark, IsToken, IsNoSpace}
 use Rattle.sonic_min.specs.Internal.Outputs.{Adds, IsMade, IsSplit}
 use Rattle.sonic_min.specs.Texts.{wide_gaps, wide, IsWideText}
 use Rattle.sonic_min.proofs.DocumentLemmas.{document_spelled, text_valid}
@@ -28,25 +28,25 @@ false_is : (a : Bool) → a ≡ true → a ≡ false → ⊥
 false_is true h k = absurd cc
 false_is false h k = absurd cc
 
--- a mark is a point, so it is in the text, and no white space
-mark_point : (t : List ℕ) (q : ℕ) → is_mark t q ≡ true → is_point (byte t q) ≡ true
-mark_point t q h = first (is_point (byte t q)) (not (is_inside_at t 0 (q + 1))) h
+-- a mark is a structural character, so it is in the text, and no white space
+mark_structural : (t : List ℕ) (q : ℕ) → is_mark t q ≡ true → is_structural (byte t q) ≡ true
+mark_structural t q h = first (is_structural (byte t q)) (not (is_inside_at t 0 (q + 1))) h
   where
     first : (a b : Bool) → (a && b) ≡ true → a ≡ true
     first true b h = refl
     first false b h = absurd cc
 
-point_some : (b : ℕ) → is_point b ≡ true → b ≢ 0
-point_some b h e = grind (arith, nat_tests)
+structural_some : (b : ℕ) → is_structural b ≡ true → b ≢ 0
+structural_some b h e = grind (arith, nat_tests)
 
 pub mark_within : (t : List ℕ) (q : ℕ) → is_mark t q ≡ true → q < length t
-mark_within t q h = byte_within t q (point_some (byte t q) (mark_point t q h))
+mark_within t q h = byte_within t q (structural_some (byte t q) (mark_structural t q h))
 
-point_no_space : (b : ℕ) → is_point b ≡ true → is_space b ≡ false
-point_no_space b h = grind (arith, nat_tests)
+structural_no_space : (b : ℕ) → is_structural b ≡ true → is_space b ≡ false
+structural_no_space b h = grind (arith, nat_tests)
 
 pub mark_stop : (t : List ℕ) (q : ℕ) → is_mark t q ≡ true → IsNoSpace t q
-mark_stop t q h = inl (point_no_space (byte t q) (mark_point t q h))
+mark_stop t q h = inl (structural_no_space (byte t q) (mark_structural t q h))
 
 -- the first mark is one
 next_one : {t : List ℕ} {p q r : ℕ} → p ≤ r → HasNoMark t p r → (is_mark t r ≡ true) ⊎ (r ≡ length t) → IsNextMark t p q → r ≡ q
@@ -143,8 +143,8 @@ record CloseTail (t : List ℕ) (width q d : ℕ) (r : List ℕ) : Type 0 where
   left : IsRestLaid t width (q + 1) outer s
   text : r ≡ (wide_gaps width).line outer ++ (byte t q ∷ s)
 
-close_tail : {t : List ℕ} {width q d : ℕ} {r : List ℕ} → is_point (byte t q) ≡ true → byte t q ≢ 44 → byte t q ≢ 58 → IsTail t width q d r → CloseTail t width q d r
-close_tail {t} {q = q} point b c (at_end e f) = let none = byte_after t q (omega (arith, e)) in absurd (point_some (byte t q) point none)
+close_tail : {t : List ℕ} {width q d : ℕ} {r : List ℕ} → is_structural (byte t q) ≡ true → byte t q ≢ 44 → byte t q ≢ 58 → IsTail t width q d r → CloseTail t width q d r
+close_tail {t} {q = q} point b c (at_end e f) = let none = byte_after t q (omega (arith, e)) in absurd (structural_some (byte t q) point none)
 close_tail point b c (comma a l e) = absurd (b a)
 close_tail point b c (colon a l e) = absurd (c a)
 close_tail {width = width} point b c (close kind {e = n} {r = s} a l f e) =
@@ -217,7 +217,7 @@ pub closing_deep : {t : List ℕ} {width q : ℕ} {out : Output} {so_far : Progr
     → byte t q ≢ 91 → byte t q ≢ 123 → byte t q ≢ 44 → byte t q ≢ 58 → width ≤ so_far.blanks
 closing_deep {t} {width} {q = q} d n a b c e =
     let x = token_left d.is_left n (no_opening _ a b) in
-    let y = close_tail (mark_point t q n.here) c e x.tail in
+    let y = close_tail (mark_structural t q n.here) c e x.tail in
     omega (arith, d.blanks, ap (λ n. width * n) y.deep)
 
 -- the last line of a container, and its bracket
@@ -226,7 +226,7 @@ pub close_laid : {t : List ℕ} {width q blanks : ℕ} {out one two : Output} {s
     → Adds one (10 ∷ replicate blanks 32 ++ byte t q ∷ []) two → IsLaidTo t width two (record { start = q + 1; blanks = blanks })
 close_laid {t} {width} {q} {blanks} {one = one} {two} d n a b c e made less line =
     let x = token_left d.is_left n (no_opening _ a b) in
-    let y = close_tail (mark_point t q n.here) c e x.tail in
+    let y = close_tail (mark_structural t q n.here) c e x.tail in
     let within = mark_within t q n.here in
     let deep : blanks ≡ width * y.outer = omega (arith, less, d.blanks, ap (λ n. width * n) y.deep) in
     let before = split_on (slice_range t x.i x.j) x.r (rw x.text at d.split) (made x.i x.j x.here) in

@@ -7,15 +7,15 @@ use Rattle.sonic_blocks.proofs.BlockLemmas.{IsBlock, inside_bit}
 use Rattle.sonic_blocks.specs.Bits.{is_set, IsNextBit}
 use Rattle.sonic_blocks.specs.Outside.{is_inside_at}
 use Rattle.sonic_text.specs.Places.{byte}
-use Rattle.sonic_min.specs.Internal.Marks.{is_point, is_mark, HasNoMark, IsNextMark, AreMarksAt}
+use Rattle.sonic_min.specs.Internal.Marks.{is_structural, is_mark, HasNoMark, IsNextMark, AreMarksAt}
 
--- the points of a block that are not inside strings are its marks
-pub block_marks : (t : List ℕ) {p a i b q x : ℕ} (points : ℕ) → IsBlock t 0 p a i b q x → ((k : ℕ) → k < 64 → is_set points k ≡ is_point (byte t (p + k)))
-    → AreMarksAt t p (bit_and points (flip x))
-block_marks t {p} {x = x} points block are k h =
+-- the structurals of a block that are not inside strings are its marks
+pub block_marks : (t : List ℕ) {p a i b q x : ℕ} (structurals : ℕ) → IsBlock t 0 p a i b q x → ((k : ℕ) → k < 64 → is_set structurals k ≡ is_structural (byte t (p + k)))
+    → AreMarksAt t p (bit_and structurals (flip x))
+block_marks t {p} {x = x} structurals block are k h =
     let next : p + suc k ≡ p + k + 1 = omega arith in
     let outside = set_flip x k block.small h ∙ ap not (inside_bit block k h ∙ ap (is_inside_at t 0) next) in
-    set_and points (flip x) k ∙ ap₂ (λ a b. a && b) (are k h) outside
+    set_and structurals (flip x) k ∙ ap₂ (λ a b. a && b) (are k h) outside
 
 -- where no bit is set no mark is
 pub none_after : (t : List ℕ) (p start from bits : ℕ) → AreMarksAt t p bits → HasNoMark t start p → from ≡ start - p

@@ -18,22 +18,22 @@ use Rattle.sonic_text.proofs.Places.{after_space_later}
 use Rattle.sonic_text.proofs.QuotedLemmas.{string_leaves}
 use Rattle.sonic_text.proofs.Values.{value-longer, items_open}
 use Rattle.sonic_min.specs.Internal.Lines.{IsTail, at_end, comma, colon, close, IsRestLaid, token, empty_container, filled_container}
-use Rattle.sonic_min.specs.Internal.Marks.{is_point, is_mark, HasNoMark, IsNextMark, IsToken}
+use Rattle.sonic_min.specs.Internal.Marks.{is_structural, is_mark, HasNoMark, IsNextMark, IsToken}
 use Rattle.sonic_min.specs.Spellings.{Spelling, Parts, HeadSpelled, no_key, key_spelled, IsSpelled, scalar_spelled, empty_spelled, filled_spelled, PartsSpelled, last_part, more_parts}
 use Rattle.sonic_min.specs.Texts.{Gaps, wide_gaps, key_text, last_line, spread, spread_parts, wide, IsDocumentSpelled}
 use Rattle.sonic_min.proofs.KeptLemmas.{all_fail, each_fails, StandsAlone, comma_mark, colon_mark, opening_mark, closing_mark, mark, nothing, spaced, head_keeps, value_keeps}
 use Rattle.sonic_min.proofs.NumberBytes.{number_bytes}
 
--- white space is no point
-pub space_no_point : (b : ℕ) → is_space b ≡ true → is_point b ≡ false
-space_no_point b h = grind (arith, nat_tests)
+-- white space is no structural character
+pub space_no_structural : (b : ℕ) → is_space b ≡ true → is_structural b ≡ false
+space_no_structural b h = grind (arith, nat_tests)
 
--- what is no point is no mark, and nothing inside a string is one
-no_point_no_mark : (t : List ℕ) (k : ℕ) → is_point (byte t k) ≡ false → is_mark t k ≡ false
-no_point_no_mark t k h = ap (λ a. a && not (is_inside_at t 0 (k + 1))) h
+-- what is no structural character is no mark, and nothing inside a string is one
+unstructural_no_mark : (t : List ℕ) (k : ℕ) → is_structural (byte t k) ≡ false → is_mark t k ≡ false
+unstructural_no_mark t k h = ap (λ a. a && not (is_inside_at t 0 (k + 1))) h
 
 inside_no_mark : (t : List ℕ) (k : ℕ) → is_inside_at t 0 (k + 1) ≡ true → is_mark t k ≡ false
-inside_no_mark t k h = ap (λ a. is_point (byte t k) && not a) h ∙ none (is_point (byte t k))
+inside_no_mark t k h = ap (λ a. is_structural (byte t k) && not a) h ∙ none (is_structural (byte t k))
   where
     none : (a : Bool) → (a && false) ≡ false
     none true = refl
@@ -52,7 +52,7 @@ space_at t p k l h =
     rw same at here
 
 spaces_no_mark : (t : List ℕ) (p : ℕ) → HasNoMark t p (after_space t p)
-spaces_no_mark t p k l h = no_point_no_mark t k (space_no_point (byte t k) (space_at t p k l h))
+spaces_no_mark t p k l h = unstructural_no_mark t k (space_no_structural (byte t k) (space_at t p k l h))
 
 -- a scalar or a key: no mark is in it, and it ends with no white space
 record IsPlain (t : List ℕ) (i j : ℕ) : Type 0 where
@@ -69,13 +69,13 @@ string_plain {t} {i} {j} clear x =
       longer = leaves.later;
       no_mark = λ k l m. elim (cases_lt (k + 1) j) [
         | inl n ↦ inside_no_mark t k (leaves.inside (k + 1) (omega arith) n)
-        | inr n ↦ (let same : k ≡ j - 1 = omega arith in no_point_no_mark t k (rw same (ap is_point quote)))
+        | inr n ↦ (let same : k ≡ j - 1 = omega arith in unstructural_no_mark t k (rw same (ap is_structural quote)))
       ];
       last = ap is_space quote;
     }
 
-word_plain : (t : List ℕ) {i j : ℕ} (word : List ℕ) → 0 < length word → all_fail is_point word ≡ true → all_fail is_space word ≡ true → IsLiteral word t i j → IsPlain t i j
-word_plain t {i} {j} word some points spaces h =
+word_plain : (t : List ℕ) {i j : ℕ} (word : List ℕ) → 0 < length word → all_fail is_structural word ≡ true → all_fail is_space word ≡ true → IsLiteral word t i j → IsPlain t i j
+word_plain t {i} {j} word some structurals spaces h =
     let e = h.1 in
     let letter : (k : ℕ) → i ≤ k → k < j → byte t k ≡ byte word (k - i) = λ k l m.
     (let same : i + (k - i) ≡ k = omega arith in
@@ -83,7 +83,7 @@ word_plain t {i} {j} word some points spaces h =
     rw same at here) in
     record {
       longer = omega arith;
-      no_mark = λ k l m. no_point_no_mark t k (ap is_point (letter k l m) ∙ each_fails is_point word points (k - i) (omega arith));
+      no_mark = λ k l m. unstructural_no_mark t k (ap is_structural (letter k l m) ∙ each_fails is_structural word structurals (k - i) (omega arith));
       last = ap is_space (letter (j - 1) (omega arith) (omega arith)) ∙ each_fails is_space word spaces (j - 1 - i) (omega arith);
     }
 
@@ -99,7 +99,7 @@ scalar_plain {t} {i} {j} h (number x) plain =
     let longer = value-longer value in
     record {
       longer = longer;
-      no_mark = λ k l m. no_point_no_mark t k (number_bytes t i j x k l m).1;
+      no_mark = λ k l m. unstructural_no_mark t k (number_bytes t i j x k l m).1;
       last = above_no_space (byte t (j - 1)) (number_bytes t i j x (j - 1) (omega (arith, longer)) (omega (arith, longer))).0;
     }
 scalar_plain h (string x) plain = string_plain h x
@@ -107,18 +107,18 @@ scalar_plain h (empty kind b c q) plain = absurd (plain kind b)
 scalar_plain h (filled {kind = kind} is y x c q) plain = absurd (plain kind (items_open is))
 
 -- what stands for itself outside strings is a mark
-mark_at : {t : List ℕ} {p : ℕ} (b : ℕ) → StandsAlone b → is_point b ≡ true → IsClear t 0 p → byte t p ≡ b → is_mark t p ≡ true
+mark_at : {t : List ℕ} {p : ℕ} (b : ℕ) → StandsAlone b → is_structural b ≡ true → IsClear t 0 p → byte t p ≡ b → is_mark t p ≡ true
 mark_at {t} {p} b alone point clear e =
     let outside : is_inside_at t 0 (p + 1) ≡ false = (mark b alone clear e).clear.no_string in
-    ap (λ x. is_point x && not (is_inside_at t 0 (p + 1))) e ∙ ap (λ a. a && not (is_inside_at t 0 (p + 1))) point ∙ ap not outside
+    ap (λ x. is_structural x && not (is_inside_at t 0 (p + 1))) e ∙ ap (λ a. a && not (is_inside_at t 0 (p + 1))) point ∙ ap not outside
 
-opening_point : (kind : Kind) → is_point (opening kind) ≡ true
-opening_point Array = refl
-opening_point Object = refl
+opening_structural : (kind : Kind) → is_structural (opening kind) ≡ true
+opening_structural Array = refl
+opening_structural Object = refl
 
-closing_point : (kind : Kind) → is_point (closing kind) ≡ true
-closing_point Array = refl
-closing_point Object = refl
+closing_structural : (kind : Kind) → is_structural (closing kind) ≡ true
+closing_structural Array = refl
+closing_structural Object = refl
 
 -- a scalar or a key is the token up to the next mark
 plain_token : {t : List ℕ} {p i j : ℕ} → after_space t p ≡ i → IsPlain t i j → IsToken t p (after_space t j) i j
@@ -203,11 +203,11 @@ mutual
       let x = scalar_plain clear v plain in
       token (no_mark_up_to start x) at (plain_token start x) tail (ap (λ s. s ++ r) e)
   value_left {t} {width} {d} clear start (empty_spelled {kind} b c q) at tail =
-      let next = mark_next start (mark_at (opening kind) (opening_mark kind) (opening_point kind) clear b) in
+      let next = mark_next start (mark_at (opening kind) (opening_mark kind) (opening_structural kind) clear b) in
       let after : IsRestLaid t width (after_space t (_ + 1) + 1) d _ = rw q at (after_value at tail) in
       empty_container kind next b c after refl
   value_left {t} {width} {d} {r = r} clear start (filled_spelled {kind} {i} {h} {xs = xs} b q o is) at tail =
-      let next = mark_next start (mark_at (opening kind) (opening_mark kind) (opening_point kind) clear b) in
+      let next = mark_next start (mark_at (opening kind) (opening_mark kind) (opening_structural kind) clear b) in
       let inside = (spaced (mark (opening kind) (opening_mark kind) clear b)).clear in
       let first : IsClear t 0 h = rw q inside in
       let parts = parts_left first (sym q) is (after_value at tail) in
@@ -223,7 +223,7 @@ mutual
   parts_left {t} {width} {d} {kind = kind} {r = r} clear start (last_part {e = e} {k = k} {x = x} y a c q) after =
       let head = head_keeps clear y in
       let ended = spaced (value_keeps 0 head.clear a) in
-      let here = mark_at (closing kind) (closing_mark kind) (closing_point kind) ended.clear c in
+      let here = mark_at (closing kind) (closing_mark kind) (closing_structural kind) ended.clear c in
       let g = wide_gaps width in
       let left : IsRestLaid t width (after_space t e + 1) d r = rw q at after in
       let tail : IsTail t width (after_space t e) (d + 1) (last_text width d kind r) = close kind c left refl refl in

@@ -5,11 +5,11 @@ use Rattle.sonic_text.proofs.NumberBytes as numbers
 use Rattle.sonic_text.proofs.NumberBytes.{in_number}
 use Rattle.sonic_text.specs.Places.{byte}
 use Rattle.sonic_text.specs.Numbers.{IsNumber}
-use Rattle.sonic_min.specs.Internal.Marks.{is_point}
+use Rattle.sonic_min.specs.Internal.Marks.{is_structural}
 
 -- a byte above the blank that is no bracket, no comma and no colon
 abbrev pub IsOrdinary : ℕ → Type 0
-IsOrdinary b = (32 < b) × (is_point b ≡ false)
+IsOrdinary b = (32 < b) × (is_structural b ≡ false)
 
 in_number_ordinary : (b : ℕ) → in_number b ≡ true → IsOrdinary b
 in_number_ordinary b h = (grind (arith, nat_tests), grind (arith, nat_tests))

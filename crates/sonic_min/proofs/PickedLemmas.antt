@@ -13,7 +13,7 @@ use lib.Bits.{bit_and, bit_or}
 use Rattle.sonic_blocks.proofs.BitLemmas.{set_or, zero_or_one}
 use Rattle.sonic_blocks.proofs.BlockLemmas.{IsBlock, inside_bit}
 use Rattle.sonic_blocks.specs.Bits.{is_set, is_inside}
-use Rattle.sonic_blocks.specs.Internal.Carried.{AreCarried}
+use Rattle.sonic_blocks.specs.Carried.{AreCarried}
 use Rattle.sonic_blocks.specs.Outside.{is_inside_at}
 use Rattle.sonic_blocks.specs.Views.{AreMasks}
 use Rattle.sonic_blocks.specs.declared.tape.Masks.{Masks}

@@ -3,7 +3,7 @@ ghost use Rattle.std.specs.Prelude.{◌≡◌, ℕ, ◌+◌, ◌<◌, ◌≤◌,
 ghost use Rattle.sonic_blocks.specs.Bits.{is_set};
 ghost use Rattle.sonic_blocks.specs.Views.{IsMask};
 ghost use Rattle.sonic_text.specs.Places.{byte};
-ghost use Rattle.sonic_min.specs.Internal.Marks.{is_point};
+ghost use Rattle.sonic_min.specs.Internal.Marks.{is_structural};
 
 use std::simd::prelude::*;
 
@@ -13,7 +13,7 @@ pub(crate) struct Block {
     pub(crate) backslash: u64,
     pub(crate) quote: u64,
     // The brackets, commas and colons, inside strings and outside.
-    pub(crate) points: u64,
+    pub(crate) structurals: u64,
 }
 
 // The lanes that hold the byte.
@@ -26,8 +26,8 @@ fn equal_to(lanes: u8x64, byte: u8) -> u64
 
 // The lanes that hold a bracket, a comma or a colon.
 #[inline(always)]
-fn points(lanes: u8x64) -> u64
-    ensures { (k : ℕ) → k < 64 → is_set result k ≡ is_point (get_or lanes k 0) }
+fn structurals(lanes: u8x64) -> u64
+    ensures { (k : ℕ) → k < 64 → is_set result k ≡ is_structural (get_or lanes k 0) }
 {
     (lanes.simd_eq(u8x64::splat(b','))
         | lanes.simd_eq(u8x64::splat(b':'))
@@ -43,13 +43,13 @@ pub(crate) fn block_at(text: &[u8], place: usize) -> Block
     requires { place ≤ length text.now }
     ensures backslash { IsMask text.now place 92 result.backslash }
     ensures quote { IsMask text.now place 34 result.quote }
-    ensures points { (k : ℕ) → k < 64 → is_set result.points k ≡ is_point (byte text.now (place + k)) }
+    ensures structurals { (k : ℕ) → k < 64 → is_set result.structurals k ≡ is_structural (byte text.now (place + k)) }
 {
     let lanes = lanes_at(text, place);
     Block {
         backslash: equal_to(lanes, b'\\'),
         quote: equal_to(lanes, b'"'),
-        points: points(lanes),
+        structurals: structurals(lanes),
     }
 }
 

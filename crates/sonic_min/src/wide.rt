@@ -216,7 +216,7 @@ fn lay_out(text: &[u8], out: &mut Output, width: usize) -> std::result::Result<(
     while place < text.len() {
         let block = block_at(text, place);
         let inside = get_string_bits(block.backslash, block.quote, &mut in_string, &mut in_escape);
-        let bits = block.points & !inside;
+        let bits = block.structurals & !inside;
         so_far = pass_block(text, Marks { place, bits }, so_far, out, width)?;
         place += 64;
     }

@@ -2,7 +2,7 @@
 use Rattle.std.proofs.Common.{◌≡◌, ◌∙◌, sym, ap, inl, inr, refl, ℕ, ◌+◌, List, [], ◌∷◌, ◌++◌, Option, Some, None, false, map}
 use Rattle.std.proofs.lemmas.List.{map-append}
 use Rattle.sonic_lazy.specs.Items.{Item, closed, EndsItems, at_broken_text, at_bracket, at_stop, AreItems, AreClosed, no_items, one_more_item}
-use Rattle.sonic_lazy.specs.Iterators.{Iterating, iterator_over, ShowsElement, ShowsMember, IsOver}
+use Rattle.sonic_lazy.specs.Iterators.{IteratorState, iterator_over, ShowsElement, ShowsMember, IsOver}
 use Rattle.sonic_lazy.specs.LazyValues.{raw_bytes}
 use Rattle.sonic_lazy.specs.declared.lazyvalue.LazyValue.{LazyValue}
 use Rattle.std.specs.Cow.{cow_str_bytes}
@@ -80,7 +80,7 @@ member_first {t} ms key v {pair} first x named_so made =
     }
 
 -- an iterator over a text that has given so many items
-abbrev pub HasGiven : Iterating → Kind → List ℕ → ℕ → Type 0
+abbrev pub HasGiven : IteratorState → Kind → List ℕ → ℕ → Type 0
 HasGiven it kind t n = it ≡ record (iterator_over kind t false false) { given = n }
 
 -- where items end with the bracket, they are closed
@@ -90,7 +90,7 @@ ends_closed (at_bracket u x e) = x
 ends_closed (at_stop u x is) = absurd cc
 
 -- where the iterator is over these are all
-pub all_first : {it now : Iterating} {kind : Kind} {t : List ℕ} {ms : Members} → HasGiven it kind t it.given → AreFirst t kind it.given ms → IsOver it now → AreAllMembers t kind ms
+pub all_first : {it now : IteratorState} {kind : Kind} {t : List ℕ} {ms : Members} → HasGiven it kind t it.given → AreFirst t kind it.given ms → IsOver it now → AreAllMembers t kind ms
 all_first {it} {kind = kind} {t} g first over = elim over.reason [
   | inl ended ↦ (let going : it.ended ≡ false = rw g refl in absurd cc)
   | inr ends ↦

@@ -8,7 +8,8 @@ use Rattle.std.specs.declared.fmt.Formatter.{Formatter}
 use Rattle.sonic_owned.proofs.Folds.{members_of}
 use Rattle.sonic_owned.specs.Forms.{text, members_text, named}
 use Rattle.sonic_owned.specs.Internal.Bulks.{members_bulk}
-use Rattle.sonic_owned.specs.Internal.Unwritten.{all_bulk, all_left, items_left, left_text, opened_text, opened_bulk, IsWrittenUpTo}
+use Rattle.sonic_owned.specs.Internal.Unwritten.{all_bulk, all_left, items_left, left_text, opened_text, opened_bulk}
+use Rattle.sonic_owned.specs.Writing.{IsWrittenUpTo}
 use Rattle.sonic_owned.specs.declared.value.unwritten.Unwritten.{Unwritten}
 use Rattle.sonic_owned.specs.Views.{form}
 use Rattle.sonic_owned.specs.declared.made.MadeText.{MadeText}

@@ -14,3 +14,4 @@ pub mod TreeEdits
 pub mod TreePuts
 pub mod Untouched
 pub mod Views
+pub mod Writing

@@ -6,12 +6,12 @@ use Rattle.sonic_text.specs.declared.kind.Kind.TheVariants.{Array, Object}
 use Rattle.sonic_text.specs.Places.{byte}
 use Rattle.sonic_text.specs.Literals.{IsLiteral}
 use Rattle.sonic_text.specs.Strings.{IsEscapedString}
-use Rattle.sonic_text.specs.Values.{opening, closing, IsKey, no_head, key_head, IsValue, null_literal, true_literal, false_literal, number, string, empty, ItemsFit, first_item}
+use Rattle.sonic_text.specs.Values.{opening, IsKey, no_head, key_head, IsValue, null_literal, true_literal, false_literal, number, string, empty, ItemsFit, first_item}
 use Rattle.sonic_text.specs.Faults.{no_value, null_fault, true_fault, false_fault, number_fault, string_fault, no_quote, key_fault, no_colon}
 use Rattle.sonic_text.proofs.Items.{opening_no_quote}
 use Rattle.sonic_text.proofs.Values.{value-longer, items_open}
-use Rattle.sonic_parser.specs.declared.begin.Begun.TheVariants.{Inside}
-use Rattle.sonic_parser.specs.declared.container.Next.TheVariants.{Item, End}
+use Rattle.sonic_parser.specs.declared.begin.ValueStart.TheVariants.{Inside}
+use Rattle.sonic_parser.specs.declared.container.AfterItem.TheVariants.{Item, End}
 use Rattle.sonic_parser.specs.Internal.Containers.{IsAfterBracket}
 use Rattle.sonic_parser.specs.Internal.Skipping.{IsComplete, IsBegun}
 use Rattle.sonic_parser.specs.Parts.{IsItem}

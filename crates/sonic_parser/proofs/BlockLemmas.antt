@@ -12,11 +12,12 @@ use lib.Count.{ones}
 use Rattle.sonic_blocks.specs.Bits.{is_set, is_inside, count_below}
 use Rattle.sonic_blocks.specs.Closings.{StaysOpen, IsClosingBit}
 use Rattle.sonic_blocks.specs.Outside.{is_escaped_at, is_inside_at, outside}
-use Rattle.sonic_blocks.specs.Internal.Carried.{AreCarried}
+use Rattle.sonic_blocks.specs.Carried.{AreCarried}
 use Rattle.sonic_blocks.specs.Views.{AreMasks, IsMask}
 use Rattle.sonic_blocks.specs.declared.tape.Masks.{Masks}
+use Rattle.sonic_parser.specs.declared.blocks.Block.{Block}
 use Rattle.sonic_parser.specs.declared.blocks.Known.{Known}
-use Rattle.sonic_parser.specs.Internal.Blocks.{AreKnown}
+use Rattle.sonic_parser.specs.Internal.Blocks.{AreKnown, IsInContainer}
 use Rattle.sonic_blocks.proofs.BitLemmas.{flip, set_and, set_flip}
 use Rattle.sonic_blocks.proofs.BlockLemmas.{IsBlock, carried_start, counted, inside_bit}
 use Rattle.sonic_blocks.proofs.CountLemmas.{count_from}
@@ -165,6 +166,11 @@ known_start kind t s = record {
   level = omega (arith, outside_start t s (opening kind), outside_start t s (closing kind));
   carried = carried_start t s;
 }
+
+-- a block before the end of a container is in it
+pub in_container : {kind : Kind} {t : List ℕ} {s j : ℕ} {block : Block} {before : Known} → byte t s ≡ opening kind → AreMasks t block.place block.masks
+    → AreKnown kind t s block.place before → Closes kind t s j → block.place < j → IsInContainer kind t s j block before
+in_container begins masks known closes later = record { begins = begins; closes = closes; later = later; masks = masks; known = known }
 
 -- a string that was open before the block
 module _ {t : List ℕ} {s p e i bs qs x start : ℕ} (h : IsBlock t s p e i bs qs x) (open_before : (k : ℕ) → start ≤ k → k ≤ p → is_inside_at t s k ≡ true) (after : start ≤ p) where

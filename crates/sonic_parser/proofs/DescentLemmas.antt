@@ -13,9 +13,9 @@ use Rattle.sonic_text.specs.Values.{opening, closing, ItemHead, no_head, key_hea
 use Rattle.sonic_text.proofs.Items.{closing_not_end, opening_one}
 use Rattle.sonic_text.proofs.Places.{after_space_later, byte_within}
 use Rattle.sonic_text.proofs.Within.{value_within}
-use Rattle.sonic_parser.specs.declared.container.Next.TheVariants.{End}
+use Rattle.sonic_parser.specs.declared.container.AfterItem.TheVariants.{End}
 use Rattle.sonic_parser.specs.Containers.{IsEnd, IsSeparated}
-use Rattle.sonic_parser.specs.Descents.{Descending, IsAtValue, IsAtItem, IsAtEnd, IsDescentStep, IsAfterStep, IsHeadPassed, IsNextOrClosed, IsAfterNext, IsMoved, KeepsTo, FailsAs}
+use Rattle.sonic_parser.specs.Descents.{DescentState, IsAtValue, IsAtItem, IsAtEnd, IsDescentStep, IsAfterStep, IsHeadPassed, IsNextOrClosed, IsAfterNext, IsMoved, KeepsTo, FailsAs}
 use Rattle.sonic_parser.specs.Parsers.{IsFilledContainer}
 use Rattle.sonic_parser.specs.OpenContainers.{IsOpen, inside, IsItemExpected, IsItemEnded, IsTop}
 use Rattle.sonic_parser.proofs.SkippingLemmas.{IsClosed, closed_all, closed_more, fault_after, fault_item, fault_up, last_ended, top}
@@ -79,34 +79,34 @@ pub empty_unfilled : (t : List ℕ) (kind : Kind) (i : ℕ) → byte t i ≡ ope
 empty_unfilled t kind i b e (other, o, some) = some (e ∙ ap closing (opening_one kind other (sym b ∙ o)))
 
 -- a walk after a step, by its fields
-value_walk : {i : ℕ} {before now : Descending} (step : Step) → IsMoved before now → IsAtValue i before → IsDescentStep before now step → IsAfterStep i now step
+value_walk : {i : ℕ} {before now : DescentState} (step : Step) → IsMoved before now → IsAtValue i before → IsDescentStep before now step → IsAfterStep i now step
 value_walk {i} {before} {now} Passed e a s =
     let f : record { text = before.text; place = now.place; lossy = before.lossy; opened = before.opened } ≡ now = ap (λ o. record before { place = now.place; opened = o }) (sym s.0) ∙ sym e in
     rw f at (passed_at a s.1)
 value_walk {i} {before} {now} (Entered kind) e a s = rw (ap (λ w. w.lossy) e, ap (λ w. w.text) e, s.0) (entered_at a s.1)
 
-head_walk : {i : ℕ} {before now : Descending} (kind : Kind) (key : Option ValueSpan) → IsMoved before now → IsTop before.opened kind → IsAtItem i before
+head_walk : {i : ℕ} {before now : DescentState} (kind : Kind) (key : Option ValueSpan) → IsMoved before now → IsTop before.opened kind → IsAtItem i before
     → now.opened ≡ before.opened → IsHeadPassed kind before now key → IsAtValue i now
 head_walk Array None e last a o s = rw (ap (λ w. w.lossy) e, ap (λ w. w.text) e, o) (head_at last a (no_head s))
 head_walk Array (Some key) e last a o s = absurd s
 head_walk Object None e last a o s = absurd s
 head_walk Object (Some key) e last a o s = rw (ap (λ w. w.lossy) e, ap (λ w. w.text) e, o) (head_at last a (key_head s.key))
 
-next_walk : {i : ℕ} {before now : Descending} (kind : Kind) (more : Bool) → IsMoved before now → 0 < length before.opened → IsTop before.opened kind → IsAtEnd i before
+next_walk : {i : ℕ} {before now : DescentState} (kind : Kind) (more : Bool) → IsMoved before now → 0 < length before.opened → IsTop before.opened kind → IsAtEnd i before
     → IsNextOrClosed kind before now more → IsAfterNext i now more
 next_walk kind true e some last a s = rw (ap (λ w. w.lossy) e, ap (λ w. w.text) e, s.0) (separated_at (a.item some) s.1)
 next_walk {i} {before} {now} kind false e some last a s =
     let f : record { text = before.text; place = now.place; lossy = before.lossy; opened = take (length before.opened - 1) before.opened } ≡ now = ap (λ o. record before { place = now.place; opened = o }) (sym s.0) ∙ sym e in
     rw f at (ended_at last (a.item some) s.1)
 
-pub keeps_to : (i : ℕ) (before now : Descending) → IsMoved before now → KeepsTo i before now
+pub keeps_to : (i : ℕ) (before now : DescentState) → IsMoved before now → KeepsTo i before now
 keeps_to i before now e = record {
   value = λ step. value_walk step e;
   head = λ kind key. head_walk kind key e;
   next = λ kind more. next_walk kind more e;
 }
 
-pub fails_as : (i : ℕ) (w : Descending) (s : Stop) → FailsAs i w s
+pub fails_as : (i : ℕ) (w : DescentState) (s : Stop) → FailsAs i w s
 fails_as i w s = record {
   value = λ a f. fault_up a f;
   head = λ a last f. fault_item a last (refl, f);

@@ -4,7 +4,7 @@ pub mod DescentLemmas
 pub mod FaultLemmas
 pub mod HonestLemmas
 mod RefusalLemmas
-mod SeriesLemmas
+mod NumberRunLemmas
 pub mod SkippingLemmas
 mod SpaceLemmas
 mod TextLemmas

@@ -11,9 +11,9 @@ use Rattle.sonic_text.specs.Places.{byte, is_space, after_space}
 use Rattle.sonic_text.specs.Values.{ItemHead, no_head, IsValue, ItemsFit, first_item, next_item, filled}
 use Rattle.sonic_text.specs.Faults.{IsFault, in_key, in_value, after_item}
 use Rattle.sonic_text.proofs.Places.{byte_within}
-use Rattle.sonic_parser.specs.declared.begin.Begun.TheVariants.{Inside}
+use Rattle.sonic_parser.specs.declared.begin.ValueStart.TheVariants.{Inside}
 use Rattle.sonic_parser.specs.declared.value_span.ValueSpan.{ValueSpan}
-use Rattle.sonic_parser.specs.declared.container.Next.TheVariants.{Item, End}
+use Rattle.sonic_parser.specs.declared.container.AfterItem.TheVariants.{Item, End}
 use Rattle.sonic_parser.specs.declared.skip.Reached.TheVariants.{Expected, Closed}
 use Rattle.sonic_parser.specs.Containers.{IsSeparatorFault}
 use Rattle.sonic_parser.specs.Internal.Skipping.{IsComplete, IsBegun, IsItemFault, IsReached}

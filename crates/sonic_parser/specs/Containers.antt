@@ -2,7 +2,7 @@
 use Rattle.std.specs.Prelude.{◌≡◌, ◌⊎◌, ℕ, ◌+◌, List}
 use Rattle.sonic_text.specs.declared.kind.Kind.{Kind}
 use Rattle.sonic_text.specs.declared.stop.Stop.{Stop}
-use Rattle.sonic_text.specs.Places.{byte, after_space, bad}
+use Rattle.sonic_text.specs.Places.{byte, after_space, stop_at}
 use Rattle.sonic_text.specs.Values.{closing}
 use Rattle.sonic_text.specs.Faults.{NothingFits, code_after_item}
 
@@ -20,4 +20,4 @@ GoesOn t kind e = (byte t (after_space t e) ≡ 44) ⊎ (byte t (after_space t e
 
 -- neither comes, for this reason
 abbrev pub IsSeparatorFault : List ℕ → Kind → ℕ → Stop → Type 0
-IsSeparatorFault t kind e s = NothingFits t e (closing kind) × (s ≡ bad t (after_space t e) (code_after_item kind))
+IsSeparatorFault t kind e s = NothingFits t e (closing kind) × (s ≡ stop_at t (after_space t e) (code_after_item kind))

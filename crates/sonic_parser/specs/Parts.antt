@@ -2,8 +2,8 @@
 use Rattle.std.specs.Prelude.{ℕ, ◌<◌, ◌≤◌, Bool, List, Option, length}
 use Rattle.sonic_text.specs.declared.kind.Kind.{Kind}
 use Rattle.sonic_text.specs.Values.{ItemHead, IsValue, ItemsFit}
-use Rattle.sonic_parser.specs.declared.container.Next.{Next}
-use Rattle.sonic_parser.specs.declared.container.Next.TheVariants.{Item, End}
+use Rattle.sonic_parser.specs.declared.container.AfterItem.{AfterItem}
+use Rattle.sonic_parser.specs.declared.container.AfterItem.TheVariants.{Item, End}
 use Rattle.sonic_parser.specs.declared.parts.ValueAt.{ValueAt}
 use Rattle.sonic_parser.specs.declared.parts.ValueAt.TheVariants.{Ends, Opens}
 use Rattle.sonic_parser.specs.Containers.{IsEnd, IsSeparated}
@@ -26,6 +26,6 @@ pub record IsItem (m : Bool) (t : List ℕ) (kind : Kind) (h v : ℕ) : Type 0 w
   pub head : ItemHead m t kind h v label
 
 -- after the item whose value ends at e the next one is expected, or the closing bracket comes
-abbrev pub IsAfterValue : List ℕ → Kind → ℕ → Next → Type 0
+abbrev pub IsAfterValue : List ℕ → Kind → ℕ → AfterItem → Type 0
 IsAfterValue t kind e (Item h) = (e < h) × (h ≤ length t) × IsSeparated t e h
 IsAfterValue t kind e (End j) = (e < j) × (j ≤ length t) × IsEnd t kind e j

@@ -6,12 +6,12 @@ use Rattle.sonic_error.specs.declared.code.ErrorCode.TheVariants.{InvalidUTF8, N
 use Rattle.sonic_error.specs.declared.error.Error.{Error}
 use Rattle.sonic_error.specs.Errors.{error_code, IsPlainError}
 use Rattle.sonic_error.specs.Texts.{valid_up_to}
-use Rattle.sonic_input.specs.Cursors.{IsNextInvalid}
+use Rattle.sonic_input.specs.ReadStates.{IsNextInvalid}
 use Rattle.sonic_text.specs.declared.stop.Stop.{Stop}
 use Rattle.sonic_text.specs.Strings.{strict, lossy, contents, IsString, IsEscapedString, IsStringFault}
 use Rattle.sonic_parser.specs.declared.reference.Reference.{Reference}
 use Rattle.sonic_parser.specs.declared.reference.Reference.TheVariants.{Borrowed, Copied}
-use Rattle.sonic_parser.specs.Parsers.{Parsing}
+use Rattle.sonic_parser.specs.Parsers.{ParserState}
 
 -- the text of a reference
 abbrev pub reference_text : Reference → List ℕ
@@ -32,12 +32,12 @@ abbrev pub IsTextThere : List ℕ → ℕ → ℕ → Type 0
 IsTextThere t i j = IsUtf8 (contents t i j) × ¬ IsEscapedString t i j
 
 -- the first invalid byte that is known after a string was read: where a lossy reader passed it, the next one, and else the same
-pub record IsNextKnown (before now : Parsing) : Type 0 where
+pub record IsNextKnown (before now : ParserState) : Type 0 where
   pub passed : before.lossy ≡ lossy → before.next_invalid < now.place → IsNextInvalid before.is_bytes before.text now.place now.next_invalid
   pub kept : (before.lossy ≡ strict) ⊎ (now.place ≤ before.next_invalid) → now.next_invalid ≡ before.next_invalid
 
 -- the string whose first quote comes before the cursor was read as this text, and the cursor is after its last
-pub record IsTextRead (before now : Parsing) (found : List ℕ) : Type 0 where
+pub record IsTextRead (before now : ParserState) (found : List ℕ) : Type 0 where
   pub bytes : List ℕ
   pub string : IsString before.lossy before.text (before.place - 1) now.place bytes
   pub text : found ≡ text_of before.lossy bytes
@@ -53,7 +53,7 @@ pub data IsNoText (m : Bool) (t : List ℕ) (i : ℕ) (s : Stop) : Type 0 where
 
 -- there is no memory for the text of the string whose first quote comes before the cursor: it has one, which isn't there in the input, and the parser is
 -- where it was
-pub record IsShortOfText (before now : Parsing) (e : Error) : Type 0 where
+pub record IsShortOfText (before now : ParserState) (e : Error) : Type 0 where
   pub end : ℕ
   pub bytes : List ℕ
   pub string : IsString before.lossy before.text (before.place - 1) end bytes

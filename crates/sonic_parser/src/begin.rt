@@ -4,14 +4,15 @@ ghost use Rattle.sonic_text.specs.Values.{opening};
 ghost use Rattle.sonic_text.specs.Faults.{IsFault};
 ghost use Rattle.sonic_parser.specs.Internal.Skipping.{IsBegun};
 
-use crate::container::{Next, first_item};
+use crate::container::{AfterItem, first_item};
 use crate::value_span::ValueSpan;
 use sonic_error::ErrorCode;
-use sonic_text::{Kind, Stop, byte_at, literal_end, number_end, stop_at, string_end};
+use sonic_text::internal::stop_at;
+use sonic_text::{Kind, Stop, byte_at, literal_end, number_end, string_end};
 
 // How far the beginning of a value leads.
 #[derive(Clone, Copy)]
-pub(crate) enum Begun {
+pub(crate) enum ValueStart {
     // The value is read.
     Complete(ValueSpan),
     // It is a container of this kind, whose first item is expected here.
@@ -20,28 +21,28 @@ pub(crate) enum Begun {
 
 // A value that is no string with a backslash.
 #[inline]
-fn plain(start: usize, end: usize) -> Begun
-    ensures { result ≡ Begun.Complete (record { start = start; end = end; escaped = false }) }
+fn plain(start: usize, end: usize) -> ValueStart
+    ensures { result ≡ ValueStart.Complete (record { start = start; end = end; escaped = false }) }
 {
-    Begun::Complete(ValueSpan::plain(start, end))
+    ValueStart::Complete(ValueSpan::plain(start, end))
 }
 
 // Begins the string whose quote is at a place.
 #[inline]
 #[tactic(auto, using(crate::proofs::BeginningLemmas::beginnings))]
-fn begin_string(text: &[u8], place: usize, lossy: bool) -> Result<Begun, Stop>
+fn begin_string(text: &[u8], place: usize, lossy: bool) -> Result<ValueStart, Stop>
     requires { byte text.now place ≡ 34 }
     ensures ok { IfOk result (λ begun. IsBegun lossy text.now place begun) }
     ensures err { IfErr result (λ s. IsFault lossy text.now place s) }
 {
     let string = string_end(text, place, lossy)?;
-    Ok(Begun::Complete(ValueSpan::of_string(place, string)))
+    Ok(ValueStart::Complete(ValueSpan::of_string(place, string)))
 }
 
 // Begins the number at a place.
 #[inline]
 #[tactic(auto, using(crate::proofs::BeginningLemmas::beginnings))]
-fn begin_number(text: &[u8], place: usize, lossy: bool) -> Result<Begun, Stop>
+fn begin_number(text: &[u8], place: usize, lossy: bool) -> Result<ValueStart, Stop>
     requires within { place ≤ length text.now }
     requires begins { (byte text.now place ≡ 45) ⊎ IsDigit (byte text.now place) }
     ensures ok { IfOk result (λ begun. IsBegun lossy text.now place begun) }
@@ -56,21 +57,21 @@ fn begin_number(text: &[u8], place: usize, lossy: bool) -> Result<Begun, Stop>
 // Begins the container whose bracket is at a place.
 #[inline]
 #[tactic(auto, using(crate::proofs::BeginningLemmas::beginnings))]
-fn begin_container(text: &[u8], place: usize, kind: Kind) -> Begun
+fn begin_container(text: &[u8], place: usize, kind: Kind) -> ValueStart
     requires within { place ≤ length text.now }
     requires bracket { byte text.now place ≡ opening kind }
     ensures { (m : Bool) → IsBegun m text.now place result }
 {
     match first_item(text, place, kind) {
-        Next::Item(first) => Begun::Inside(kind, first),
-        Next::End(end) => plain(place, end),
+        AfterItem::Item(first) => ValueStart::Inside(kind, first),
+        AfterItem::End(end) => plain(place, end),
     }
 }
 
 // Begins the value that is expected at a place.
 #[inline(always)]
 #[tactic(auto, using(crate::proofs::BeginningLemmas::beginnings))]
-pub(crate) fn begin(text: &[u8], place: usize, lossy: bool) -> Result<Begun, Stop>
+pub(crate) fn begin(text: &[u8], place: usize, lossy: bool) -> Result<ValueStart, Stop>
     requires { place ≤ length text.now }
     ensures ok { IfOk result (λ begun. IsBegun lossy text.now place begun) }
     ensures err { IfErr result (λ s. IsFault lossy text.now place s) }

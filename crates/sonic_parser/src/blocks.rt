@@ -4,10 +4,11 @@ ghost use Rattle.sonic_blocks.specs.Views.{AreMasks, IsMask};
 ghost use Rattle.sonic_text.specs.Brackets.{Closes, LeavesString};
 ghost use Rattle.sonic_text.specs.Places.{byte};
 ghost use Rattle.sonic_text.specs.Values.{opening, closing, IsValue};
-ghost use Rattle.sonic_parser.specs.Internal.Blocks.{AreKnown};
+ghost use Rattle.sonic_parser.specs.Internal.Blocks.{AreKnown, IsInContainer};
 ghost use Rattle.sonic_parser.specs.Internal.Unchecked.{IsInsideString, IsOpenString};
 
-use sonic_blocks::{Masks, Steps, Tape, closing_bit, get_string_bits};
+use sonic_blocks::internal::closing_bit;
+use sonic_blocks::{Masks, Steps, Tape, get_string_bits};
 use sonic_text::Kind;
 use std::marker::Brand;
 use std::sync::ledger::{Blank, Ledger};
@@ -53,25 +54,15 @@ fn brackets_of(masks: &Masks, kind: Kind) -> (u64, u64)
 }
 
 // Where the container ends, if it ends in this block.
-//
-// `tape` and `start` are for the contract alone.
 #[inline(always)]
-fn end_in(
-    tape: &Tape<'_>,
-    start: usize,
-    block: &Block,
-    kind: Kind,
-    known: &mut Known,
-) -> Option<usize>
-    requires masks { AreMasks tape.now block.now.place block.now.masks }
-    requires known { AreKnown kind tape.now start block.now.place known.old }
-    requires begins { byte tape.now start ≡ opening kind }
-    requires closes { (j : ℕ) × Closes kind tape.now start j × (block.now.place < j) }
+fn end_in(block: &Block, kind: Kind, known: &mut Known) -> Option<usize>
+    requires ends { (t : List ℕ) × (start : ℕ) × (j : ℕ)
+        × IsInContainer kind t start j block.now known.old }
     requires room { block.now.place < 2 ^ 63 }
-    ensures { MatchOption result
-        (AreKnown kind tape.now start (block.now.place + 64) known.new
-        × ((j : ℕ) → Closes kind tape.now start j → block.now.place < j → block.now.place + 64 < j))
-        (λ end. (j : ℕ) → Closes kind tape.now start j → block.now.place < j → end ≡ j) }
+    ensures { (t : List ℕ) (start j : ℕ) → IsInContainer kind t start j block.now known.old
+        → MatchOption result
+        (AreKnown kind t start (block.now.place + 64) known.new × (block.now.place + 64 < j))
+        (λ end. end ≡ j) }
 {
     let inside = get_string_bits(
         block.masks.backslash,
@@ -115,7 +106,7 @@ fn end_of_kind<L: Ledger>(
         masks,
     };
     while block.place < len {
-        if let Some(end) = end_in(tape, start, &block, kind, &mut known) {
+        if let Some(end) = end_in(&block, kind, &mut known) {
             return end;
         }
         block.place += 64;

@@ -10,17 +10,15 @@ ghost use Rattle.sonic_parser.specs.Parts.{IsAfterValue};
 ghost use Rattle.sonic_parser.specs.ValueSpans.{string_span, IsKeyAt};
 
 use sonic_error::ErrorCode;
-use sonic_text::{
-    Kind, Stop, StringEnd, byte_at, near_space, near_stop, skip_space, skip_string, stop_at,
-    string_end,
-};
+use sonic_text::internal::{short_space, short_stop, skip_string, stop_at};
+use sonic_text::{Kind, Stop, StringEnd, byte_at, skip_space, string_end};
 
 // Where so many bytes are left, what is short is read without a look at the text's end.
 pub(crate) const NEAR: usize = 128;
 
 /// How a container goes on.
 #[derive(Clone, Copy, Debug, PartialEq, Eq)]
-pub enum Next {
+pub enum AfterItem {
     /// With an item, which is expected here.
     Item(usize),
     /// With its closing bracket, which ends here.
@@ -29,16 +27,16 @@ pub enum Next {
 
 // How the container goes on whose bracket is at a place.
 #[inline(always)]
-pub(crate) fn first_item(text: &[u8], place: usize, kind: Kind) -> Next
+pub(crate) fn first_item(text: &[u8], place: usize, kind: Kind) -> AfterItem
     requires within { place ≤ length text.now }
     requires bracket { byte text.now place ≡ opening kind }
     ensures { IsAfterBracket text.now kind place result }
 {
     let first = skip_space(text, place + 1);
     if byte_at(text, first) == kind.closing() {
-        Next::End(first + 1)
+        AfterItem::End(first + 1)
     } else {
-        Next::Item(first)
+        AfterItem::Item(first)
     }
 }
 
@@ -47,24 +45,24 @@ pub(crate) fn first_item(text: &[u8], place: usize, kind: Kind) -> Next
 ///
 /// After the `1` of `[1 , 2]` the next item is expected at 5.
 #[inline(always)]
-pub fn next_item(text: &[u8], end: usize, kind: Kind) -> Result<Next, Stop>
+pub fn next_item(text: &[u8], end: usize, kind: Kind) -> Result<AfterItem, Stop>
     requires { end ≤ length text.now }
     ensures ok { IfOk result (λ next. IsAfterValue text.now kind end next) }
     ensures err { IfErr result (λ s. IsSeparatorFault text.now kind end s) }
 {
     let byte = byte_at(text, end);
     if byte == b',' {
-        return Ok(Next::Item(skip_space(text, end + 1)));
+        return Ok(AfterItem::Item(skip_space(text, end + 1)));
     }
     if byte == kind.closing() {
-        return Ok(Next::End(end + 1));
+        return Ok(AfterItem::End(end + 1));
     }
     let place = skip_space(text, end);
     let byte = byte_at(text, place);
     if byte == b',' {
-        Ok(Next::Item(skip_space(text, place + 1)))
+        Ok(AfterItem::Item(skip_space(text, place + 1)))
     } else if byte == kind.closing() {
-        Ok(Next::End(place + 1))
+        Ok(AfterItem::End(place + 1))
     } else {
         Err(stop_at(text, place, kind.code_after_item()))
     }
@@ -93,7 +91,7 @@ pub(crate) fn key_end(text: &[u8], place: usize, lossy: bool) -> Result<(StringE
 
 // The same without the reason, where the key is short: `None` says nothing of the text.
 #[inline(always)]
-fn near_key(text: &[u8], place: usize) -> Option<usize>
+fn short_key(text: &[u8], place: usize) -> Option<usize>
     requires { place + 36 ≤ length text.now }
     ensures { (m : Bool) → IfSome result (λ value. (place < value) × (value ≤ length text.now)
         × (b : List ℕ) × IsKey m text.now place value b) }
@@ -101,12 +99,12 @@ fn near_key(text: &[u8], place: usize) -> Option<usize>
     if text[place] != b'"' {
         return None;
     }
-    // Not by `near_string`, whose `Option` a compiler makes of the quote: the colon's place would wait for it.
-    let stop = near_stop(text, place)?;
+    // Not by `short_string`, whose `Option` a compiler makes of the quote: the colon's place would wait for it.
+    let stop = short_stop(text, place)?;
     if text[stop] != b'"' || text[stop + 1] != b':' {
         return None;
     }
-    Some(near_space(text, stop + 2))
+    Some(short_space(text, stop + 2))
 }
 
 // The place where the value is expected of the member whose key is expected at a place, or `None` where
@@ -118,7 +116,7 @@ pub(crate) fn skip_key(text: &[u8], place: usize, lossy: bool) -> Option<usize>
         × (b : List ℕ) × IsKey lossy text.now place value b) }
 {
     if text.len() - place >= NEAR
-        && let Some(value) = near_key(text, place)
+        && let Some(value) = short_key(text, place)
     {
         return Some(value);
     }

@@ -47,9 +47,9 @@ pub enum Step {
 }
 
 impl<'de> Model for Descent<'de> {
-    ghost use Rattle.sonic_parser.specs.Descents.{Descending};
+    ghost use Rattle.sonic_parser.specs.Descents.{DescentState};
 
-    ghost Value = { Descending };
+    ghost Value = { DescentState };
 
     ghost use Rattle.sonic_parser.specs.Internal.DescentViews.{descending_of};
 
@@ -112,7 +112,7 @@ impl<'de> Descent<'de> {
     #[inline(always)]
     pub fn value(&mut self, alloc: Global) -> Result<Step, Fault>
         ensures ok { IfOk result (IsDescentStep self.old self.new) }
-        ensures cursor { IsMoved self.old self.new }
+        ensures moved { IsMoved self.old self.new }
         ensures err { IfErr result (IsStopFor (λ s.
             IsFault self.old.lossy self.old.text self.old.place s)) }
         ensures parts { IfOk result (λ step. step ≡ Step.Passed
@@ -136,7 +136,7 @@ impl<'de> Descent<'de> {
     fn enter(&mut self, kind: Kind) -> Result<Step, Fault>
         requires { byte self.old.text self.old.place ≡ opening kind }
         ensures ok { IfOk result (IsDescentStep self.old self.new) }
-        ensures cursor { IsMoved self.old self.new }
+        ensures moved { IsMoved self.old self.new }
         ensures parts { IfOk result (λ step. step ≡ Step.Passed
             → ¬ IsFilledContainer self.old.text self.old.place) }
         ensures err { IfErr result (λ fault. fault ≡ Fault.OutOfMemory) }
@@ -162,7 +162,7 @@ impl<'de> Descent<'de> {
     #[inline(always)]
     pub fn head(&mut self, kind: Kind) -> Result<Option<ValueSpan>, Stop>
         ensures ok { IfOk result (IsHeadPassed kind self.old self.new) }
-        ensures cursor { self.new ≡ record self.old { place = self.new.place } }
+        ensures moved { self.new ≡ record self.old { place = self.new.place } }
         ensures err { IfErr result (λ s.
             IsKeyFault self.old.lossy self.old.text self.old.place s) }
         ensures object { OnErr result (kind ≡ Kind.Object) }
@@ -184,7 +184,7 @@ impl<'de> Descent<'de> {
     pub fn next(&mut self, kind: Kind) -> Result<bool, Stop>
         requires { 0 < length self.old.opened }
         ensures ok { IfOk result (IsNextOrClosed kind self.old self.new) }
-        ensures cursor { IsMoved self.old self.new }
+        ensures moved { IsMoved self.old self.new }
         ensures err { IfErr result (λ s. IsSeparatorFault self.old.text kind self.old.place s) }
         ensures within { IfErr result (λ s. s.place ≤ length self.old.text) }
         ensures kept { OnErr result (self.new ≡ self.old) }

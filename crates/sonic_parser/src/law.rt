@@ -6,7 +6,7 @@ ghost use Rattle.sonic_text.specs.declared.stop.Stop.{Stop};
 ghost use Rattle.sonic_text.specs.Faults.{IsFault};
 ghost use Rattle.sonic_text.specs.Places.{after_space};
 ghost use Rattle.sonic_text.specs.Values.{IsValue};
-ghost use Rattle.sonic_parser.specs.Descents.{Descending, IsMoved, KeepsTo, FailsAs};
+ghost use Rattle.sonic_parser.specs.Descents.{DescentState, IsMoved, KeepsTo, FailsAs};
 ghost use Rattle.sonic_parser.specs.Honest.{IsHonest, IsOfValue, stop_of};
 
 /// The law of honest errors, for both ways of reading, every text and every place: whatever other
@@ -34,6 +34,6 @@ pub fn honest_error_shows_the_fault()
 /// after `next` to an item or to the end of a value. At an end with nothing open the whole value
 /// ends, as `IsValue` says. So whoever walks in this order needs no other proof of an end or a fault.
 pub fn a_walk_keeps_to_its_value()
-    ensures keeps { (i : ℕ) (before now : Descending) → IsMoved before now → KeepsTo i before now }
-    ensures fails { (i : ℕ) (walk : Descending) (s : Stop) → FailsAs i walk s }
+    ensures keeps { (i : ℕ) (before now : DescentState) → IsMoved before now → KeepsTo i before now }
+    ensures fails { (i : ℕ) (walk : DescentState) (s : Stop) → FailsAs i walk s }
 {}

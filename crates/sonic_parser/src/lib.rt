@@ -12,6 +12,9 @@ mod container;
 mod descent;
 // Why a reader goes no further.
 mod fault;
+// What the crates above need, and no user of this one.
+#[doc(hidden)]
+pub mod internal;
 // The law of honest errors, and the law of walks.
 mod law;
 // The calls, over a cursor.
@@ -22,8 +25,8 @@ mod parts;
 mod quick;
 // Text that is borrowed from one of two places.
 mod reference;
-// Series of numbers, passed by blocks.
-mod series;
+// Runs of numbers, passed by blocks.
+mod number_run;
 // The loop over open containers.
 mod skip;
 // White space by blocks.
@@ -36,13 +39,9 @@ mod value_span;
 mod unchecked;
 
 pub use blocks::container_end;
-pub use container::{Next, next_item};
-pub use descent::{Descent, Step};
 pub use fault::Fault;
-pub use law::{a_walk_keeps_to_its_value, honest_error_shows_the_fault};
+pub use law::honest_error_shows_the_fault;
 pub use parser::Parser;
-pub use parts::{ValueAt, item_at, opens_nested_array, value_at};
-pub use quick::{after_comma, scalar_end, value_place};
 pub use reference::Reference;
 pub use status::ParseStatus;
 pub use value_span::ValueSpan;

@@ -12,7 +12,7 @@ ghost use Rattle.sonic_parser.specs.Containers.{IsEnd, IsSeparated, IsSeparatorF
 ghost use Rattle.sonic_parser.specs.Faults.{IsStopFor};
 ghost use Rattle.sonic_parser.specs.Honest.{IsHonest};
 
-use crate::container::{Next, first_item, key_end, next_item};
+use crate::container::{AfterItem, first_item, key_end, next_item};
 use crate::fault::Fault;
 use crate::space::{SpaceBlock, words_from};
 use crate::value_span::ValueSpan;
@@ -51,13 +51,13 @@ pub struct Parser<'de> {
 }
 
 impl<'de> Model for Parser<'de> {
-    ghost use Rattle.sonic_parser.specs.Parsers.{Parsing};
+    ghost use Rattle.sonic_parser.specs.Parsers.{ParserState};
 
-    ghost Value = { Parsing };
+    ghost Value = { ParserState };
 
-    ghost use Rattle.sonic_parser.specs.Internal.Views.{parsing_of, KeepsSpace};
+    ghost use Rattle.sonic_parser.specs.Internal.Views.{parser_state_of, KeepsSpace};
 
-    ghost view = { parsing_of };
+    ghost view = { parser_state_of };
 
     ghost invariant = { KeepsSpace };
 }
@@ -190,7 +190,7 @@ impl<'de> Parser<'de> {
         requires order { start ≤ end }
         requires within { end ≤ length self.old.text }
         ensures part { result.now ≡ slice_range self.old.text start end }
-        ensures cursor { self.new ≡ moved self.old end }
+        ensures moved { self.new ≡ moved self.old end }
     {
         self.read.set_index(end);
         self.read.slice(start, end)
@@ -200,7 +200,7 @@ impl<'de> Parser<'de> {
     fn stop(&mut self, stop: Stop) -> Error
         requires { stop.place ≤ length self.old.text }
         ensures error { IsErrorAt result stop.code self.old.text stop.place }
-        ensures cursor { self.new ≡ moved self.old stop.place }
+        ensures moved { self.new ≡ moved self.old stop.place }
     {
         self.read.set_index(stop.place);
         Error::syntax(stop.code, self.read.as_u8_slice(), stop.place)
@@ -214,7 +214,7 @@ impl<'de> Parser<'de> {
     #[tactic(auto, using(crate::proofs::RefusalLemmas::refusals))]
     pub fn parse_literal(&mut self, literal: &str) -> Result<(), Error>
         ensures ok { OnOk result (IsLiteral literal.now self.old.text self.old.place self.new.place) }
-        ensures cursor { OnOk result (self.new ≡ moved self.old self.new.place) }
+        ensures moved { OnOk result (self.new ≡ moved self.old self.new.place) }
         ensures err { IfErr result (λ error.
             IsStopped (IsLiteralFault literal.now self.old.text self.old.place) self.old self.new error) }
     {
@@ -239,7 +239,7 @@ impl<'de> Parser<'de> {
         ensures number { OnOk result (IsNumber self.old.text (self.old.place - 1) self.new.place) }
         ensures text { IfOk result (λ number.
             number.now ≡ slice_range self.old.text (self.old.place - 1) self.new.place) }
-        ensures cursor { OnOk result (self.new ≡ moved self.old self.new.place) }
+        ensures moved { OnOk result (self.new ≡ moved self.old self.new.place) }
         ensures err { IfErr result (λ error.
             IsStopped (IsNumberFault self.old.text (self.old.place - 1)) self.old self.new error) }
     {
@@ -262,14 +262,14 @@ impl<'de> Parser<'de> {
         ensures item { result ≡ true → IsEntered kind self.old self.new }
         ensures empty { result ≡ false
             → IsEnd self.old.text kind (self.old.place + 1) self.new.place }
-        ensures cursor { self.new ≡ moved self.old self.new.place }
+        ensures moved { self.new ≡ moved self.old self.new.place }
     {
         match first_item(self.read.as_u8_slice(), self.read.index(), kind) {
-            Next::Item(first) => {
+            AfterItem::Item(first) => {
                 self.read.set_index(first);
                 true
             }
-            Next::End(end) => {
+            AfterItem::End(end) => {
                 self.read.set_index(end);
                 false
             }
@@ -287,18 +287,18 @@ impl<'de> Parser<'de> {
             → IsSeparated self.old.text self.old.place self.new.place) }
         ensures end { IfOk result (λ more. more ≡ false
             → IsEnd self.old.text kind self.old.place self.new.place) }
-        ensures cursor { self.new ≡ moved self.old self.new.place }
+        ensures moved { self.new ≡ moved self.old self.new.place }
         ensures fits { OnOk result (self.new.place < 2 ^ 64) }
         ensures err { IfErr result (λ s. IsSeparatorFault self.old.text kind self.old.place s) }
         ensures within { IfErr result (λ s. s.place ≤ length self.old.text) }
         ensures kept { OnErr result (self.new ≡ self.old) }
     {
         match next_item(self.read.as_u8_slice(), self.read.index(), kind)? {
-            Next::Item(next) => {
+            AfterItem::Item(next) => {
                 self.read.set_index(next);
                 Ok(true)
             }
-            Next::End(end) => {
+            AfterItem::End(end) => {
                 self.read.set_index(end);
                 Ok(false)
             }
@@ -313,7 +313,7 @@ impl<'de> Parser<'de> {
     #[inline]
     pub fn key(&mut self) -> Result<ValueSpan, Stop>
         ensures ok { IfOk result (IsKeyPassed self.old self.new) }
-        ensures cursor { self.new ≡ moved self.old self.new.place }
+        ensures moved { self.new ≡ moved self.old self.new.place }
         ensures err { IfErr result (λ s.
             IsKeyFault self.old.lossy self.old.text self.old.place s) }
         ensures within { IfErr result (λ s. s.place ≤ length self.old.text) }

@@ -6,8 +6,8 @@ ghost use Rattle.sonic_text.specs.Faults.{IsFault, IsKeyFault};
 ghost use Rattle.sonic_text.specs.Values.{opening, ItemsFit};
 ghost use Rattle.sonic_parser.specs.Parts.{IsItem, IsValueAt};
 
-use crate::begin::{Begun, begin};
-use crate::container::{Next, first_item};
+use crate::begin::{ValueStart, begin};
+use crate::container::{AfterItem, first_item};
 use crate::skip::item_value;
 use sonic_text::{Kind, Stop, byte_at};
 
@@ -43,8 +43,8 @@ fn container_at(text: &[u8], place: usize, kind: Kind) -> ValueAt
     ensures { (m : Bool) → IsValueAt m text.now place result }
 {
     match first_item(text, place, kind) {
-        Next::Item(first) => ValueAt::Opens(kind, first),
-        Next::End(end) => ValueAt::Ends(end),
+        AfterItem::Item(first) => ValueAt::Opens(kind, first),
+        AfterItem::End(end) => ValueAt::Ends(end),
     }
 }
 
@@ -57,8 +57,8 @@ fn other_at(text: &[u8], place: usize, lossy: bool) -> Result<ValueAt, Stop>
     ensures err { IfErr result (λ s. IsFault lossy text.now place s) }
 {
     match begin(text, place, lossy)? {
-        Begun::Complete(value) => Ok(ValueAt::Ends(value.end)),
-        Begun::Inside(kind, first) => Ok(ValueAt::Opens(kind, first)),
+        ValueStart::Complete(value) => Ok(ValueAt::Ends(value.end)),
+        ValueStart::Inside(kind, first) => Ok(ValueAt::Opens(kind, first)),
     }
 }
 

@@ -9,21 +9,21 @@ ghost use Rattle.sonic_parser.specs.Internal.Skipping.{IsAhead, IsReached, IsOng
 ghost use Rattle.sonic_parser.specs.OpenContainers.{IsTop};
 ghost use Rattle.sonic_parser.specs.Parts.{IsAfterValue, IsItem, IsValueEnd};
 
-use crate::container::{NEAR, Next, first_item, skip_key};
-use crate::series::Series;
+use crate::container::{AfterItem, NEAR, first_item, skip_key};
+use crate::number_run::NumberRun;
 use crate::skip::{Extent, Reached, leave};
-use sonic_text::{
-    Kind, byte_at, near_number, near_space, near_string, skip_digits, skip_literal, skip_number,
-    skip_space, skip_string,
+use sonic_text::internal::{
+    short_number, short_space, short_string, skip_digits, skip_literal, skip_number, skip_string,
 };
+use sonic_text::{Kind, byte_at, skip_space};
 
 // What is at the place of a value.
 #[derive(Clone, Copy)]
-pub(crate) enum Ahead {
+pub(crate) enum Peek {
     // A value that ends here.
     Value(usize),
     // A value, after which the next item is expected here.
-    Next(usize),
+    AfterItem(usize),
     // A container of this kind, whose first item is expected here.
     Inside(Kind, usize),
     // Something else.
@@ -49,14 +49,14 @@ pub fn value_place(text: &[u8], place: usize, kind: Kind, lossy: bool) -> Option
 
 // What the container is whose bracket is at a place.
 #[inline(always)]
-fn inside(text: &[u8], place: usize, kind: Kind) -> Ahead
+fn inside(text: &[u8], place: usize, kind: Kind) -> Peek
     requires within { place ≤ length text.now }
     requires bracket { byte text.now place ≡ opening kind }
     ensures { (m : Bool) → IsAhead m text.now place result }
 {
     match first_item(text, place, kind) {
-        Next::Item(first) => Ahead::Inside(kind, first),
-        Next::End(end) => Ahead::Value(end),
+        AfterItem::Item(first) => Peek::Inside(kind, first),
+        AfterItem::End(end) => Peek::Value(end),
     }
 }
 
@@ -123,69 +123,69 @@ pub fn scalar_end(text: &[u8], place: usize, lossy: bool) -> Option<usize>
 
 // The end of the string, the number or the literal at a place, where it is short.
 #[inline(always)]
-fn near_scalar(text: &[u8], place: usize) -> Option<usize>
+fn short_scalar(text: &[u8], place: usize) -> Option<usize>
     requires { place + 64 ≤ length text.now }
     ensures end { IfSome result (λ end. (m : Bool) → IsValueEnd m text.now place end) }
     ensures near { IfSome result (λ end. end ≤ place + 50) }
 {
     let byte = text[place];
     if byte == b'"' {
-        return near_string(text, place);
+        return short_string(text, place);
     }
     if byte.is_ascii_digit() {
-        return near_number(text, place);
+        return short_number(text, place);
     }
     // Apart, so that the digits of most numbers are read before it is known that no sign is there.
     if byte == b'-' {
-        return near_number(text, place);
+        return short_number(text, place);
     }
     literal_ahead(text, place, byte)
 }
 
 // What is at the place of a value, where it is near.
 #[inline(always)]
-fn near_look(text: &[u8], place: usize) -> Ahead
+fn short_look(text: &[u8], place: usize) -> Peek
     requires { place + 128 ≤ length text.now }
     ensures { (m : Bool) → IsAhead m text.now place result }
 {
     let byte = text[place];
     if byte == b'{' && text[place + 1] == b'"' {
-        return Ahead::Inside(Kind::Object, place + 1);
+        return Peek::Inside(Kind::Object, place + 1);
     }
     if byte == b'[' && text[place + 1] > b' ' && text[place + 1] != b']' {
-        return Ahead::Inside(Kind::Array, place + 1);
+        return Peek::Inside(Kind::Array, place + 1);
     }
-    let Some(end) = near_scalar(text, place) else {
-        return Ahead::Other;
+    let Some(end) = short_scalar(text, place) else {
+        return Peek::Other;
     };
     if text[end] == b',' {
-        Ahead::Next(near_space(text, end + 1))
+        Peek::AfterItem(short_space(text, end + 1))
     } else {
-        Ahead::Value(end)
+        Peek::Value(end)
     }
 }
 
 // What is at the place of a value.
 #[inline(always)]
-fn look(text: &[u8], place: usize, lossy: bool) -> Ahead
+fn look(text: &[u8], place: usize, lossy: bool) -> Peek
     requires { place ≤ length text.now }
     ensures { IsAhead lossy text.now place result }
 {
     if text.len() - place >= NEAR {
-        match near_look(text, place) {
-            Ahead::Other => {}
+        match short_look(text, place) {
+            Peek::Other => {}
             ahead => return ahead,
         }
     }
     if let Some(end) = scalar_end(text, place, lossy) {
         return match after_comma(text, end) {
-            Some(next) => Ahead::Next(next),
-            None => Ahead::Value(end),
+            Some(next) => Peek::AfterItem(next),
+            None => Peek::Value(end),
         };
     }
     match Kind::opened_by(byte_at(text, place)) {
         Some(kind) => inside(text, place, kind),
-        None => Ahead::Other,
+        None => Peek::Other,
     }
 }
 
@@ -258,7 +258,7 @@ fn open_arrays(text: &[u8], kinds: &mut [Kind], depth: usize, place: usize) -> u
 pub fn after_comma(text: &[u8], ended: usize) -> Option<usize>
     requires { ended ≤ length text.now }
     ensures next { IfSome result (λ next. (kind : Kind)
-        → IsAfterValue text.now kind ended (Next.Item next)) }
+        → IsAfterValue text.now kind ended (AfterItem.Item next)) }
     ensures comma { IsSome result ↔ (byte text.now ended ≡ 44) }
 {
     if byte_at(text, ended) == b',' {
@@ -293,18 +293,18 @@ pub(crate) fn pass_items(
 {
     let mut depth = depth;
     let mut kind = kinds[depth - 1];
-    let mut series = Series::new(first);
+    let mut series = NumberRun::new(first);
     let mut place = series.pass(text, first, kind);
     'items: loop {
         let Some(value) = value_place(text, place, kind, lossy) else {
             return Extent::new(Reached::Expected(place), depth);
         };
         let ahead = look(text, value, lossy);
-        if let Ahead::Next(next) = ahead {
+        if let Peek::AfterItem(next) = ahead {
             place = next;
             continue 'items;
         }
-        if let Ahead::Inside(inner, first) = ahead
+        if let Peek::Inside(inner, first) = ahead
             && depth < kinds.len()
         {
             kinds[depth] = inner;
@@ -315,7 +315,7 @@ pub(crate) fn pass_items(
             place = series.pass(text, first + count, kind);
             continue 'items;
         }
-        let Ahead::Value(ended) = ahead else {
+        let Peek::Value(ended) = ahead else {
             return Extent::new(Reached::Expected(place), depth);
         };
         let extent = leave(text, kinds, depth, ended);

@@ -7,11 +7,12 @@ ghost use Rattle.sonic_parser.specs.Internal.Skipping.{IsItemFault, IsReached, I
 ghost use Rattle.sonic_parser.specs.OpenContainers.{IsItemEnded};
 ghost use Rattle.sonic_parser.specs.Parts.{IsItem};
 
-use crate::begin::{Begun, begin};
-use crate::container::{Next, key_end, next_item};
+use crate::begin::{ValueStart, begin};
+use crate::container::{AfterItem, key_end, next_item};
 use crate::fault::Fault;
 use crate::quick::close_quickly;
-use sonic_text::{Kind, Stop, skip_space, stop_at};
+use sonic_text::internal::stop_at;
+use sonic_text::{Kind, Stop, skip_space};
 
 // The place where the value is expected of the item that is expected at a place.
 #[inline]
@@ -77,8 +78,8 @@ pub(crate) fn leave(text: &[u8], kinds: &[Kind], depth: usize, ended: usize) -> 
     let mut depth = depth;
     'containers: loop {
         match next_item(text, end, kinds[depth - 1]) {
-            Ok(Next::Item(next)) => return Extent::new(Reached::Expected(next), depth),
-            Ok(Next::End(close)) => end = close,
+            Ok(AfterItem::Item(next)) => return Extent::new(Reached::Expected(next), depth),
+            Ok(AfterItem::End(close)) => end = close,
             Err(_) => return Extent::new(Reached::Ended(end), depth),
         }
         depth -= 1;
@@ -90,55 +91,56 @@ pub(crate) fn leave(text: &[u8], kinds: &[Kind], depth: usize, ended: usize) -> 
 
 // Passes the item that is expected at `place`, and the ends of containers after it, or enters the
 // container that is its value: how far the items of the open containers fit then.
-//
-// `root` is for the contract alone.
 #[inline]
 #[tactic(auto, using(crate::proofs::SkippingLemmas::steps))]
-fn advance(
-    text: &[u8],
-    root: usize,
-    opened: &mut Vec<Kind>,
-    place: usize,
-    lossy: bool,
-) -> Result<Reached, Fault>
-    requires { IsReached lossy text.now root opened.old.items (Reached.Expected place) }
+fn advance(text: &[u8], opened: &mut Vec<Kind>, place: usize, lossy: bool) -> Result<Reached, Fault>
+    requires within { place ≤ length text.now }
+    requires some { 0 < length opened.old.items }
     ensures further { IfOk result (λ reached. (h : ℕ) → reached ≡ Reached.Expected h → place < h) }
     ensures within { IfOk result (λ reached. place_of reached ≤ length text.now) }
     ensures some { IfOk result (IsOngoing (length opened.new.items)) }
-    ensures ok { IfOk result (IsReached lossy text.now root opened.new.items) }
-    ensures err { IfErr result (IsStopFor (λ s. IsFault lossy text.now root s)) }
+    ensures ok { IfOk result (λ reached. (root : ℕ)
+        → IsReached lossy text.now root opened.old.items (Reached.Expected place)
+        → IsReached lossy text.now root opened.new.items reached) }
+    ensures err { IfErr result (IsStopFor (λ s. (root : ℕ)
+        → IsReached lossy text.now root opened.old.items (Reached.Expected place)
+        → IsFault lossy text.now root s)) }
 {
     let value = item_value(text, place, opened[opened.len() - 1], lossy)?;
     match begin(text, value, lossy)? {
-        Begun::Complete(skipped) => {
+        ValueStart::Complete(skipped) => {
             let extent = leave(text, opened, opened.len(), skipped.end);
             opened.truncate(extent.depth);
             Ok(extent.reached)
         }
-        Begun::Inside(inner, first) => {
+        ValueStart::Inside(inner, first) => {
             opened.push(inner)?;
             Ok(Reached::Expected(first))
         }
     }
 }
 
-// The end of the container that begins at `root`, an item of which is expected at `first`, item by
-// item.
+// The end of the outermost container that is open, where an item of the innermost is expected at
+// `first`, item by item.
 fn close_slowly(
     text: &[u8],
-    root: usize,
     opened: &mut Vec<Kind>,
     first: usize,
     lossy: bool,
 ) -> Result<usize, Fault>
-    requires { IsReached lossy text.now root opened.old.items (Reached.Expected first) }
+    requires within { first ≤ length text.now }
+    requires some { 0 < length opened.old.items }
     ensures within { IfOk result (λ end. end ≤ length text.now) }
-    ensures ok { IfOk result (λ end. IsValue lossy text.now root end) }
-    ensures err { IfErr result (IsStopFor (λ s. IsFault lossy text.now root s)) }
+    ensures ok { IfOk result (λ end. (root : ℕ)
+        → IsReached lossy text.now root opened.old.items (Reached.Expected first)
+        → IsValue lossy text.now root end) }
+    ensures err { IfErr result (IsStopFor (λ s. (root : ℕ)
+        → IsReached lossy text.now root opened.old.items (Reached.Expected first)
+        → IsFault lossy text.now root s)) }
 {
     let mut place = first;
     'items: loop {
-        match advance(text, root, opened, place, lossy)? {
+        match advance(text, opened, place, lossy)? {
             Reached::Expected(next) => place = next,
             Reached::Ended(end) => return Err(Fault::At(separator_stop(text, end, opened))),
             Reached::Closed(end) => return Ok(end),
@@ -157,24 +159,29 @@ pub(crate) fn separator_stop(text: &[u8], end: usize, opened: &[Kind]) -> Stop
     stop_at(text, skip_space(text, end), kind.code_after_item())
 }
 
-// The end of the container that begins at `root`, whose first item is expected at `first`.
+// The end of the outermost container that is open, where an item of the innermost is expected at
+// `first`.
 //
-// `opened` has the kind of that container. While the loops run, it has the kinds of all containers
-// that are open, the outermost first. It is all that grows.
+// `opened` has the kinds of all containers that are open, the outermost first, and so it does while
+// the loops run. It is all that grows.
 pub(crate) fn close(
     text: &[u8],
-    root: usize,
     opened: &mut Vec<Kind>,
     first: usize,
     lossy: bool,
 ) -> Result<usize, Fault>
-    requires { IsReached lossy text.now root opened.old.items (Reached.Expected first) }
+    requires within { first ≤ length text.now }
+    requires some { 0 < length opened.old.items }
     ensures within { IfOk result (λ end. end ≤ length text.now) }
-    ensures ok { IfOk result (λ end. IsValue lossy text.now root end) }
-    ensures err { IfErr result (IsStopFor (λ s. IsFault lossy text.now root s)) }
+    ensures ok { IfOk result (λ end. (root : ℕ)
+        → IsReached lossy text.now root opened.old.items (Reached.Expected first)
+        → IsValue lossy text.now root end) }
+    ensures err { IfErr result (IsStopFor (λ s. (root : ℕ)
+        → IsReached lossy text.now root opened.old.items (Reached.Expected first)
+        → IsFault lossy text.now root s)) }
 {
     match close_quickly(text, opened, first, lossy) {
-        Reached::Expected(place) => close_slowly(text, root, opened, place, lossy),
+        Reached::Expected(place) => close_slowly(text, opened, place, lossy),
         Reached::Ended(end) => Err(Fault::At(separator_stop(text, end, opened))),
         Reached::Closed(end) => Ok(end),
     }

@@ -1,5 +1,5 @@
 // White space by blocks, of which the last one is kept.
-ghost use Rattle.std.specs.Prelude.{◌≡◌, ℕ, ◌+◌, ◌<◌, ◌≤◌, length, MatchOption, IfSome, IfNone};
+ghost use Rattle.std.specs.Prelude.{◌≡◌, ℕ, ◌+◌, ◌^◌, ◌<◌, ◌≤◌, List, length, MatchOption, IfSome, IfNone};
 ghost use Rattle.sonic_text.specs.Places.{byte, after_space, is_space};
 ghost use Rattle.sonic_parser.specs.Internal.Spaces.{AreWords, IsKeptBlock};
 
@@ -24,19 +24,19 @@ fn block_at(text: &[u8], start: usize) -> Option<SpaceBlock>
     Some(SpaceBlock { start, words })
 }
 
-// The end of the white space from a place in a block on, if it is in the block.
-//
-// `text` is for the contract alone.
-fn word_in(text: &[u8], block: SpaceBlock, place: usize) -> Option<usize>
-    requires words { AreWords text.now block }
-    requires inside { (block.start ≤ place) × (place < block.start + 64) }
-    ensures end { MatchOption result
-        (after_space text.now place ≡ after_space text.now (block.start + 64))
-        (λ word. word ≡ after_space text.now place) }
-    ensures within { IfSome result (λ word. word ≤ length text.now) }
-{
-    let word = next_bit(block.words, place - block.start)?;
-    Some(block.start + word)
+impl SpaceBlock {
+    // The first place from a place in the block on that holds no white space, if it is in the block.
+    fn next_word(self, place: usize) -> Option<usize>
+        requires inside { (self.start ≤ place) × (place < self.start + 64) }
+        requires room { self.start < 2 ^ 63 }
+        ensures end { (t : List ℕ) → AreWords t self → MatchOption result
+            (after_space t place ≡ after_space t (self.start + 64))
+            (λ word. word ≡ after_space t place) }
+        ensures within { IfSome result (λ word. word < self.start + 64) }
+    {
+        let word = next_bit(self.words, place - self.start)?;
+        Some(self.start + word)
+    }
 }
 
 // The first place from a place on that holds no white space, or the end. The block that is kept is
@@ -53,14 +53,14 @@ pub(crate) fn words_from(text: &[u8], place: usize, kept: &mut Option<SpaceBlock
         && block.start <= at
         && at - block.start < 64
     {
-        if let Some(word) = word_in(text, block, at) {
+        if let Some(word) = block.next_word(at) {
             return word;
         }
         at = block.start + 64;
     }
     while let Some(block) = block_at(text, at) {
         *kept = Some(block);
-        if let Some(word) = word_in(text, block, at) {
+        if let Some(word) = block.next_word(at) {
             return word;
         }
         at += 64;

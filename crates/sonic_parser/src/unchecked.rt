@@ -18,9 +18,10 @@ ghost use Rattle.sonic_parser.specs.Parts.{IsAfterValue};
 ghost use Rattle.sonic_parser.specs.ValueSpans.{string_span, IsKeyAt};
 
 use crate::blocks::{open_string, whole_container};
-use crate::container::Next;
-use sonic_blocks::first_of;
-use sonic_text::{Kind, StringEnd, skip_number, skip_space};
+use crate::container::AfterItem;
+use sonic_blocks::internal::first_of;
+use sonic_text::internal::skip_number;
+use sonic_text::{Kind, StringEnd, skip_space};
 
 // The end of the string whose first quote is at a place: after the next quote that no backslash
 // escapes.
@@ -63,15 +64,15 @@ fn mark_after_space(text: &[u8], place: usize, a: u8, b: u8) -> usize
 
 // How a container that is known to be whole goes on after the item whose value ended at a place.
 #[inline(always)]
-pub(crate) fn whole_next(text: &[u8], end: usize, kind: Kind) -> Next
+pub(crate) fn whole_next(text: &[u8], end: usize, kind: Kind) -> AfterItem
     requires { GoesOn text.now kind end }
     ensures { IsAfterValue text.now kind end result }
 {
     let mark = mark_after_space(text, end, b',', kind.closing());
     if text[mark] == b',' {
-        Next::Item(skip_space(text, mark + 1))
+        AfterItem::Item(skip_space(text, mark + 1))
     } else {
-        Next::End(mark + 1)
+        AfterItem::End(mark + 1)
     }
 }
 

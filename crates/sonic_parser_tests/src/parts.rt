@@ -1,8 +1,8 @@
 // What is at a place of a text, for a walk that keeps its own stack.
 use crate::same::same_at;
 use sonic_error::ErrorCode;
-use sonic_parser::{
-    Next, ValueAt, after_comma, item_at, next_item, opens_nested_array, scalar_end, value_at,
+use sonic_parser::internal::{
+    AfterItem, ValueAt, after_comma, item_at, next_item, opens_nested_array, scalar_end, value_at,
     value_place,
 };
 use sonic_text::{Kind, Stop};
@@ -72,10 +72,15 @@ fn finds_how_a_container_goes_on(rt: HostRuntime) {
     same_at(
         &rt,
         next_item(b"[1 , 2]", 2, Kind::Array),
-        Ok(Next::Item(5)),
+        Ok(AfterItem::Item(5)),
         0,
     );
-    same_at(&rt, next_item(b"[1 ]", 2, Kind::Array), Ok(Next::End(4)), 1);
+    same_at(
+        &rt,
+        next_item(b"[1 ]", 2, Kind::Array),
+        Ok(AfterItem::End(4)),
+        1,
+    );
     let (place, code) = (2, ErrorCode::ExpectedArrayCommaOrEnd);
     let stop = Stop { place, code };
     same_at(&rt, next_item(b"[1}", 2, Kind::Array), Err(stop), 2);

@@ -29,7 +29,7 @@ fn kind_here(parser: &Parser<'_>) -> Option<Kind>
 fn pass_head(parser: &mut Parser<'_>, kind: Kind) -> Result<(), Stop>
     ensures head { OnOk result ((l : Option (List ℕ)) × ItemHead parser.old.lossy parser.old.text
         kind parser.old.place parser.new.place l) }
-    ensures cursor { OnOk result (parser.new ≡ moved parser.old parser.new.place) }
+    ensures moved { OnOk result (parser.new ≡ moved parser.old parser.new.place) }
     ensures err { IfErr result (λ s. (kind ≡ Kind.Object)
         × IsKeyFault parser.old.lossy parser.old.text parser.old.place s) }
 {
@@ -47,7 +47,7 @@ fn pass_value(alloc: Global, parser: &mut Parser<'_>) -> Result<(), Fault>
     ensures later { OnOk result (parser.old.place < parser.new.place) }
     ensures value { OnOk result (IsValue parser.old.lossy parser.old.text
         parser.old.place parser.new.place) }
-    ensures cursor { OnOk result (parser.new ≡ moved parser.old parser.new.place) }
+    ensures moved { OnOk result (parser.new ≡ moved parser.old parser.new.place) }
     ensures err { IfErr result (IsStopFor (λ s. IsFault
         parser.old.lossy parser.old.text parser.old.place s)) }
 {

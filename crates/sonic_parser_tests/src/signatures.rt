@@ -8,9 +8,9 @@ ghost use Rattle.sonic_text.specs.Places.{byte};
 ghost use Rattle.sonic_text.specs.Values.{opening, IsValue};
 
 use crate::same::same;
+use sonic_blocks::internal::first_of;
 use sonic_blocks::{
-    Masks, Steps, StringBlock, Tape, first_of, get_escaped, get_nonspace_bits, get_string_bits,
-    prefix_xor,
+    Masks, Steps, StringBlock, Tape, get_escaped, get_nonspace_bits, get_string_bits, prefix_xor,
 };
 use sonic_error::{Error, Wanted};
 use sonic_input::Read;

@@ -7,8 +7,8 @@ use Rattle.sonic_find.specs.Answers.{Span, span_text}
 use Rattle.sonic_lazy.proofs.IteratorLemmas.{never_ends}
 use Rattle.sonic_lazy.proofs.ListingLemmas.{listing_one, listing_of_whole}
 use Rattle.sonic_lazy.proofs.WholeLemmas.{lazy_is_whole}
-use Rattle.sonic_lazy.specs.Items.{Item, Listing, closed, stopped, stop_at, Ending, EndsItems, at_broken_text, at_bracket, at_stop, IsItemAt, AreItems, no_items, one_more_item, AreClosed, closed_empty, closed_after, AreStopped, no_container, no_item, no_separator, no_key, no_value, IsListing}
-use Rattle.sonic_lazy.specs.Iterators.{Iterating, iterator_over, ShowsElement, IsOver}
+use Rattle.sonic_lazy.specs.Items.{Item, Listing, closed, stopped, stop_with, Ending, EndsItems, at_broken_text, at_bracket, at_stop, IsItemAt, AreItems, no_items, one_more_item, AreClosed, closed_empty, closed_after, AreStopped, no_container, no_item, no_separator, no_key, no_value, IsListing}
+use Rattle.sonic_lazy.specs.Iterators.{IteratorState, iterator_over, ShowsElement, IsOver}
 use Rattle.sonic_lazy.specs.LazyValues.{raw_bytes}
 use Rattle.sonic_lazy.specs.Scalars.{container, scalar_of}
 use Rattle.sonic_lazy.specs.declared.lazyvalue.LazyValue.{LazyValue}
@@ -44,7 +44,7 @@ elements_one {t} x y =
 
 -- the elements of a text that starts with a value and with a bracket end with a bracket
 stop_never : {t : List ℕ} {n : ℕ} {s : Stop} → StartsWithUtf8Value t → byte t (after_space t 0) ≡ 91 → AreStopped t Array n s
-    → s ≡ stop_at (after_space t 0) ExpectedArrayStart → ⊥
+    → s ≡ stop_with (after_space t 0) ExpectedArrayStart → ⊥
 stop_never x opens (no_container z b is) e = b opens
 stop_never x opens (no_item r b is) e = let clash = ap (λ (s : Stop). s.code) (sym is ∙ e) in absurd cc
 stop_never x opens (no_separator y z f is) e = let clash = ap (λ (s : Stop). s.code) (sym is ∙ e) in absurd cc
@@ -52,11 +52,11 @@ stop_never x opens (no_key k r b f) e = absurd cc
 stop_never x opens (no_value r b y f) e = value_never_both x.root (in_value r y f)
 
 ends_closed : {t : List ℕ} {n : ℕ} {e : Ending} → StartsWithUtf8Value t → byte t (after_space t 0) ≡ 91 → EndsItems t false Array n e
-    → e ≡ stopped (stop_at (after_space t 0) ExpectedArrayStart) → ⊥
+    → e ≡ stopped (stop_with (after_space t 0) ExpectedArrayStart) → ⊥
 ends_closed x opens (at_broken_text b broken z is) e = never_bytes b
 ends_closed x opens (at_bracket u c is) e = let clash = sym is ∙ e in absurd cc
 ends_closed {t} x opens (at_stop {s} u stop is) e =
-    let same : s ≡ stop_at (after_space t 0) ExpectedArrayStart = cc in
+    let same : s ≡ stop_with (after_space t 0) ExpectedArrayStart = cc in
     stop_never x opens stop same
 
 listing_closed : {t : List ℕ} (l : Listing) → StartsWithUtf8Value t → byte t (after_space t 0) ≡ 91 → IsListing t false Array l → l.ending ≡ closed
@@ -151,11 +151,11 @@ element_first first x is = record {
 }
 
 -- an iterator over an array that has given so many elements
-abbrev pub HasGiven : Iterating → List ℕ → ℕ → Type 0
+abbrev pub HasGiven : IteratorState → List ℕ → ℕ → Type 0
 HasGiven it t n = it ≡ record (iterator_over Array t false false) { given = n }
 
 -- where the iterator is over these are all
-pub all_first : {it now : Iterating} {t : List ℕ} {ops : List (Operation Form)} → HasGiven it t it.given → AreFirst t it.given ops → IsOver it now → SaysOperations t ops
+pub all_first : {it now : IteratorState} {t : List ℕ} {ops : List (Operation Form)} → HasGiven it t it.given → AreFirst t it.given ops → IsOver it now → SaysOperations t ops
 all_first {it} {t = t} g first over = elim over.reason [
   | inl ended ↦ (let going : it.ended ≡ false = rw g refl in absurd cc)
   | inr ends ↦

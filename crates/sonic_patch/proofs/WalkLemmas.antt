@@ -22,7 +22,7 @@ use Rattle.sonic_text.proofs.TreeLemmas.{type_means, value_of}
 use Rattle.sonic_text.proofs.Values.{key-longer, value_end_one}
 use Rattle.sonic_text.proofs.Within.{value_within}
 use Rattle.sonic_parser.specs.declared.descent.Step.TheVariants.{Passed, Entered}
-use Rattle.sonic_parser.specs.Descents.{Descending, IsMoved, IsDescentStep, IsHeadPassed, IsNextOrClosed}
+use Rattle.sonic_parser.specs.Descents.{DescentState, IsMoved, IsDescentStep, IsHeadPassed, IsNextOrClosed}
 use Rattle.sonic_parser.specs.OpenContainers.{IsTop}
 use Rattle.sonic_parser.specs.Parsers.{IsFilledContainer}
 use Rattle.sonic_patch.specs.Internal.Tags.{Tag, Frame, leaf_tag, begin_tag, end_tag, frame, tags, item_tags, tags_after}
@@ -53,7 +53,7 @@ some_open : (kinds : List Kind) (kind : Kind) → 0 < length (kinds ++ kind ∷ 
 some_open kinds kind = omega (arith, length-append kinds (kind ∷ []))
 
 -- at the root
-pub rooted : {w : Descending} {rest : List Tag} → length w.opened ≡ 0 → RemainsFromItem w rest → RemainsFromValue w None rest
+pub rooted : {w : DescentState} {rest : List Tag} → length w.opened ≡ 0 → RemainsFromItem w rest → RemainsFromValue w None rest
 rooted {w} z (root_expected {e} {x} o m r) = record { end = e; tree = x; frames = []; opened = o; means = m; follows = nothing_follows; are = r }
 rooted {w} z (item_expected {kind} {frames = frames} o is f r) = absurd (omega (arith, some_open (kinds_of frames) kind, ap length o))
 
@@ -84,12 +84,12 @@ IsKeyOf t start None (Some part) = ⊥
 IsKeyOf t start (Some key) None = ⊥
 
 -- what was passed before an item's value
-record PassedHead (w : Descending) (kind : Kind) (place : ℕ) (part : Option (Bor (List ℕ))) : Type 0 where
+record PassedHead (w : DescentState) (kind : Kind) (place : ℕ) (part : Option (Bor (List ℕ))) : Type 0 where
   label : Option (List ℕ)
   head : ItemHead strict w.text kind w.place place label
   is : IsKeyLabel part label
 
-head_of : (w now : Descending) (kind : Kind) (key : Option ValueSpan) (part : Option (Bor (List ℕ))) → w.lossy ≡ strict → IsHeadPassed kind w now key
+head_of : (w now : DescentState) (kind : Kind) (key : Option ValueSpan) (part : Option (Bor (List ℕ))) → w.lossy ≡ strict → IsHeadPassed kind w now key
     → IsKeyOf w.text w.place key part → PassedHead w kind now.place part
 head_of w now Array None None s p k = record { label = None; head = no_head p; is = tt }
 head_of w now Array None (Some part) s p k = absurd k
@@ -102,7 +102,7 @@ head_of w now Object (Some key) (Some part) s p k =
     record { label = Some p.bytes; head = key_head y; is = rw k (word_of string) }
 
 -- what comes before the value of an item was passed
-pub headed : {w now : Descending} {rest : List Tag} (kind : Kind) (key : Option ValueSpan) (part : Option (Bor (List ℕ))) → w.lossy ≡ strict → 0 < length w.opened → IsTop w.opened kind
+pub headed : {w now : DescentState} {rest : List Tag} (kind : Kind) (key : Option ValueSpan) (part : Option (Bor (List ℕ))) → w.lossy ≡ strict → 0 < length w.opened → IsTop w.opened kind
     → now ≡ record w { place = now.place } → IsHeadPassed kind w now key → IsKeyOf w.text w.place key part → RemainsFromItem w rest
     → (l : Option (List ℕ)) × IsKeyLabel part l × RemainsFromValue now l rest
 headed {w} kind key part s some top moved passed cut (root_expected o m r) = absurd (omega (arith, some, ap length o))
@@ -124,7 +124,7 @@ headed {w} {now} {rest} kind key part s some top moved passed cut (item_expected
       follows = first.follows;
       are = are ∙ ap (λ (l : Option (List ℕ)). tags l first.tree after) same.1;
     } in
-    (head.label, head.is, subst (λ (o : Descending). RemainsFromValue o head.label rest) (sym moved) value)
+    (head.label, head.is, subst (λ (o : DescentState). RemainsFromValue o head.label rest) (sym moved) value)
 
 -- a value that isn't a filled container is one tag
 bare : {t : List ℕ} {i j : ℕ} {x : Tree} → Means t i j x → ¬ IsFilledContainer t i → IsBare x
@@ -137,7 +137,7 @@ bare (means_empty b c q) none = tt
 bare {t} {i} (means_filled {kind} b q d is) none = absurd (let e : byte t (after_space t (i + 1)) ≢ closing kind = rw q at d in none (kind, b, e))
 
 -- what is left once a value without parts was passed
-pub record HasPassed (w now : Descending) (l : Option (List ℕ)) (rest : List Tag) : Type 0 where
+pub record HasPassed (w now : DescentState) (l : Option (List ℕ)) (rest : List Tag) : Type 0 where
   pub tree : Tree
   pub others : List Tag
   pub are : rest ≡ leaf_tag l tree ∷ others
@@ -145,7 +145,7 @@ pub record HasPassed (w now : Descending) (l : Option (List ℕ)) (rest : List T
   pub is_bare : IsBare tree
   pub remain : RemainsAfterItem now others
 
-pub value_passed : {w now : Descending} {l : Option (List ℕ)} {rest : List Tag} → w.lossy ≡ strict → RemainsFromValue w l rest → IsMoved w now → IsDescentStep w now Passed
+pub value_passed : {w now : DescentState} {l : Option (List ℕ)} {rest : List Tag} → w.lossy ≡ strict → RemainsFromValue w l rest → IsMoved w now → IsDescentStep w now Passed
     → ¬ IsFilledContainer w.text w.place → HasPassed w now l rest
 value_passed {w} {now} {l} {rest} s x e step none =
     let same : now.text ≡ w.text = ap (λ o. o.text) e in
@@ -185,12 +185,12 @@ items_tags (last_item y m c q) l rest = refl
 items_tags (more_items y m c q is) l rest = refl
 
 -- what is left once a container was entered
-pub record HasEntered (now : Descending) (kind : Kind) (l : Option (List ℕ)) (rest : List Tag) : Type 0 where
+pub record HasEntered (now : DescentState) (kind : Kind) (l : Option (List ℕ)) (rest : List Tag) : Type 0 where
   pub others : List Tag
   pub are : rest ≡ begin_tag l kind ∷ others
   pub remain : RemainsFromItem now others
 
-entered_at : {w now : Descending} {kind : Kind} {l : Option (List ℕ)} {rest : List Tag} {h : ℕ} → RemainsFromValue w l rest → now.text ≡ w.text → now.opened ≡ w.opened ++ kind ∷ []
+entered_at : {w now : DescentState} {kind : Kind} {l : Option (List ℕ)} {rest : List Tag} {h : ℕ} → RemainsFromValue w l rest → now.text ≡ w.text → now.opened ≡ w.opened ++ kind ∷ []
     → now.place ≡ h → h ≡ after_space w.text (w.place + 1) → byte w.text w.place ≡ opening kind → byte w.text h ≢ closing kind → HasEntered now kind l rest
 entered_at {w} {now} {kind} {l} {rest} {h} x same opened at q b d =
     let typed = sym (type_means x.means) ∙ bracket_type kind (byte w.text w.place) b in
@@ -213,7 +213,7 @@ fit_start : {t : List ℕ} {kind : Kind} {i n h : ℕ} → ItemsFit strict t kin
 fit_start (first_item b q d z) e = (b, q, d)
 fit_start (next_item is y x c q o) e = absurd (omega arith)
 
-pub value_entered : {w now : Descending} {kind : Kind} {l : Option (List ℕ)} {rest : List Tag} → w.lossy ≡ strict → RemainsFromValue w l rest → IsMoved w now
+pub value_entered : {w now : DescentState} {kind : Kind} {l : Option (List ℕ)} {rest : List Tag} → w.lossy ≡ strict → RemainsFromValue w l rest → IsMoved w now
     → IsDescentStep w now (Entered kind) → HasEntered now kind l rest
 value_entered {w} {now} {kind} s x e step =
     let same : now.text ≡ w.text = ap (λ o. o.text) e in
@@ -226,16 +226,16 @@ finished_at : {rest : List Tag} (frames : List Frame) → length (kinds_of frame
 finished_at [] z e = e
 finished_at (frame kind xs ∷ frames) z e = absurd (omega (arith, some_open (kinds_of frames) kind))
 
-pub finished : {w : Descending} {rest : List Tag} → length w.opened ≡ 0 → RemainsAfterItem w rest → rest ≡ []
+pub finished : {w : DescentState} {rest : List Tag} → length w.opened ≡ 0 → RemainsAfterItem w rest → rest ≡ []
 finished {w} {rest} z h = finished_at h.frames (omega (arith, ap length h.opened, z)) h.are
 
 -- what is left once a container has ended
-pub record HasLeft (now : Descending) (kind : Kind) (rest : List Tag) : Type 0 where
+pub record HasLeft (now : DescentState) (kind : Kind) (rest : List Tag) : Type 0 where
   pub others : List Tag
   pub are : rest ≡ end_tag kind ∷ others
   pub remain : RemainsAfterItem now others
 
-left_at : {t : List ℕ} {now : Descending} {kind : Kind} {rest : List Tag} (w : Descending) (e : ℕ) (frames : List Frame) → 0 < length w.opened → IsTop w.opened kind → now.text ≡ t
+left_at : {t : List ℕ} {now : DescentState} {kind : Kind} {rest : List Tag} (w : DescentState) (e : ℕ) (frames : List Frame) → 0 < length w.opened → IsTop w.opened kind → now.text ≡ t
     → now.opened ≡ take (length w.opened - 1) w.opened → byte t (after_space t e) ≡ closing kind → now.place ≡ after_space t e + 1
     → w.opened ≡ kinds_of frames → rest ≡ tags_after frames → Follows t e frames → HasLeft now kind rest
 left_at w e [] some top same opened c q o r f = absurd (omega (arith, some, ap length o))
@@ -246,12 +246,12 @@ left_at {t} {now} {kind} w e (frame k xs ∷ frames) some top same opened c q o 
     record { others = tags_after frames; are = r ∙ rw named refl; remain = record { frames = frames; opened = kinds; follows = follows; are = refl } }
 left_at {kind = kind} w e (frame k xs ∷ frames) some top same opened c q o r (items_follow d g is f) = absurd (closing_no_comma kind (sym c ∙ d))
 
-pub container_left : {w now : Descending} {kind : Kind} {rest : List Tag} → 0 < length w.opened → IsTop w.opened kind → RemainsAfterItem w rest → IsMoved w now
+pub container_left : {w now : DescentState} {kind : Kind} {rest : List Tag} → 0 < length w.opened → IsTop w.opened kind → RemainsAfterItem w rest → IsMoved w now
     → IsNextOrClosed kind w now false → HasLeft now kind rest
 container_left {w} some top h e step = left_at w w.place h.frames some top (ap (λ o. o.text) e) step.0 step.1.0 step.1.1 h.opened h.are h.follows
 
 -- after a comma
-next_at : {t : List ℕ} {now : Descending} {rest : List Tag} (e : ℕ) (frames : List Frame) → now.text ≡ t → now.opened ≡ kinds_of frames → 0 < length (kinds_of frames)
+next_at : {t : List ℕ} {now : DescentState} {rest : List Tag} (e : ℕ) (frames : List Frame) → now.text ≡ t → now.opened ≡ kinds_of frames → 0 < length (kinds_of frames)
     → byte t (after_space t e) ≡ 44 → now.place ≡ after_space t (after_space t e + 1) → rest ≡ tags_after frames → Follows t e frames → RemainsFromItem now rest
 next_at e [] same o some c q r f = absurd (omega (arith, some))
 next_at e (frame k xs ∷ frames) same o some c q r (bracket_follows d f) = absurd (closing_no_comma k (sym d ∙ c))
@@ -260,19 +260,19 @@ next_at {now = now} e (frame k xs ∷ frames) same o some c q r (items_follow {j
     let follows : Follows now.text j frames = rw same f in
     item_expected o there follows r
 
-pub item_next : {w now : Descending} {rest : List Tag} (kind : Kind) → 0 < length w.opened → RemainsAfterItem w rest → IsMoved w now → IsNextOrClosed kind w now true → RemainsFromItem now rest
+pub item_next : {w now : DescentState} {rest : List Tag} (kind : Kind) → 0 < length w.opened → RemainsAfterItem w rest → IsMoved w now → IsNextOrClosed kind w now true → RemainsFromItem now rest
 item_next {w} kind some h e step =
     next_at w.place h.frames (ap (λ o. o.text) e) (step.0 ∙ h.opened) (omega (arith, some, ap length h.opened)) step.1.0 step.1.1 h.are h.follows
 
 -- the cursor moves on
-pub head_later : (w now : Descending) (kind : Kind) (key : Option ValueSpan) → IsHeadPassed kind w now key → w.place ≤ now.place
+pub head_later : (w now : DescentState) (kind : Kind) (key : Option ValueSpan) → IsHeadPassed kind w now key → w.place ≤ now.place
 head_later w now Array None p = omega (arith, p)
 head_later w now Array (Some key) p = absurd p
 head_later w now Object None p = absurd p
 head_later w now Object (Some key) p = let l = key-longer p.key in omega arith
 
 -- at the beginning
-pub started : {w : Descending} {t : List ℕ} {e : ℕ} {x : Tree} → w.text ≡ t → w.place ≡ 0 → w.opened ≡ [] → Means t 0 e x → RemainsFromItem w (tags None x [])
+pub started : {w : DescentState} {t : List ℕ} {e : ℕ} {x : Tree} → w.text ≡ t → w.place ≡ 0 → w.opened ≡ [] → Means t 0 e x → RemainsFromItem w (tags None x [])
 started {w} {e = e} {x = x} same place opened m = let there : Means w.text w.place e x = rw (same, place) m in root_expected opened there refl
 
 -- what a text means, by other names of it and of the places
@@ -280,11 +280,11 @@ pub means_renamed : {t u : List ℕ} {i j k l : ℕ} {x : Tree} → t ≡ u → 
 means_renamed e f g m = rw (e, f, g) m
 
 -- a key that was passed begins where the walk was
-pub key_begins : (w now : Descending) (kind : Kind) (key : ValueSpan) → IsHeadPassed kind w now (Some key) → key.start ≡ w.place
+pub key_begins : (w now : DescentState) (kind : Kind) (key : ValueSpan) → IsHeadPassed kind w now (Some key) → key.start ≡ w.place
 key_begins w now Array key p = absurd p
 key_begins w now Object key p = p.start
 
 -- and is a part of the text
-pub key_bounds : (w now : Descending) (kind : Kind) (key : ValueSpan) → IsHeadPassed kind w now (Some key) → (w.place ≤ key.end) × (key.end ≤ length w.text)
+pub key_bounds : (w now : DescentState) (kind : Kind) (key : ValueSpan) → IsHeadPassed kind w now (Some key) → (w.place ≤ key.end) × (key.end ≤ length w.text)
 key_bounds w now Array key p = absurd p
 key_bounds w now Object key p = let l = string_longer p.string in (omega arith, value_within (string p.string))

@@ -7,7 +7,8 @@ ghost use Rattle.sonic_patch.specs.Internal.Walks.{RemainsFromItem, RemainsFromV
 
 use sonic_error::JsonType;
 use sonic_input::Read;
-use sonic_parser::{Descent, Fault, Parser, Step};
+use sonic_parser::internal::{Descent, Step};
+use sonic_parser::{Fault, Parser};
 use sonic_text::{Kind, Stop, byte_at, type_of};
 use std::alloc::Global;
 
@@ -53,7 +54,7 @@ fn leaf_at(text: &[u8], start: usize, end: usize) -> Leaf<'_>
 fn pass_key<'t>(walk: &mut Descent<'t>) -> Result<Option<&'t [u8]>, Stop>
     ensures ok { IfOk result (λ key. walk.old.lossy ≡ strict → (rest : List Tag) → RemainsFromItem walk.old rest
         → (l : Option (List ℕ)) × IsKeyLabel key l × RemainsFromValue walk.new l rest) }
-    ensures cursor { walk.new ≡ record walk.old { place = walk.new.place } }
+    ensures moved { walk.new ≡ record walk.old { place = walk.new.place } }
     ensures later { OnOk result (walk.old.place ≤ walk.new.place) }
 {
     if walk.depth() == 0 {

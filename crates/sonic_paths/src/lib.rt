@@ -3,6 +3,9 @@
 
 // Heads, whatever their lines say: the lines one after the other, and where the document begins.
 mod head;
+// What the crates above need, and no user of this one.
+#[doc(hidden)]
+pub mod internal;
 // The law of heads.
 mod law;
 // One path line.
@@ -10,7 +13,6 @@ mod line;
 // Heads of path lines.
 mod lines;
 
-pub use head::{HeadEnd, LineReader, find_line_end, read_head};
 pub use law::head_says_one_thing;
 pub use line::path_of_line;
 pub use lines::{Head, read_paths};

@@ -51,7 +51,7 @@ fn node_array(alloc: Global, parser: &mut Parser<'_>) -> Result<Option<OwnedPath
     requires strictly { parser.old.lossy ≡ strict }
     requires bracket { byte parser.old.text parser.old.place ≡ 91 }
     ensures path { IfOk result (λ found. IsArrayRead parser.old parser.new found) }
-    ensures cursor { parser.new ≡ moved parser.old parser.new.place }
+    ensures moved { parser.new ≡ moved parser.old parser.new.place }
 {
     let mut path = OwnedPath::new(alloc);
     if !parser.enter(Kind::Array) {
@@ -77,7 +77,7 @@ fn node(alloc: Global, parser: &mut Parser<'_>) -> Result<Option<OwnedNode>, All
     requires utf8 { IsUtf8 parser.old.text }
     requires strictly { parser.old.lossy ≡ strict }
     ensures node { IfOk result (λ found. IsNodeRead parser.old parser.new found) }
-    ensures cursor { parser.new ≡ moved parser.old parser.new.place }
+    ensures moved { parser.new ≡ moved parser.old parser.new.place }
 {
     match byte_at(parser.text(), parser.offset()) {
         b'"' => key(alloc, parser),
@@ -92,7 +92,7 @@ fn key(alloc: Global, parser: &mut Parser<'_>) -> Result<Option<OwnedNode>, Allo
     requires strictly { parser.old.lossy ≡ strict }
     requires quote { byte parser.old.text parser.old.place ≡ 34 }
     ensures node { IfOk result (λ found. IsNodeRead parser.old parser.new found) }
-    ensures cursor { parser.new ≡ moved parser.old parser.new.place }
+    ensures moved { parser.new ≡ moved parser.old parser.new.place }
 {
     let string = match parser.skip_value(alloc) {
         Ok(string) => string,
@@ -108,7 +108,7 @@ fn index(parser: &mut Parser<'_>) -> Option<OwnedNode>
     requires begins { (byte parser.old.text parser.old.place ≡ 45)
         ⊎ IsDigit (byte parser.old.text parser.old.place) }
     ensures node { IsNodeRead parser.old parser.new result }
-    ensures cursor { parser.new ≡ moved parser.old parser.new.place }
+    ensures moved { parser.new ≡ moved parser.old parser.new.place }
 {
     let first = parser.skip_space()?;
     let Ok(word) = parser.skip_number(first) else {

@@ -1,7 +1,7 @@
 // Heads that are read into a tree that holds a path.
 use crate::same::same_at;
-use sonic_paths::HeadEnd::{Bad, Document};
-use sonic_paths::{HeadEnd, read_head};
+use sonic_paths::internal::HeadEnd::{Bad, Document};
+use sonic_paths::internal::{HeadEnd, read_head};
 use sonic_pointer::PointerNode::{Index, Key};
 use sonic_pointer::PointerTree;
 use std::test::Fail;

@@ -6,7 +6,7 @@ use Rattle.sonic_text.specs.Paths.{Path}
 use Rattle.sonic_pointer.specs.Paths.{IsShort}
 use Rattle.sonic_pointer.specs.Internal.Tries.{Entry, Spot, entry_at, prefix_of, paths_of, IsTree, IsChain, with_order, with_child}
 use Rattle.sonic_pointer.specs.Internal.TrieFields.{kept_entries, kept_paths, KeepsTree, IsInsertionPoint, Branches}
-use Rattle.sonic_pointer.specs.declared.commit.Parts.{Parts}
+use Rattle.sonic_pointer.specs.declared.insert.Parts.{Parts}
 use Rattle.sonic_pointer.specs.declared.trie.InsertionPoint.{InsertionPoint}
 use Rattle.sonic_pointer.proofs.WayLemmas.{Holds, prefix_same, paths_more, spot_at-of}
 use Rattle.sonic_pointer.proofs.TreeLemmas.{tree_ended, ended_holds, tree_branched, branched_end}

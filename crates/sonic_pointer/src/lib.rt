@@ -4,7 +4,7 @@
 // What follows a prefix.
 mod branch;
 // A path more in a tree: all memory is taken before anything changes.
-mod commit;
+mod insert;
 // Why a tree refuses a path.
 mod fault;
 // `pointer!`.

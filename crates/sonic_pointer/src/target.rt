@@ -10,7 +10,7 @@ ghost use Rattle.sonic_pointer.specs.Nodes.{node_of};
 ghost use Rattle.sonic_pointer.specs.Internal.Nodes.{node_cmp};
 
 use crate::node::PointerNode;
-use sonic_text::compare_key;
+use sonic_text::internal::compare_key;
 use std::cmp::Ordering;
 
 // What the children of a vertex are searched for.

@@ -4,8 +4,8 @@ ghost use Rattle.std.specs.List.{All};
 ghost use Rattle.sonic_pointer.specs.Nodes.{path_of};
 ghost use Rattle.sonic_pointer.specs.Paths.{IsMixed, IsShort, IsUnmixed};
 
-use crate::commit::{Parts, insert_path};
 use crate::fault::PathError;
+use crate::insert::{Parts, insert_path};
 use crate::node::PointerNode;
 use crate::owned::{OwnedPath, Steps};
 use crate::vertex::Vertex;

@@ -8,7 +8,7 @@ use Rattle.std.specs.declared.borrow.CowStr.{CowStr}
 use Rattle.sonic_error.specs.declared.error.Error.{Error}
 use Rattle.sonic_lazy.proofs.ListingLemmas.{listing_one}
 use Rattle.sonic_lazy.specs.Items.{Item, closed, stopped, Listing, IsItemAt, no_items, one_more_item, EndsItems, IsListing}
-use Rattle.sonic_lazy.specs.Iterators.{Iterating, iterator_over, ShowsElement, ShowsMember, IsNextError, out_of_memory as no_memory, no_next_item, IsOver}
+use Rattle.sonic_lazy.specs.Iterators.{IteratorState, iterator_over, ShowsElement, ShowsMember, IsNextError, out_of_memory as no_memory, no_next_item, IsOver}
 use Rattle.sonic_lazy.specs.LazyValues.{raw_bytes}
 use Rattle.sonic_lazy.specs.declared.lazyvalue.LazyValue.{LazyValue}
 use Rattle.sonic_text.specs.Values.{ItemHead, no_head}
@@ -76,18 +76,18 @@ member_more {Z} {t} members text {member} lines x same =
     lines_more line_of_member members (member.0, text) x.item lines x.is (rw (same, x.shown, x.key, append_assoc) refl)
 
 -- an iterator that has given so many items
-abbrev Gave : Iterating → List ℕ → Kind → ℕ → Type 0
+abbrev Gave : IteratorState → List ℕ → Kind → ℕ → Type 0
 Gave it t kind n = it ≡ record (iterator_over kind t true true) { given = n }
 
 -- its error is where the items stop
-pub last_error : {it : Iterating} {t : List ℕ} {kind : Kind} {e : Error} → Gave it t kind it.given → IsNextError it e → IsLastError t kind it.given e
+pub last_error : {it : IteratorState} {t : List ℕ} {kind : Kind} {e : Error} → Gave it t kind it.given → IsNextError it e → IsLastError t kind it.given e
 last_error g (no_memory plain takes) = out_of_memory plain
 last_error {it} {t} {kind} g (no_next_item {s} ends at) =
     let end : EndsItems t true kind it.given (stopped s) = rw g at ends in
     last_stop s end (rw g at at)
 
 -- and where it is over the container is closed
-pub over_closed : {it now : Iterating} {t : List ℕ} {kind : Kind} → Gave it t kind it.given → IsOver it now → EndsItems t true kind it.given closed
+pub over_closed : {it now : IteratorState} {t : List ℕ} {kind : Kind} → Gave it t kind it.given → IsOver it now → EndsItems t true kind it.given closed
 over_closed {it} {t} {kind} g over = elim over.reason [
   | inl ended ↦ (let going : it.ended ≡ false = rw g refl in absurd cc)
   | inr ends ↦ rw g at ends

@@ -124,10 +124,10 @@ fn answer<'i>(alloc: Global, request: &'i Request) -> Result<Reply<'i>, AllocErr
         Request::Input(Command::Edit, input) => edit::report(alloc, input),
         Request::Input(Command::Fill, input) => fill::report(alloc, input),
         Request::Input(Command::Fast, input) => fast::report(alloc, input),
-        Request::Input(Command::Indent(width), input) => texts::wide(alloc, input, *width),
+        Request::Input(Command::Indent(width), input) => texts::indented(alloc, input, *width),
         Request::Input(Command::Index, input) => index::report(alloc, input),
         Request::Input(Command::Lines, input) => lines::report(alloc, input),
-        Request::Input(Command::Min, input) => texts::small(alloc, input),
+        Request::Input(Command::Min, input) => texts::minified(alloc, input),
         Request::Input(Command::Patch, input) => patch::report(alloc, input),
         Request::Input(Command::Gen(count), _) => generated::report(alloc, *count),
     }

@@ -5,7 +5,7 @@ use Rattle.sonic_parser.specs.Honest.{MayGoOnFrom}
 use Rattle.sonic_text.specs.declared.stop.Stop.{Stop}
 use Rattle.sonic_text.specs.Strings.{strict}
 use Rattle.sonic_text.specs.Values.{IsValue}
-use Rattle.sonic_text.proofs.Stops.{bad_from, value_stop}
+use Rattle.sonic_text.proofs.Stops.{stop_at_from, value_stop}
 use Rattle.sonic_text.proofs.Values.{value-longer, value_end_one, value_fault_one, value_never_both}
 use Rattle.sonic_text.proofs.Within.{value_within}
 use Rattle.sonic_stream.specs.Streams.{Stream, start_of, IsRecord, IsNeverOne, IsWrong, IsPastLine, IsLineFeed, MayBecomeOne, IsNextRecord}
@@ -13,8 +13,8 @@ use Rattle.sonic_stream.specs.Streams.IsSettled.{by_end}
 use Rattle.sonic_stream.specs.Streams.IsWrong.{at_fault, at_end}
 use Rattle.sonic_stream.specs.Streams.IsPastLine.{with_line_feed, so_far}
 use Rattle.sonic_stream.specs.Streams.IsNextRecord.{whole, needs_more, wrong, cut, end}
-use Rattle.sonic_stream.specs.declared.stream.Next.{Next}
-use Rattle.sonic_stream.specs.declared.stream.Next.TheVariants.{Record, Wrong}
+use Rattle.sonic_stream.specs.declared.stream.NextRecord.{NextRecord}
+use Rattle.sonic_stream.specs.declared.stream.NextRecord.TheVariants.{Record, Wrong}
 
 -- a record that is there ends at one place
 record_end_one : (s : Stream) {j k : ℕ} → IsRecord s.held s.is_ended s.next j → IsRecord s.held s.is_ended s.next k → j ≡ k
@@ -56,7 +56,7 @@ wrong_stop_one {a = a} {b} (at_end v c) (at_end w d) = let e : a.place ≡ b.pla
 wrong_starts : {s : Stream} {stop : Stop} → stop.place < length s.held → IsWrong s stop → start_of s ≢ length s.held
 wrong_starts {s} {stop} l (at_fault f) e =
     let h = value_stop f in
-    omega (arith, bad_from s.held h.place h.code stop h.is h.later (omega arith))
+    omega (arith, stop_at_from s.held h.place h.code stop h.is h.later (omega arith))
 wrong_starts l (at_end v c) e = omega (arith, value-longer v)
 
 -- the first line feed is at one place
@@ -71,7 +71,7 @@ past_line_one (so_far n f) (with_line_feed {e = k} x e) = absurd (n k x.later x.
 past_line_one (so_far m e) (so_far n f) = cc
 
 -- a record that is there is the one answer
-whole_one : {s a b : Stream} {j : ℕ} {y : Next} → IsRecord s.held s.is_ended s.next j → a ≡ record s { next = j } → IsNextRecord s b y → (Record (start_of s) j ≡ y) × (a ≡ b)
+whole_one : {s a b : Stream} {j : ℕ} {y : NextRecord} → IsRecord s.held s.is_ended s.next j → a ≡ record s { next = j } → IsNextRecord s b y → (Record (start_of s) j ≡ y) × (a ≡ b)
 whole_one {s} r e (whole q f) = let o = record_end_one s r q in (cc, cc)
 whole_one r e (needs_more n h m f) = absurd (h _ r)
 whole_one {s} {j = j} r e (wrong l w n p) = absurd (n s.held s.is_ended j refl r)
@@ -79,7 +79,7 @@ whole_one r e (cut n h m l f) = absurd (h _ r)
 whole_one {s} r e (end n o f) = absurd (omega (arith, record_starts s r))
 
 -- two things wrong are one
-wrong_one : {s a b : Stream} {stop : Stop} {y : Next} → stop.place < length s.held → IsWrong s stop → IsNeverOne s stop → IsPastLine s stop.place a → IsNextRecord s b y
+wrong_one : {s a b : Stream} {stop : Stop} {y : NextRecord} → stop.place < length s.held → IsWrong s stop → IsNeverOne s stop → IsPastLine s stop.place a → IsNextRecord s b y
     → (Wrong (s.before + stop.place) stop.code ≡ y) × (a ≡ b)
 wrong_one {s} l w n p (whole {end = j} r f) = absurd (n s.held s.is_ended j refl r)
 wrong_one {s} {stop = stop} l w n p (needs_more x h m f) = absurd (may_not_wrong s stop l m n)
@@ -88,7 +88,7 @@ wrong_one {s} {stop = stop} l w n p (cut x h m k f) = absurd (goes_on_not_wrong 
 wrong_one {s} l w n p (end x o f) = absurd (wrong_starts l w o)
 
 -- the next answer and the stream afterwards
-pub next_one : {s a b : Stream} {x y : Next} → IsNextRecord s a x → IsNextRecord s b y → (x ≡ y) × (a ≡ b)
+pub next_one : {s a b : Stream} {x y : NextRecord} → IsNextRecord s a x → IsNextRecord s b y → (x ≡ y) × (a ≡ b)
 next_one (whole r e) g = whole_one r e g
 next_one (wrong l w n p) g = wrong_one l w n p g
 next_one f (whole r e) = let o = whole_one r e f in (cc, cc)

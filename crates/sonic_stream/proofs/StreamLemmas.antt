@@ -19,7 +19,7 @@ use Rattle.sonic_text.proofs.SameFaults.{fault_decides}
 use Rattle.sonic_text.proofs.Stops.{stop_byte, value_stop}
 use Rattle.sonic_text.proofs.Within.{value_within}
 use Rattle.sonic_text.proofs.Values.{value-longer, value_end_one, value_never_both}
-use Rattle.sonic_parser.specs.Parsers.{Parsing, value_start, IsSkipped}
+use Rattle.sonic_parser.specs.Parsers.{ParserState, value_start, IsSkipped}
 use Rattle.sonic_parser.specs.declared.status.ParseStatus.{ParseStatus}
 use Rattle.sonic_stream.specs.Streams.{Stream, start_of, HasNoRecord, IsSettled, IsNeverOne, IsLineFeed, NoLineFeed}
 use Rattle.sonic_stream.specs.Streams.IsSettled.{by_itself, by_space, by_end}
@@ -88,7 +88,7 @@ no_line_feed_there t p l h = λ k a b z.
     h (k - p) (omega arith) (omega arith) (rw (rest_byte t p k a b, z) refl)
 
 -- a value that was skipped begins as many bytes before its end as its text has
-pub skipped_from : {before now : Parsing} {bytes : List ℕ} {needs : ParseStatus} → IsSkipped before now bytes needs → now.place - length bytes ≡ value_start before
+pub skipped_from : {before now : ParserState} {bytes : List ℕ} {needs : ParseStatus} → IsSkipped before now bytes needs → now.place - length bytes ≡ value_start before
 skipped_from {before} {now} x =
     let o = value-longer x.value in
     let n = part_length before.text (value_start before) now.place (omega arith) (value_within x.value) in

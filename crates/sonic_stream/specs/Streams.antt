@@ -7,8 +7,8 @@ use Rattle.sonic_text.specs.Places.{byte, after_space, is_space}
 use Rattle.sonic_text.specs.Strings.{strict}
 use Rattle.sonic_text.specs.Values.{IsValue}
 use Rattle.sonic_parser.specs.Honest.{MayGoOnFrom}
-use Rattle.sonic_stream.specs.declared.stream.Next.{Next}
-use Rattle.sonic_stream.specs.declared.stream.Next.TheVariants.{Record, NeedsMore, Wrong, Cut, End}
+use Rattle.sonic_stream.specs.declared.stream.NextRecord.{NextRecord}
+use Rattle.sonic_stream.specs.declared.stream.NextRecord.TheVariants.{Record, NeedsMore, Wrong, Cut, End}
 
 -- the bytes that are held, the place of the next record in them, how many bytes of the stream came before them, whether the rest of a wrong record's
 -- line is still to come, and whether the stream has ended
@@ -72,7 +72,7 @@ abbrev pub MayBecomeOne : Stream → Type 0
 MayBecomeOne s = MayGoOnFrom strict s.held s.next ⊎ IsValue strict s.held (start_of s) (length s.held)
 
 -- what `next` answers, and what is held afterwards
-pub data IsNextRecord (s now : Stream) : Next → Type 0 where
+pub data IsNextRecord (s now : Stream) : NextRecord → Type 0 where
   whole : {end : ℕ} → IsRecord s.held s.is_ended s.next end → now ≡ record s { next = end } → IsNextRecord s now (Record (start_of s) end)
   needs_more : IsFalse s.is_ended → HasNoRecord s → MayBecomeOne s → now ≡ s → IsNextRecord s now NeedsMore
   wrong : {stop : Stop} → stop.place < length s.held → IsWrong s stop → IsNeverOne s stop → IsPastLine s stop.place now → IsNextRecord s now (Wrong (s.before + stop.place) stop.code)

@@ -7,4 +7,4 @@ mod law;
 mod stream;
 
 pub use law::stream_has_one_next;
-pub use stream::{Next, RecordStream};
+pub use stream::{NextRecord, RecordStream};

@@ -21,7 +21,7 @@ use std::marker::Model;
 /// Of the piece `1 -` that is `Record { start: 0, end: 1 }` and then `NeedsMore`; after `finish` it is
 /// `Cut` and then `End`.
 #[derive(Clone, Copy, Debug, PartialEq, Eq)]
-pub enum Next {
+pub enum NextRecord {
     /// A whole record: the bytes of `held` from `start` to `end`.
     Record { start: usize, end: usize },
     /// Bytes are missing: what is held is no record yet, but may become one.
@@ -122,7 +122,7 @@ impl RecordStream {
         }
     }
 
-    /// The bytes that are held, up to the next `add`. `Next::Record` says which of them are a record.
+    /// The bytes that are held, up to the next `add`. `NextRecord::Record` says which of them are a record.
     ///
     /// After the pieces `[1` and `2] 3` they are `[12] 3`, and the first record is the bytes from 0 to 4.
     pub fn held(&self) -> &[u8]
@@ -210,16 +210,16 @@ impl RecordStream {
     }
 
     // What is next where the value that is expected is whole.
-    fn whole(&mut self, start: usize, end: usize) -> Next
+    fn whole(&mut self, start: usize, end: usize) -> NextRecord
         requires start { start ≡ start_of self.old }
         requires value { IsValue strict self.old.held start end }
         ensures { IsNextRecord self.old self.new result }
     {
         if is_settled(self.held(), self.is_ended, start, end) {
             self.next = end;
-            Next::Record { start, end }
+            NextRecord::Record { start, end }
         } else if end == self.held().len() {
-            Next::NeedsMore
+            NextRecord::NeedsMore
         } else {
             self.wrong(Stop {
                 place: end,
@@ -229,23 +229,23 @@ impl RecordStream {
     }
 
     // What is next where the value that is expected is cut.
-    fn cut(&mut self) -> Next
+    fn cut(&mut self) -> NextRecord
         requires none { (j : ℕ) → ¬ IsValue strict self.old.held (start_of self.old) j }
         requires goes_on { MayGoOnFrom strict self.old.held self.old.next }
         ensures { IsNextRecord self.old self.new result }
     {
         if !self.is_ended {
-            return Next::NeedsMore;
+            return NextRecord::NeedsMore;
         }
         if self.is_over() {
-            return Next::End;
+            return NextRecord::End;
         }
         self.next = self.held().len();
-        Next::Cut
+        NextRecord::Cut
     }
 
     // What is next where no bytes make the value that is expected whole.
-    fn wrong(&mut self, stop: Stop) -> Next
+    fn wrong(&mut self, stop: Stop) -> NextRecord
         requires within { stop.place < length self.old.held }
         requires wrong { IsWrong self.old stop }
         requires never { IsNeverOne self.old stop }
@@ -253,7 +253,7 @@ impl RecordStream {
     {
         let place = self.before + stop.place;
         self.pass_line(stop.place);
-        Next::Wrong {
+        NextRecord::Wrong {
             place,
             code: stop.code,
         }
@@ -290,7 +290,7 @@ impl RecordStream {
     ///
     /// What is dropped as `Wrong` would be no record however the stream went on. On an error memory ran
     /// out, and nothing has changed. Only a record that is an array or an object with items takes memory.
-    pub fn next(&mut self, alloc: Global) -> Result<Next, AllocError>
+    pub fn next(&mut self, alloc: Global) -> Result<NextRecord, AllocError>
         ensures ok { IfOk result (IsNextRecord self.old self.new) }
         ensures err { OnErr result (self.new ≡ self.old) }
         ensures memory { OnErr result (IsFilledContainer self.old.held (start_of self.old)) }

@@ -1,6 +1,6 @@
 // A stream of records cut into pieces at each place.
 use crate::same::same_at;
-use sonic_stream::{Next, RecordStream};
+use sonic_stream::{NextRecord, RecordStream};
 use std::alloc::Global;
 use std::str;
 use std::test::Fail;
@@ -22,7 +22,7 @@ const STREAM: &str = concat!(
 fn read(alloc: Global, records: &mut RecordStream, lines: &mut String) -> Result<(), Fail> {
     for _ in 0..=records.held().len() {
         match records.next(alloc)? {
-            Next::Record { start, end } => {
+            NextRecord::Record { start, end } => {
                 let place = records.before().saturating_add(start);
                 let text = records.held().get(start..end).unwrap_or(b"");
                 writeln!(
@@ -31,9 +31,9 @@ fn read(alloc: Global, records: &mut RecordStream, lines: &mut String) -> Result
                     str::from_utf8(text).unwrap_or("no text")
                 )?;
             }
-            Next::Wrong { place, code } => writeln!(lines, "{place} wrong: {code}")?,
-            Next::Cut => writeln!(lines, "cut")?,
-            Next::NeedsMore | Next::End => return Ok(()),
+            NextRecord::Wrong { place, code } => writeln!(lines, "{place} wrong: {code}")?,
+            NextRecord::Cut => writeln!(lines, "cut")?,
+            NextRecord::NeedsMore | NextRecord::End => return Ok(()),
         }
     }
     Ok(())

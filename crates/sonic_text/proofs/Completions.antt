@@ -12,7 +12,7 @@ use Rattle.sonic_text.specs.Places.{byte, digits_end, IsDigit}
 use Rattle.sonic_text.specs.Literals.{IsLiteral, IsLiteralFault}
 use Rattle.sonic_text.specs.Numbers.{after_minus, after_sign, IsInt, IsFraction, IsExponent, IsE, IsNumber, IsNumberFault}
 use Rattle.sonic_text.specs.Numbers.IsNumberFault.{in_int, in_fraction, in_exponent}
-use Rattle.sonic_text.specs.Strings.{hex_digit, hex_within, is_low_byte, escaped, escape_fault, IsChar, AreChars, IsString, IsEscapeFault, IsStringFault}
+use Rattle.sonic_text.specs.Strings.{hex_digit, hex_within, is_low_surrogate_byte, escaped, escape_fault, IsChar, AreChars, IsString, IsEscapeFault, IsStringFault}
 use Rattle.sonic_text.specs.Strings.AreChars.{no_char}
 use Rattle.sonic_text.specs.Strings.IsStringFault.{control_char, in_escape}
 use Rattle.sonic_text.proofs.Places.{byte_after, byte_within, digit_passes}
@@ -20,7 +20,7 @@ use Rattle.sonic_text.proofs.Numbers.{fraction_later}
 use Rattle.sonic_text.proofs.EscapeFaultLemmas.{Right, right_more}
 use Rattle.sonic_text.proofs.EscapeLemmas.{char_never, escape_some}
 use Rattle.sonic_text.proofs.StringReadingLemmas.{escape_within}
-use Rattle.sonic_text.proofs.Stops.{bad_end, escape_known}
+use Rattle.sonic_text.proofs.Stops.{stop_at_end, escape_known}
 use Rattle.sonic_text.proofs.Within.{char_within, chars_within}
 use Rattle.sonic_text.proofs.Same.{same_back, same_longer, same_whole, same_byte, agree_at, int_same, fraction_same}
 use Rattle.sonic_text.proofs.SameStrings.{NoNewLow, escape_same, no_new_low, char_same, chars_same, chars_then, escape_fault_same}
@@ -51,8 +51,8 @@ unfoldable filler : ℕ → ℕ
 filler n = if n == 1 then 34 else if n == 6 then 92 else if n == 7 then 117 else if n == 8 then 100 else if n == 9 then 99 else 48
 
 -- after the digits it is one of a second half
-filler_low : (n : ℕ) → 6 ≤ n → is_low_byte (n - 6) (filler n) ≡ true
-unfolding filler is_low_byte hex_within hex_digit
+filler_low : (n : ℕ) → 6 ≤ n → is_low_surrogate_byte (n - 6) (filler n) ≡ true
+unfolding filler is_low_surrogate_byte hex_within hex_digit
 filler_low n l = grind (arith, nat_tests)
 
 -- a 0 is a digit, and the second one of no second half
@@ -67,7 +67,7 @@ filler_right m t k n l o e = elim (cases_eq n 1) [
   | inl q ↦ let f : byte t (k + 1) ≡ 34 = rw q at e in rw (q, f) refl
   | inr q ↦ elim (cases_lt n 6) [
     | inl s ↦ let z : byte t (k + n) ≡ 48 = grind (arith, nat_tests) in let f = zero_hex _ z in grind (arith, nat_tests)
-    | inr s ↦ let f : is_low_byte (n - 6) (byte t (k + n)) ≡ true = rw e (filler_low n s) in grind (arith, nat_tests)
+    | inr s ↦ let f : is_low_surrogate_byte (n - 6) (byte t (k + n)) ≡ true = rw e (filler_low n s) in grind (arith, nat_tests)
   ]
 ]
 
@@ -152,14 +152,14 @@ quotes m t =
 pub string_completes : {m : Bool} {t : List ℕ} {i : ℕ} {s : Stop} → byte t i ≡ 34 → IsStringFault m t i s → s.code ≡ EofWhileParsing → Completes (StringFrom m i) t
 string_completes {m} {t} {i} {s} o (control_char {k} {b} cs g e) c =
     let l : i < length t = byte_within t i (λ z. omega arith) in
-    let n : length t ≤ k = bad_end t k _ s e c (λ z. cc) in
+    let n : length t ≤ k = stop_at_end t k _ s e c (λ z. cc) in
     let d : k ≤ length t = chars_within (omega arith) cs in
     let p : k ≡ length t = omega arith in
     close_string m t i o (b, rw p at cs)
 string_completes {m} {t} {i} {s} o (in_escape {k} {b} cs g f) c =
     let l : i < length t = byte_within t i (λ z. omega arith) in
     let r : k < length t = byte_within t k (λ z. omega arith) in
-    let n : length t ≤ k + f.n = bad_end t (k + f.n) f.code s f.stop c (escape_known m t k f.n f.wrong).1 in
+    let n : length t ≤ k + f.n = stop_at_end t (k + f.n) f.code s f.stop c (escape_known m t k f.n f.wrong).1 in
     let x = escape_completes m 12 t k s f n g (omega arith) in
     let u = t ++ x.missing in
     let y = chars_then (same_longer t x.missing k (omega arith)) cs x.complete.1 in
@@ -221,12 +221,12 @@ number_starts_within t i (inr h) = byte_within t i (λ z. omega arith)
 -- a 0 completes a number
 pub number_completes : {t : List ℕ} {i : ℕ} {s : Stop} → (byte t i ≡ 45) ⊎ IsDigit (byte t i) → IsNumberFault t i s → s.code ≡ EofWhileParsing
     → Completes (NumberFrom i) t
-number_completes {t} {i} {s} b (in_int (inr f)) c = absurd (no_digit_after t (after_minus t i + 1) (bad_end t _ _ s f.2 c (λ z. cc)) f.1)
+number_completes {t} {i} {s} b (in_int (inr f)) c = absurd (no_digit_after t (after_minus t i + 1) (stop_at_end t _ _ s f.2 c (λ z. cc)) f.1)
 number_completes {t} {i} {s} b (in_int (inl f)) c =
     let u = zeroed t in
     let l = number_starts_within t i b in
     let p = after_minus t i in
-    let n : length t ≤ p = bad_end t p _ s f.1 c (λ z. cc) in
+    let n : length t ≤ p = stop_at_end t p _ s f.1 c (λ z. cc) in
     let a = minus_at_most t i in
     let r = pushed_length t 48 in
     zero_completes t i (length u) (length u) l (inl (pushed t 48 p (omega arith), no_digit_after u (p + 1) (omega arith), omega arith)) (no_fraction u) (no_exponent u)
@@ -235,7 +235,7 @@ number_completes {t} {i} {s} b (in_fraction {w} d f) c =
     let h = same_whole t (48 ∷ []) in
     let y = f.0 in
     let o : w < length t = byte_within t w (λ z. omega arith) in
-    let n : length t ≤ w + 1 = bad_end t (w + 1) _ s f.2 c (λ z. cc) in
+    let n : length t ≤ w + 1 = stop_at_end t (w + 1) _ s f.2 c (λ z. cc) in
     let g : IsInt u (after_minus t i) w = int_same _ _ (omega arith) (agree_at h w w (omega arith) o) d in
     let (k, q) = zero_digit t (w + 1) (omega arith) in
     zero_completes t i w (length u) (number_starts_within t i b) g (inl (same_byte h w o ∙ y, k, q)) (no_exponent u)
@@ -243,7 +243,7 @@ number_completes {t} {i} {s} b (in_exponent {w} {f = v} d a f) c =
     let u = zeroed t in
     let h = same_whole t (48 ∷ []) in
     let o : v < length t = byte_within t v (λ z. elim f.0 [ inl q ↦ omega arith | inr q ↦ omega arith ]) in
-    let n : length t ≤ after_sign t (v + 1) = bad_end t _ _ s f.2 c (λ z. cc) in
+    let n : length t ≤ after_sign t (v + 1) = stop_at_end t _ _ s f.2 c (λ z. cc) in
     let (y, z) = zero_sign t (v + 1) (omega arith) n in
     let m = fraction_later t w v a in
     let g : IsInt u (after_minus t i) w = int_same _ _ (omega arith) (agree_at h w w (omega arith) (omega arith)) d in
@@ -261,7 +261,7 @@ pub literal_completes : {word t : List ℕ} {i : ℕ} {s : Stop} → IsLiteralFa
 literal_completes {word} {t} {i} {s} f c =
     let rest = drop f.n word in
     let u = t ++ rest in
-    let n : length t ≤ i + f.n = bad_end t (i + f.n) _ s f.stop c (λ z. cc) in
+    let n : length t ≤ i + f.n = stop_at_end t (i + f.n) _ s f.stop c (λ z. cc) in
     let l = f.letters.0 in
     let o = f.shorter in
     let e : length u ≡ i + length word = omega (arith, length-append t rest, length-drop f.n word) in

@@ -7,8 +7,8 @@ use Rattle.std.specs.declared.option.Option.{Option}
 use Rattle.sonic_error.specs.declared.code.ErrorCode.{ErrorCode}
 use Rattle.sonic_error.specs.declared.code.ErrorCode.TheVariants.{InvalidEscape, InvalidUnicodeCodePoint, InvalidSurrogateUnicodeCodePoint}
 use Rattle.sonic_text.specs.declared.stop.Stop.{Stop}
-use Rattle.sonic_text.specs.Places.{byte, bad}
-use Rattle.sonic_text.specs.Strings.{hex_digit, hex_within, is_low_byte, escaped, escape_fault, IsHex4, IsHigh, IsLow, IsEscapeFault}
+use Rattle.sonic_text.specs.Places.{byte, stop_at}
+use Rattle.sonic_text.specs.Strings.{hex_digit, hex_within, is_low_surrogate_byte, escaped, escape_fault, IsHex4, IsHigh, IsLow, IsEscapeFault}
 use Rattle.sonic_text.proofs.HexDigitLemmas.{hex_small, hex_of, hex_none, Digits, digits_of, hex4_of, high_digits, low_digits}
 
 -- the first n - 1 bytes after the backslash at k are right
@@ -25,7 +25,7 @@ right_more m t k n h e d l g = elim (cases_lt d n) [ inl f ↦ h d l f | inr f �
 
 -- the first wrong byte
 pub fault_at : {m : Bool} {t : List ℕ} {k n : ℕ} {s : Stop} {code : ErrorCode} → Right m t k n → 0 < n → n < 12 → escape_fault m t k n ≡ Some code
-    → s ≡ bad t (k + n) code → IsEscapeFault m t k s
+    → s ≡ stop_at t (k + n) code → IsEscapeFault m t k s
 fault_at {n = n} {code = code} h l g w e = record { n = n; code = code; after = (l, g); right = h; wrong = w; stop = e }
 
 -- a letter that may be alone after a backslash
@@ -51,7 +51,7 @@ unfolding escape_fault
 wrong_letter m t k e u = let f : (byte t (k + 1) == 117) ≡ false = grind (arith, nat_tests) in rw (e, f) refl
 
 -- is the fault
-pub letter_fault : (m : Bool) (t : List ℕ) (k : ℕ) → escaped (byte t (k + 1)) ≡ None → byte t (k + 1) ≢ 117 → IsEscapeFault m t k (bad t (k + 1) InvalidEscape)
+pub letter_fault : (m : Bool) (t : List ℕ) (k : ℕ) → escaped (byte t (k + 1)) ≡ None → byte t (k + 1) ≢ 117 → IsEscapeFault m t k (stop_at t (k + 1) InvalidEscape)
 letter_fault m t k e u = fault_at (right_none m t k) (omega arith) (omega arith) (wrong_letter m t k e u) refl
 
 -- no value
@@ -66,7 +66,7 @@ known (Some a) = inr (a, refl)
 
 -- such a letter, by its test
 pub letter_missing : (m : Bool) (t : List ℕ) (k : ℕ) → is_some (escaped (byte t (k + 1))) ≡ false → byte t (k + 1) ≢ 117
-    → IsEscapeFault m t k (bad t (k + 1) InvalidEscape)
+    → IsEscapeFault m t k (stop_at t (k + 1) InvalidEscape)
 letter_missing m t k e u = letter_fault m t k (no_value (escaped (byte t (k + 1))) e) u
 
 -- no second half, or none that is wrong
@@ -87,7 +87,7 @@ no_wrong false x y z e f w = let v = w refl in rw (e, f) (grind (arith, nat_test
 module _ (m : Bool) (t : List ℕ) (k : ℕ) (u : byte t (k + 1) ≡ 117) where
   -- after the digits of a first half
   later_fault : (n : ℕ) → 6 ≤ n → escape_fault m t k n
-      ≡ (if not m && hex_within 13 13 (byte t (k + 2)) && hex_within 8 11 (byte t (k + 3)) && not (is_low_byte (n - 6) (byte t (k + n)))
+      ≡ (if not m && hex_within 13 13 (byte t (k + 2)) && hex_within 8 11 (byte t (k + 3)) && not (is_low_surrogate_byte (n - 6) (byte t (k + n)))
       then Some InvalidSurrogateUnicodeCodePoint else None)
   unfolding escape_fault
   later_fault n l = grind (arith, nat_tests)
@@ -115,7 +115,7 @@ module _ (m : Bool) (t : List ℕ) (k : ℕ) (u : byte t (k + 1) ≡ 117) where
   right_two = right_more m t k 1 (right_none m t k) right_u
 
   -- no digit where one is expected
-  pub digit_missing : (n : ℕ) → (n ≡ 2) ⊎ (n ≡ 4) ⊎ (n ≡ 5) → Right m t k n → hex_digit (byte t (k + n)) ≡ None → IsEscapeFault m t k (bad t (k + n) InvalidUnicodeCodePoint)
+  pub digit_missing : (n : ℕ) → (n ≡ 2) ⊎ (n ≡ 4) ⊎ (n ≡ 5) → Right m t k n → hex_digit (byte t (k + n)) ≡ None → IsEscapeFault m t k (stop_at t (k + n) InvalidUnicodeCodePoint)
   digit_missing n h r e = fault_at r (omega arith) (omega arith) (digit_wrong n h e) refl
 
   -- all is right up to the second digit
@@ -124,7 +124,7 @@ module _ (m : Bool) (t : List ℕ) (k : ℕ) (u : byte t (k + 1) ≡ 117) where
 
   -- no digit at the second place
   pub second_missing : {a : ℕ} → hex_digit (byte t (k + 2)) ≡ Some a → hex_digit (byte t (k + 3)) ≡ None
-      → IsEscapeFault m t k (bad t (k + 3) InvalidUnicodeCodePoint)
+      → IsEscapeFault m t k (stop_at t (k + 3) InvalidUnicodeCodePoint)
   unfolding escape_fault
   second_missing e f =
       let none = hex_none 12 15 (byte t (k + 3)) f in
@@ -134,7 +134,7 @@ module _ (m : Bool) (t : List ℕ) (k : ℕ) (u : byte t (k + 1) ≡ 117) where
 
   -- a second half in a strict reader
   pub second_half : {b : ℕ} → m ≡ false → hex_digit (byte t (k + 2)) ≡ Some 13 → hex_digit (byte t (k + 3)) ≡ Some b → 12 ≤ b
-      → IsEscapeFault m t k (bad t (k + 3) InvalidSurrogateUnicodeCodePoint)
+      → IsEscapeFault m t k (stop_at t (k + 3) InvalidSurrogateUnicodeCodePoint)
   unfolding escape_fault
   second_half {b} s e f l =
       let h = hex_of (byte t (k + 2)) 13 13 e (omega arith) (omega arith) in
@@ -159,7 +159,7 @@ module _ (m : Bool) (t : List ℕ) (k : ℕ) (u : byte t (k + 1) ≡ 117) where
 
   -- no digit at the fourth place, where the four bytes are none of a number that may be there
   pub last_missing : {a b c : ℕ} → hex_digit (byte t (k + 2)) ≡ Some a → hex_digit (byte t (k + 3)) ≡ Some b → (m ≡ false → a ≡ 13 → b < 12)
-      → hex_digit (byte t (k + 4)) ≡ Some c → ((n : ℕ) → IsHex4 t (k + 2) n → (m ≡ false) × IsLow n) → IsEscapeFault m t k (bad t (k + 5) InvalidUnicodeCodePoint)
+      → hex_digit (byte t (k + 4)) ≡ Some c → ((n : ℕ) → IsHex4 t (k + 2) n → (m ≡ false) × IsLow n) → IsEscapeFault m t k (stop_at t (k + 5) InvalidUnicodeCodePoint)
   last_missing e f l g wrong = elim (known (hex_digit (byte t (k + 5)))) [
     | inl h ↦ digit_missing 5 (inr (inr refl)) (right_five e f l g) h
     | inr (d, h) ↦
@@ -175,12 +175,12 @@ module _ (m : Bool) (t : List ℕ) (k : ℕ) (u : byte t (k + 1) ≡ 117) where
 
   -- a byte after the digits is right, where it fits after a first half
   later_right : {a b c d : ℕ} → Digits t k a b c d → (n : ℕ) → 6 ≤ n
-      → (m ≡ false → a ≡ 13 → 8 ≤ b → b < 12 → is_low_byte (n - 6) (byte t (k + n)) ≡ true) → escape_fault m t k n ≡ None
-  later_right h n l w = rw (later_fault n l, no_wrong m (byte t (k + 2)) (byte t (k + 3)) (is_low_byte (n - 6) (byte t (k + n))) h.first h.second w) refl
+      → (m ≡ false → a ≡ 13 → 8 ≤ b → b < 12 → is_low_surrogate_byte (n - 6) (byte t (k + n)) ≡ true) → escape_fault m t k n ≡ None
+  later_right h n l w = rw (later_fault n l, no_wrong m (byte t (k + 2)) (byte t (k + 3)) (is_low_surrogate_byte (n - 6) (byte t (k + n))) h.first h.second w) refl
 
   -- all is right up to the byte j places after the digits, where those before it fit after a first half
   pub all_right : {a b c d : ℕ} → Digits t k a b c d → (m ≡ false → a ≡ 13 → b < 12) → (j : ℕ)
-      → (m ≡ false → a ≡ 13 → 8 ≤ b → b < 12 → (d : ℕ) → d < j → is_low_byte d (byte t (k + 6 + d)) ≡ true) → Right m t k (6 + j)
+      → (m ≡ false → a ≡ 13 → 8 ≤ b → b < 12 → (d : ℕ) → d < j → is_low_surrogate_byte d (byte t (k + 6 + d)) ≡ true) → Right m t k (6 + j)
   all_right h l j w n o g = elim (cases_lt n 6) [
     | inl f ↦ right_six h l n o f
     | inr f ↦
@@ -190,8 +190,8 @@ module _ (m : Bool) (t : List ℕ) (k : ℕ) (u : byte t (k + 1) ≡ 117) where
 
   -- in a strict reader a byte is wrong after a first half
   pub half_missing : {n : ℕ} → m ≡ false → IsHex4 t (k + 2) n → IsHigh n → (j : ℕ) → j < 6
-      → ((d : ℕ) → d < j → is_low_byte d (byte t (k + 6 + d)) ≡ true) → is_low_byte j (byte t (k + 6 + j)) ≡ false
-      → IsEscapeFault m t k (bad t (k + 6 + j) InvalidSurrogateUnicodeCodePoint)
+      → ((d : ℕ) → d < j → is_low_surrogate_byte d (byte t (k + 6 + d)) ≡ true) → is_low_surrogate_byte j (byte t (k + 6 + j)) ≡ false
+      → IsEscapeFault m t k (stop_at t (k + 6 + j) InvalidSurrogateUnicodeCodePoint)
   half_missing s h i j o w x =
       let g = digits_of h in
       let r = high_digits g h.number i in

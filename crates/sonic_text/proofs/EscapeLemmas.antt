@@ -4,8 +4,8 @@ use Rattle.std.proofs.lemmas.Bool.{cases_Bool, cases_lt, cases_eq, cases_order}
 use Rattle.std.proofs.lemmas.Bool.Decides.{nat_tests}
 use Rattle.std.specs.Prelude.{is_some, unwrap_or, Some}
 use Rattle.sonic_text.specs.declared.stop.Stop.{Stop}
-use Rattle.sonic_text.specs.Places.{byte, bad}
-use Rattle.sonic_text.specs.Strings.{hex_digit, is_low_byte, escaped, escape_fault, IsEscape, IsHigh, IsLow, IsLowEscape, IsUnicodeChar, IsChar, IsEscapeFault}
+use Rattle.sonic_text.specs.Places.{byte, stop_at}
+use Rattle.sonic_text.specs.Strings.{hex_digit, is_low_surrogate_byte, escaped, escape_fault, IsEscape, IsHigh, IsLow, IsLowEscape, IsUnicodeChar, IsChar, IsEscapeFault}
 use Rattle.sonic_text.specs.Strings.IsUnicodeChar.{scalar, pair, lone_high, lone_low}
 use Rattle.sonic_text.specs.Strings.IsChar.{unescaped, short_escape, unicode_escape}
 use Rattle.sonic_text.proofs.HexDigitLemmas.{escape_one, Digits, digits_of, hex4_of, high_digits, digits_high, low_digits, digits_low, low_right, low_all}
@@ -86,7 +86,7 @@ escape_fault_one {m} {t} {p} f g = elim (cases_order f.n g.n) [
       let w : escape_fault m t p g.n ≡ Some f.code = rw e at f.wrong in
       let v = g.wrong in
       let c : f.code ≡ g.code = cc in
-      let d : bad t (p + f.n) f.code ≡ bad t (p + g.n) g.code = rw (e, c) refl in
+      let d : stop_at t (p + f.n) f.code ≡ stop_at t (p + g.n) g.code = rw (e, c) refl in
       cc (f.stop, g.stop)
 ]
 
@@ -152,8 +152,8 @@ first_false P (suc n) = elim (first_false P n) [
 ]
 
 -- after a first half without a second one
-lone_some : (m : Bool) {t : List ℕ} {k n : ℕ} → IsEscape t k n → IsHigh n → (j : ℕ) → j < 6 → ((d : ℕ) → d < j → is_low_byte d (byte t (k + 6 + d)) ≡ true)
-    → is_low_byte j (byte t (k + 6 + j)) ≡ false → Outcome m t k
+lone_some : (m : Bool) {t : List ℕ} {k n : ℕ} → IsEscape t k n → IsHigh n → (j : ℕ) → j < 6 → ((d : ℕ) → d < j → is_low_surrogate_byte d (byte t (k + 6 + d)) ≡ true)
+    → is_low_surrogate_byte j (byte t (k + 6 + j)) ≡ false → Outcome m t k
 lone_some true {t} {k} h x j l w e = inl (k + 6, lone_char refl h x (λ (n, y, z). (let v = low_right t (k + 6) y z j l in absurd (cc))) (k + 6) refl)
 lone_some false {t} {k} h x j l w e = inr (_, half_missing false t k h.1 refl h.2 x j l w e)
 
@@ -163,7 +163,7 @@ number_some m {t} {k} {n} h x = elim (cases_lt n 0xD800) [
   | inl l ↦ inl (k + 6, plain_char h (λ w. omega arith) x (k + 6) refl)
   | inr l ↦ elim (cases_lt 0xDBFF n) [
     | inl o ↦ inl (k + 6, plain_char h (λ w. omega arith) x (k + 6) refl)
-    | inr o ↦ elim (first_false (λ d. is_low_byte d (byte t (k + 6 + d))) 6) [
+    | inr o ↦ elim (first_false (λ d. is_low_surrogate_byte d (byte t (k + 6 + d))) 6) [
       | inl w ↦ inl (k + 12, paired_char h (l, o) (low_all t (k + 6) w) (k + 12) refl)
       | inr (j, v, w, e) ↦ lone_some m h (l, o) j v w e
     ]

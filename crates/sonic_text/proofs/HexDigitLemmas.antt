@@ -7,7 +7,7 @@ use Rattle.std.specs.declared.option.Option.{Option}
 use Rattle.std.proofs.lemmas.Nat.{le_or_l, le_or_r}
 use lib.Bits.{bit_or, or_lt}
 use Rattle.sonic_text.specs.Places.{byte}
-use Rattle.sonic_text.specs.Strings.{hex_digit, hex_within, is_low_byte, IsHex4, IsEscape, IsHigh, IsLow, IsLowEscape}
+use Rattle.sonic_text.specs.Strings.{hex_digit, hex_within, is_low_surrogate_byte, IsHex4, IsEscape, IsHigh, IsLow, IsLowEscape}
 use Rattle.sonic_text.proofs.Places.{byte_within}
 
 -- a digit denotes less than 16
@@ -153,24 +153,24 @@ six P a b c d e f (suc (suc (suc (suc (suc zero))))) l = f
 six P a b c d e f (suc (suc (suc (suc (suc (suc n)))))) l = absurd (omega arith)
 
 -- the byte 0 is at none of the six places of an escape of a second half
-pub low_some : (n b : ℕ) → is_low_byte n b ≡ true → 0 < b
-unfolding is_low_byte hex_within hex_digit
+pub low_some : (n b : ℕ) → is_low_surrogate_byte n b ≡ true → 0 < b
+unfolding is_low_surrogate_byte hex_within hex_digit
 low_some n b h = grind (arith, nat_tests)
 
 -- the bytes of an escape of a second half fit each at its place
-pub low_right : (t : List ℕ) (p : ℕ) {l : ℕ} → IsEscape t p l → IsLow l → (d : ℕ) → d < 6 → is_low_byte d (byte t (p + d)) ≡ true
-unfolding is_low_byte
+pub low_right : (t : List ℕ) (p : ℕ) {l : ℕ} → IsEscape t p l → IsLow l → (d : ℕ) → d < 6 → is_low_surrogate_byte d (byte t (p + d)) ≡ true
+unfolding is_low_surrogate_byte
 low_right t p e w =
     let g = digits_of e.2 in
     let k = low_digits g e.2.number w in
     let (a, b, c, d) = small g in
     let z : p + 0 ≡ p = omega arith in
-    six (λ d. is_low_byte d (byte t (p + d)) ≡ true) (rw (z, e.0) refl) (rw e.1 refl) (hex_of _ 13 13 g.first (omega arith) (omega arith))
+    six (λ d. is_low_surrogate_byte d (byte t (p + d)) ≡ true) (rw (z, e.0) refl) (rw e.1 refl) (hex_of _ 13 13 g.first (omega arith) (omega arith))
     (hex_of _ 12 15 g.second (omega arith) (omega arith)) (hex_of _ 0 15 g.third (omega arith) (omega arith)) (hex_of _ 0 15 g.fourth (omega arith) (omega arith))
 
 -- and bytes that fit each at its place are one
-pub low_all : (t : List ℕ) (p : ℕ) → ((d : ℕ) → d < 6 → is_low_byte d (byte t (p + d)) ≡ true) → IsLowEscape t p
-unfolding is_low_byte
+pub low_all : (t : List ℕ) (p : ℕ) → ((d : ℕ) → d < 6 → is_low_surrogate_byte d (byte t (p + d)) ≡ true) → IsLowEscape t p
+unfolding is_low_surrogate_byte
 low_all t p h =
     let z : p + 0 ≡ p = omega arith in
     let e : (byte t p == 92) ≡ true = rw z at (h 0 (omega arith)) in

@@ -14,7 +14,7 @@ use Rattle.sonic_text.proofs.Outcomes.{value_some_outcome}
 use Rattle.sonic_text.proofs.Places.{after_space_later}
 use Rattle.sonic_text.proofs.Values.{value-longer, items_open, items_not_empty, items_before, items_one, value_end_one, value_never_both}
 use Rattle.sonic_text.proofs.Within.{value_within, items_within, head_within}
-use Rattle.sonic_text.proofs.Stops.{bad_from, key_fault_from, fault_from}
+use Rattle.sonic_text.proofs.Stops.{stop_at_from, key_fault_from, fault_from}
 use Rattle.sonic_text.proofs.Values.{ContainerOutcome, no_item, at_last, container_outcome}
 
 -- the values of items that are as many begin at one place
@@ -101,7 +101,7 @@ item_before {m} {t} {kind} {i} {n} {h} {v} is y x (at_last {n = p} {h = g} fs (a
 item_before {t = t} {kind} is y x (at_last fs (at_value (Ok f) z r (inl (c, q)))) =
     rw q (omega (arith, ends_by is y x fs z r (λ d. closing_no_comma kind (omega arith)), after_space_later t f))
 item_before {t = t} {kind} is y x (at_last fs (at_value (Ok f) z r (inr (c, q)))) =
-    rw q (bad_from t (after_space t f) (code_after_item kind) _ refl (omega (arith, ends_by is y x fs z r c.0, after_space_later t f)) (value_within x))
+    rw q (stop_at_from t (after_space t f) (code_after_item kind) _ refl (omega (arith, ends_by is y x fs z r c.0, after_space_later t f)) (value_within x))
 
 -- an item of a whole container is whole
 pub item_whole : {m : Bool} {t : List ℕ} {kind : Kind} {i n h v j : ℕ} {l : Option (List ℕ)} → IsValue m t i j → ItemsFit m t kind i n h

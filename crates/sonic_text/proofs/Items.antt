@@ -8,7 +8,7 @@ use Rattle.sonic_error.specs.declared.code.ErrorCode.TheVariants.{ExpectedColon}
 use Rattle.sonic_text.specs.declared.kind.Kind.{Kind}
 use Rattle.sonic_text.specs.declared.kind.Kind.TheVariants.{Array, Object}
 use Rattle.sonic_text.specs.declared.stop.Stop.{Stop}
-use Rattle.sonic_text.specs.Places.{byte, is_space, after_space, bad}
+use Rattle.sonic_text.specs.Places.{byte, is_space, after_space, stop_at}
 use Rattle.sonic_text.specs.Values.{IsKey, opening, closing, ItemHead, IsValue}
 use Rattle.sonic_text.specs.Values.ItemHead.{no_head, key_head}
 use Rattle.sonic_text.specs.Faults.{BeginsNone, NothingFits, code_after_item, IsKeyFault, IsFault}
@@ -47,7 +47,7 @@ key_fault_one (no_colon x c q) (no_quote d e) = absurd (d x.opens)
 key_fault_one (no_colon x c q) (key_fault o f) = absurd (string_never_both x f)
 key_fault_one {t = t} (no_colon {e} x c q) (no_colon {e = i} y d p) =
     let (n, o) = string_one x y in
-    let f : bad t (after_space t e) ExpectedColon ≡ bad t (after_space t i) ExpectedColon = rw n refl in
+    let f : stop_at t (after_space t e) ExpectedColon ≡ stop_at t (after_space t i) ExpectedColon = rw n refl in
     cc
 
 -- a key is at k, or isn't, for some reason
@@ -141,7 +141,7 @@ abbrev pub After : List ℕ → Kind → Result ℕ Stop → Result ℕ Stop →
 After t kind (Err s) r = r ≡ Err s
 After t kind (Ok e) r =
     (byte t (after_space t e) ≡ closing kind) × (r ≡ Ok (after_space t e + 1))
-    ⊎ NothingFits t e (closing kind) × (r ≡ Err (bad t (after_space t e) (code_after_item kind)))
+    ⊎ NothingFits t e (closing kind) × (r ≡ Err (stop_at t (after_space t e) (code_after_item kind)))
 
 -- the last item of a container of this kind is expected at h, and the container has this outcome
 pub data LastItem (m : Bool) (t : List ℕ) (kind : Kind) (h : ℕ) (r : Result ℕ Stop) : Type 0 where

@@ -4,7 +4,7 @@ use Rattle.std.proofs.lemmas.Bool.{cases_lt, cases_eq, cases_order}
 use Rattle.std.specs.Prelude.{List}
 use Rattle.sonic_error.specs.declared.code.ErrorCode.TheVariants.{InvalidLiteral}
 use Rattle.sonic_text.specs.declared.stop.Stop.{Stop}
-use Rattle.sonic_text.specs.Places.{byte, bad}
+use Rattle.sonic_text.specs.Places.{byte, stop_at}
 use Rattle.sonic_text.specs.Literals.{Letters, IsLiteral, IsLiteralFault}
 
 -- where the letter after n others is missing or differs, no more letters fit
@@ -27,7 +27,7 @@ same_letters {word} {t} {i} f g = elim (cases_order f.n g.n) [
 pub literal_fault_one : {word t : List ℕ} {i : ℕ} {s r : Stop} → IsLiteralFault word t i s → IsLiteralFault word t i r → s ≡ r
 literal_fault_one {t = t} {i} f g =
     let e = same_letters f g in
-    let p : bad t (i + f.n) InvalidLiteral ≡ bad t (i + g.n) InvalidLiteral = rw e in
+    let p : stop_at t (i + f.n) InvalidLiteral ≡ stop_at t (i + g.n) InvalidLiteral = rw e in
     cc (f.stop, g.stop)
 
 -- one more letter fits
@@ -43,9 +43,9 @@ literal_from word t i zero n e h =
 literal_from word t i (suc m) n e h = elim (cases_lt (i + n) (length t)) [
   | inr l ↦
       let d : i + n < length t → byte t (i + n) ≢ byte word n = λ o. absurd (omega arith) in
-      inr (bad t (i + n) InvalidLiteral, record { n = n; shorter = omega arith; letters = h; differs = d; stop = refl })
+      inr (stop_at t (i + n) InvalidLiteral, record { n = n; shorter = omega arith; letters = h; differs = d; stop = refl })
   | inl l ↦ elim (cases_eq (byte t (i + n)) (byte word n)) [
-    | inr d ↦ inr (bad t (i + n) InvalidLiteral, record { n = n; shorter = omega arith; letters = h; differs = λ o. d; stop = refl })
+    | inr d ↦ inr (stop_at t (i + n) InvalidLiteral, record { n = n; shorter = omega arith; letters = h; differs = λ o. d; stop = refl })
     | inl d ↦ literal_from word t i m (suc n) (omega arith) (one_more word t i n h l d)
   ]
 ]

@@ -6,7 +6,7 @@ use Rattle.std.proofs.lemmas.Bool.Decides.{nat_tests}
 use Rattle.std.specs.Prelude.{List}
 use Rattle.sonic_text.specs.declared.stop.Stop.{Stop}
 use Rattle.sonic_error.specs.declared.code.ErrorCode.TheVariants.{InvalidNumber}
-use Rattle.sonic_text.specs.Places.{byte, bad, digits_end, IsDigit}
+use Rattle.sonic_text.specs.Places.{byte, stop_at, digits_end, IsDigit}
 use Rattle.sonic_text.specs.Numbers.{after_minus, after_sign, IsInt, IsFraction, IsE, IsExponent, IsNumber, IsIntFault, IsFractionFault, IsExponentFault, IsNumberFault}
 use Rattle.sonic_text.specs.Numbers.IsNumberFault.{in_int, in_fraction, in_exponent}
 use Rattle.sonic_text.proofs.Places.{digits_end_later}
@@ -30,7 +30,7 @@ abbrev pub Tail : List ℕ → Type 0 → ℕ → ℕ → ℕ → Type 0
 Tail t Starts d i j = Starts × IsDigit (byte t d) × (j ≡ digits_end t d) ⊎ ¬ Starts × (j ≡ i)
 
 abbrev TailFault : List ℕ → Type 0 → ℕ → Stop → Type 0
-TailFault t Starts d s = Starts × ¬ IsDigit (byte t d) × (s ≡ bad t d InvalidNumber)
+TailFault t Starts d s = Starts × ¬ IsDigit (byte t d) × (s ≡ stop_at t d InvalidNumber)
 
 -- an end and a fault that are each the only one, and never both, are one outcome
 pub match_one : (P : ℕ → Type 0) (F : Stop → Type 0) (r q : Result ℕ Stop) → ((j k : ℕ) → P j → P k → j ≡ k) → ((s z : Stop) → F s → F z → s ≡ z)

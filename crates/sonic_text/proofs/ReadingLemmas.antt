@@ -5,7 +5,7 @@ use Rattle.std.proofs.lemmas.Bool.{cases_lt}
 use Rattle.std.proofs.lemmas.Bool.Decides.{nat_tests}
 use Rattle.sonic_error.specs.declared.code.ErrorCode.TheVariants.{ControlCharacterWhileParsingString}
 use Rattle.sonic_text.specs.declared.stop.Stop.{Stop}
-use Rattle.sonic_text.specs.Places.{byte, bad}
+use Rattle.sonic_text.specs.Places.{byte, stop_at}
 use Rattle.sonic_blocks.specs.Bits.{is_set, IsNextBit}
 use Rattle.sonic_blocks.specs.Runs.{is_plain}
 use Rattle.sonic_text.specs.Internal.Reading.{AreSpecial, IsLeftOf, IsInString, EndsString}
@@ -129,7 +129,7 @@ pub closed : {m : Bool} {t : List ℕ} {i p : ℕ} → byte t p ≡ 34 → p + 1
 closed {p = p} quote within s = (omega (arith, s.later), within, s.bytes, record { close = p; opens = s.opens; chars = s.chars; closes = quote; end = refl })
 
 -- at a byte that is neither plain, nor a quote or a backslash
-pub control_here : {m : Bool} {t : List ℕ} {i p : ℕ} {s : Stop} → ¬ IsUnescaped (byte t p) → byte t p ≢ 34 → byte t p ≢ 92 → s ≡ bad t p ControlCharacterWhileParsingString
+pub control_here : {m : Bool} {t : List ℕ} {i p : ℕ} {s : Stop} → ¬ IsUnescaped (byte t p) → byte t p ≢ 34 → byte t p ≢ 92 → s ≡ stop_at t p ControlCharacterWhileParsingString
     → IsInString m t i p → IsStringFault m t i s
 control_here {t = t} {p = p} other quote backslash e s =
     let low : byte t p < 32 = elim (cases_lt (byte t p) 32) [ inl l ↦ l | inr h ↦ absurd (other (h, quote, backslash)) ] in

@@ -4,7 +4,7 @@ use Rattle.std.proofs.lemmas.Bool.Decides.{nat_tests}
 use Rattle.sonic_error.specs.declared.code.ErrorCode.{ErrorCode}
 use Rattle.sonic_error.specs.declared.code.ErrorCode.TheVariants.{EofWhileParsing}
 use Rattle.sonic_text.specs.declared.stop.Stop.{Stop}
-use Rattle.sonic_text.specs.Places.{byte, after_space, bad, IsDigit}
+use Rattle.sonic_text.specs.Places.{byte, after_space, stop_at, IsDigit}
 use Rattle.sonic_text.specs.Literals.{IsLiteralFault}
 use Rattle.sonic_text.specs.Numbers.{after_minus, after_sign, IsInt, IsFraction, IsIntFault, IsNumberFault, IsE}
 use Rattle.sonic_text.specs.Numbers.IsNumberFault.{in_int, in_fraction, in_exponent}
@@ -27,7 +27,7 @@ use Rattle.sonic_text.proofs.SameValues.{value_same, items_same, item_same}
 
 module _ {t u : List ℕ} {n : ℕ} {s : Stop} (h : Same t u n) (before : s.place < n) (not_end : s.code ≢ EofWhileParsing) where
   -- a byte that doesn't fit
-  stop_same : (p : ℕ) (code : ErrorCode) → s ≡ bad t p code → (p < n) × (s ≡ bad u p code)
+  stop_same : (p : ℕ) (code : ErrorCode) → s ≡ stop_at t p code → (p < n) × (s ≡ stop_at u p code)
   stop_same p code e = let a = h.reach_u in let b = h.reach_t in (grind (arith, nat_tests), grind (arith, nat_tests))
 
   -- what is at fault begins with a byte that is the same

@@ -3,7 +3,7 @@ use Rattle.std.proofs.Common.{◌≡◌, ◌≢◌, ◌⊎◌, ◌∙◌, ℕ, �
 use Rattle.std.proofs.lemmas.Bool.{cases_lt}
 use Rattle.std.proofs.lemmas.Bool.Decides.{nat_tests}
 use Rattle.sonic_text.specs.Places.{byte}
-use Rattle.sonic_text.specs.Strings.{lossy, escape_fault, is_low_byte, IsHigh, IsEscape, IsLowEscape, IsUnicodeChar, IsChar, AreChars, IsString}
+use Rattle.sonic_text.specs.Strings.{lossy, escape_fault, is_low_surrogate_byte, IsHigh, IsEscape, IsLowEscape, IsUnicodeChar, IsChar, AreChars, IsString}
 use Rattle.sonic_text.specs.Strings.IsUnicodeChar.{scalar, pair, lone_high, lone_low}
 use Rattle.sonic_text.specs.Strings.IsChar.{unescaped, short_escape, unicode_escape}
 use Rattle.sonic_text.specs.Strings.AreChars.{no_char, one_more}
@@ -42,7 +42,7 @@ no_new_low m t u j k n e z = absurd (n z.1.0)
 
 -- a second half is at a place, or none is
 low_or_not : (t : List ℕ) (p : ℕ) → IsLowEscape t p ⊎ ¬ IsLowEscape t p
-low_or_not t p = elim (first_false (λ d. is_low_byte d (byte t (p + d))) 6) [
+low_or_not t p = elim (first_false (λ d. is_low_surrogate_byte d (byte t (p + d))) 6) [
   | inl w ↦ inl (low_all t p w)
   | inr (j, l, w, e) ↦ inr (λ (x, y, z). (let v = low_right t p y z j l in absurd (cc)))
 ]

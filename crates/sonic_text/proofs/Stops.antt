@@ -7,7 +7,7 @@ use Rattle.sonic_error.specs.declared.code.ErrorCode.TheVariants.{EofWhileParsin
 use Rattle.sonic_text.specs.declared.kind.Kind.{Kind}
 use Rattle.sonic_text.specs.declared.kind.Kind.TheVariants.{Array, Object}
 use Rattle.sonic_text.specs.declared.stop.Stop.{Stop}
-use Rattle.sonic_text.specs.Places.{bad}
+use Rattle.sonic_text.specs.Places.{stop_at}
 use Rattle.sonic_text.specs.Numbers.{IsNumberFault}
 use Rattle.sonic_text.specs.Numbers.IsNumberFault.{in_int, in_fraction, in_exponent}
 use Rattle.sonic_text.specs.Literals.{IsLiteralFault}
@@ -22,12 +22,12 @@ use Rattle.sonic_text.proofs.Strings.{chars_later, string_longer}
 use Rattle.sonic_text.proofs.Values.{head-later, value-longer, items-later}
 
 -- a stop at p lies at or after each place of the text at or before p
-pub bad_from : (t : List ℕ) (p : ℕ) (code : ErrorCode) (s : Stop) {i : ℕ} → s ≡ bad t p code → i ≤ p → i ≤ length t → i ≤ s.place
-bad_from t p code s e l m = rw e (grind (arith, nat_tests))
+pub stop_at_from : (t : List ℕ) (p : ℕ) (code : ErrorCode) (s : Stop) {i : ℕ} → s ≡ stop_at t p code → i ≤ p → i ≤ length t → i ≤ s.place
+stop_at_from t p code s e l m = rw e (grind (arith, nat_tests))
 
 -- and at or after the end of the text, where the end of the input is the reason
-pub bad_end : (t : List ℕ) (p : ℕ) (code : ErrorCode) (s : Stop) → s ≡ bad t p code → s.code ≡ EofWhileParsing → code ≢ EofWhileParsing → length t ≤ p
-bad_end t p code s e c d = grind (arith, nat_tests)
+pub stop_at_end : (t : List ℕ) (p : ℕ) (code : ErrorCode) (s : Stop) → s ≡ stop_at t p code → s.code ≡ EofWhileParsing → code ≢ EofWhileParsing → length t ≤ p
+stop_at_end t p code s e c d = grind (arith, nat_tests)
 
 -- the stop of a fault of what is expected at i
 pub record IsStopFrom (t : List ℕ) (i : ℕ) (s : Stop) : Type 0 where
@@ -35,7 +35,7 @@ pub record IsStopFrom (t : List ℕ) (i : ℕ) (s : Stop) : Type 0 where
   pub code : ErrorCode
   pub later : i ≤ place
   pub known : code ≢ NoMemory
-  pub is : s ≡ bad t place code
+  pub is : s ≡ stop_at t place code
 
 -- lies within the text
 stop_within : {t : List ℕ} {i : ℕ} {s : Stop} → IsStopFrom t i s → s.place ≤ length t
@@ -43,7 +43,7 @@ stop_within h = rw h.is (grind (arith, nat_tests))
 
 -- at or after i
 stop_later : {t : List ℕ} {i : ℕ} {s : Stop} → IsStopFrom t i s → i ≤ length t → i ≤ s.place
-stop_later {t} {s = s} h l = bad_from t h.place h.code s h.is h.later l
+stop_later {t} {s = s} h l = stop_at_from t h.place h.code s h.is h.later l
 
 -- at the place where it isn't the end
 pub stop_byte : {t : List ℕ} {i : ℕ} {s : Stop} → IsStopFrom t i s → s.code ≢ EofWhileParsing → (i ≤ s.place) × (s.place < length t)

@@ -3,7 +3,7 @@ use Rattle.std.proofs.Common.{◌≡◌, ◌⊎◌, ℕ, zero, suc, ◌+◌, ◌
 use Rattle.std.proofs.lemmas.Bool.{cases_lt, cases_eq}
 use Rattle.sonic_error.specs.declared.code.ErrorCode.TheVariants.{ControlCharacterWhileParsingString}
 use Rattle.sonic_text.specs.declared.stop.Stop.{Stop}
-use Rattle.sonic_text.specs.Places.{byte, bad}
+use Rattle.sonic_text.specs.Places.{byte, stop_at}
 use Rattle.sonic_text.specs.Strings.{IsChar, AreChars, IsString, IsEscapeFault, IsStringFault}
 use Rattle.sonic_text.specs.Strings.IsChar.{unescaped, short_escape, unicode_escape}
 use Rattle.sonic_text.specs.Strings.AreChars.{no_char, one_more}
@@ -89,7 +89,7 @@ string_never_both {t = t} h (in_escape {k} g l f) =
 pub string_fault_one : {m : Bool} {t : List ℕ} {i : ℕ} {s r : Stop} → IsStringFault m t i s → IsStringFault m t i r → s ≡ r
 string_fault_one {t = t} (control_char {k} h l e) (control_char {k = n} g o f) =
     let q = one_end (chain_of h) (chain_of g) (stuck_control l) (stuck_control o) in
-    let d : bad t k ControlCharacterWhileParsingString ≡ bad t n ControlCharacterWhileParsingString = rw q.0 refl in
+    let d : stop_at t k ControlCharacterWhileParsingString ≡ stop_at t n ControlCharacterWhileParsingString = rw q.0 refl in
     cc
 string_fault_one {t = t} (control_char {k} h l e) (in_escape {k = n} g o f) =
     let q = one_end (chain_of h) (chain_of g) (stuck_control l) (stuck_escape o f) in

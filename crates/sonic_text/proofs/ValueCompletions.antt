@@ -7,7 +7,7 @@ use Rattle.sonic_error.specs.declared.code.ErrorCode.TheVariants.{EofWhileParsin
 use Rattle.sonic_text.specs.declared.kind.Kind.{Kind}
 use Rattle.sonic_text.specs.declared.kind.Kind.TheVariants.{Object}
 use Rattle.sonic_text.specs.declared.stop.Stop.{Stop}
-use Rattle.sonic_text.specs.Places.{byte, after_space, bad, is_space}
+use Rattle.sonic_text.specs.Places.{byte, after_space, stop_at, is_space}
 use Rattle.sonic_text.specs.Strings.{IsString}
 use Rattle.sonic_text.specs.Values.{closing, IsKey, ItemHead, IsValue, ItemsFit}
 use Rattle.sonic_text.specs.Values.ItemHead.{key_head}
@@ -17,7 +17,7 @@ use Rattle.sonic_text.specs.Faults.IsKeyFault.{no_quote, key_fault, no_colon}
 use Rattle.sonic_text.specs.Faults.IsFault.{no_value, null_fault, true_fault, false_fault, number_fault, string_fault, in_key, in_value, after_item}
 use Rattle.sonic_text.proofs.Items.{closing_no_space}
 use Rattle.sonic_text.proofs.Places.{after_space_later}
-use Rattle.sonic_text.proofs.Stops.{bad_end, after_known}
+use Rattle.sonic_text.proofs.Stops.{stop_at_end, after_known}
 use Rattle.sonic_text.proofs.Values.{value-longer, value_never_both}
 use Rattle.sonic_text.proofs.Within.{after_space_within, value_within, items_within, head_within}
 use Rattle.sonic_text.proofs.Same.{same_less, same_longer, same_whole, closing_ends, agree_at, agree_other, up_to, space_same}
@@ -90,14 +90,14 @@ string_key : (m : Bool) (t : List ℕ) (k : ℕ) → Completes (StringFrom m k) 
 string_key m t k x = complete_more (KeyFrom m k) t x.missing (close_key x.complete.1 (end_space (t ++ x.missing)))
 
 -- where what is expected after white space is missing, the white space ends the text
-space_ends : (t : List ℕ) (e : ℕ) (code : ErrorCode) (s : Stop) → e ≤ length t → s ≡ bad t (after_space t e) code → s.code ≡ EofWhileParsing
+space_ends : (t : List ℕ) (e : ℕ) (code : ErrorCode) (s : Stop) → e ≤ length t → s ≡ stop_at t (after_space t e) code → s.code ≡ EofWhileParsing
     → code ≢ EofWhileParsing → length t ≡ after_space t e
-space_ends t e code s l q c d = omega (arith, bad_end t (after_space t e) code s q c d, after_space_within t e l)
+space_ends t e code s l q c d = omega (arith, stop_at_end t (after_space t e) code s q c d, after_space_within t e l)
 
 -- a key that ends too early is completed
 key_completes : {m : Bool} {t : List ℕ} {k : ℕ} {s : Stop} → k ≤ length t → IsKeyFault m t k s → s.code ≡ EofWhileParsing → Completes (KeyFrom m k) t
 key_completes {m} {t} {k} {s} l (no_quote d e) c =
-    let q : length t ≡ k = omega (arith, bad_end t k _ s e c (λ z. cc)) in
+    let q : length t ≡ k = omega (arith, stop_at_end t k _ s e c (λ z. cc)) in
     rw q at (string_key m t (length t) (quotes m t))
 key_completes {m} {t} {k} l (key_fault o f) c = string_key m t k (string_completes o f c)
 key_completes {t = t} {s = s} l (no_colon {e} x d q) c = close_key x (space_ends t e _ s (value_within (string x)) q c (λ z. cc))
@@ -113,7 +113,7 @@ object_completes {m} {t} {i} {k = k} is x =
 -- a value that ends too early is completed
 pub value_completes : {m : Bool} {t : List ℕ} {i : ℕ} {s : Stop} → i ≤ length t → IsFault m t i s → s.code ≡ EofWhileParsing → Completes (ValueFrom m i) t
 value_completes {m} {t} {i} {s} l (no_value b e) c =
-    let q : length t ≡ i = omega (arith, bad_end t i _ s e c (λ z. cc)) in
+    let q : length t ≡ i = omega (arith, stop_at_end t i _ s e c (λ z. cc)) in
     rw q at (quotes_value m t)
 value_completes l (null_fault b f) c = complete_as (λ u j. null_literal) (literal_completes f c)
 value_completes l (true_fault b f) c = complete_as (λ u j. true_literal) (literal_completes f c)

@@ -7,7 +7,7 @@ use Rattle.std.specs.Prelude.{Bool, true, false, List, Option}
 use Rattle.sonic_error.specs.declared.code.ErrorCode.TheVariants.{InvalidJsonValue}
 use Rattle.sonic_text.specs.declared.kind.Kind.{Kind}
 use Rattle.sonic_text.specs.declared.stop.Stop.{Stop}
-use Rattle.sonic_text.specs.Places.{byte, is_space, after_space, bad}
+use Rattle.sonic_text.specs.Places.{byte, is_space, after_space, stop_at}
 use Rattle.sonic_text.specs.Literals.{IsLiteral, IsLiteralFault}
 use Rattle.sonic_text.specs.Numbers.{IsNumber, IsNumberFault}
 use Rattle.sonic_text.specs.Strings.{IsString, IsStringFault}
@@ -126,7 +126,7 @@ StringEnds m t i j = (b : List ℕ) × IsString m t i j b
 
 -- the outcome of a value of this sort
 abbrev View : Sort → Bool → List ℕ → ℕ → Result ℕ Stop → Type 0
-View none m t i r = r ≡ Err (bad t i InvalidJsonValue)
+View none m t i r = r ≡ Err (stop_at t i InvalidJsonValue)
 View a_null m t i r = MatchResult r (IsLiteral (codes "null") t i) (IsLiteralFault (codes "null") t i)
 View a_true m t i r = MatchResult r (IsLiteral (codes "true") t i) (IsLiteralFault (codes "true") t i)
 View a_false m t i r = MatchResult r (IsLiteral (codes "false") t i) (IsLiteralFault (codes "false") t i)

@@ -5,7 +5,7 @@ use Rattle.sonic_error.specs.declared.code.ErrorCode.TheVariants.{ExpectedArrayC
 use Rattle.sonic_text.specs.declared.kind.Kind.{Kind}
 use Rattle.sonic_text.specs.declared.kind.Kind.TheVariants.{Array, Object}
 use Rattle.sonic_text.specs.declared.stop.Stop.{Stop}
-use Rattle.sonic_text.specs.Places.{byte, after_space, bad, IsDigit}
+use Rattle.sonic_text.specs.Places.{byte, after_space, stop_at, IsDigit}
 use Rattle.sonic_text.specs.Literals.{IsLiteralFault}
 use Rattle.sonic_text.specs.Numbers.{IsNumberFault}
 use Rattle.sonic_text.specs.Strings.{IsString, IsStringFault}
@@ -26,13 +26,13 @@ code_after_item Object = ExpectedObjectCommaOrEnd
 
 -- a key is expected at k and isn't there, for this reason, or no colon follows it
 pub data IsKeyFault (m : Bool) (t : List ℕ) (k : ℕ) (s : Stop) : Type 0 where
-  no_quote : byte t k ≢ 34 → s ≡ bad t k ExpectObjectKeyOrEnd → IsKeyFault m t k s
+  no_quote : byte t k ≢ 34 → s ≡ stop_at t k ExpectObjectKeyOrEnd → IsKeyFault m t k s
   key_fault : byte t k ≡ 34 → IsStringFault m t k s → IsKeyFault m t k s
-  no_colon : {e : ℕ} {b : List ℕ} → IsString m t k e b → byte t (after_space t e) ≢ 58 → s ≡ bad t (after_space t e) ExpectedColon → IsKeyFault m t k s
+  no_colon : {e : ℕ} {b : List ℕ} → IsString m t k e b → byte t (after_space t e) ≢ 58 → s ≡ stop_at t (after_space t e) ExpectedColon → IsKeyFault m t k s
 
 -- a value is expected at i and isn't there, for this reason
 pub data IsFault (m : Bool) (t : List ℕ) : ℕ → Stop → Type 0 where
-  no_value : {i : ℕ} {s : Stop} → BeginsNone (byte t i) → s ≡ bad t i InvalidJsonValue → IsFault m t i s
+  no_value : {i : ℕ} {s : Stop} → BeginsNone (byte t i) → s ≡ stop_at t i InvalidJsonValue → IsFault m t i s
   null_fault : {i : ℕ} {s : Stop} → byte t i ≡ 110 → IsLiteralFault (codes "null") t i s → IsFault m t i s
   true_fault : {i : ℕ} {s : Stop} → byte t i ≡ 116 → IsLiteralFault (codes "true") t i s → IsFault m t i s
   false_fault : {i : ℕ} {s : Stop} → byte t i ≡ 102 → IsLiteralFault (codes "false") t i s → IsFault m t i s
@@ -41,4 +41,4 @@ pub data IsFault (m : Bool) (t : List ℕ) : ℕ → Stop → Type 0 where
   in_key : {i n k : ℕ} {s : Stop} → ItemsFit m t Object i n k → IsKeyFault m t k s → IsFault m t i s
   in_value : {kind : Kind} {i n h v : ℕ} {l : Option (List ℕ)} {s : Stop} → ItemsFit m t kind i n h → ItemHead m t kind h v l → IsFault m t v s → IsFault m t i s
   after_item : {kind : Kind} {i n h v e : ℕ} {l : Option (List ℕ)} {s : Stop} → ItemsFit m t kind i n h → ItemHead m t kind h v l → IsValue m t v e → NothingFits t e (closing kind)
-      → s ≡ bad t (after_space t e) (code_after_item kind) → IsFault m t i s
+      → s ≡ stop_at t (after_space t e) (code_after_item kind) → IsFault m t i s

@@ -2,7 +2,7 @@
 use Rattle.std.specs.Prelude.{◌≡◌, ◌≢◌, ℕ, ◌+◌, ◌<◌, ◌≤◌, List, length}
 use Rattle.sonic_error.specs.declared.code.ErrorCode.TheVariants.{InvalidLiteral}
 use Rattle.sonic_text.specs.declared.stop.Stop.{Stop}
-use Rattle.sonic_text.specs.Places.{byte, bad}
+use Rattle.sonic_text.specs.Places.{byte, stop_at}
 
 -- the first n letters of the word are at i
 abbrev pub Letters : List ℕ → List ℕ → ℕ → ℕ → Type 0
@@ -18,4 +18,4 @@ pub record IsLiteralFault (word t : List ℕ) (i : ℕ) (s : Stop) : Type 0 wher
   pub shorter : n < length word
   pub letters : Letters word t i n
   pub differs : i + n < length t → byte t (i + n) ≢ byte word n
-  pub stop : s ≡ bad t (i + n) InvalidLiteral
+  pub stop : s ≡ stop_at t (i + n) InvalidLiteral

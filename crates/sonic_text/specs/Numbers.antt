@@ -2,7 +2,7 @@
 use Rattle.std.specs.Prelude.{◌≡◌, ◌≢◌, ℕ, ◌+◌, ◌≤◌, ◌==◌, ◌||◌, ◌⊎◌, List, length, if◌then◌else◌}
 use Rattle.sonic_error.specs.declared.code.ErrorCode.TheVariants.{InvalidNumber}
 use Rattle.sonic_text.specs.declared.stop.Stop.{Stop}
-use Rattle.sonic_text.specs.Places.{byte, bad, IsDigit, digits_end}
+use Rattle.sonic_text.specs.Places.{byte, stop_at, IsDigit, digits_end}
 
 -- after a minus sign, if one is at i
 abbrev pub after_minus : List ℕ → ℕ → ℕ
@@ -45,16 +45,16 @@ pub record IsNumber (t : List ℕ) (i j : ℕ) : Type 0 where
 -- no digit is where one is expected, or one follows a first 0
 abbrev pub IsIntFault : List ℕ → ℕ → Stop → Type 0
 IsIntFault t i s =
-    ¬ (IsDigit (byte t i)) × (s ≡ bad t i InvalidNumber)
-    ⊎ (byte t i ≡ 48) × IsDigit (byte t (i + 1)) × (s ≡ bad t (i + 1) InvalidNumber)
+    ¬ (IsDigit (byte t i)) × (s ≡ stop_at t i InvalidNumber)
+    ⊎ (byte t i ≡ 48) × IsDigit (byte t (i + 1)) × (s ≡ stop_at t (i + 1) InvalidNumber)
 
 -- no digit follows the dot
 abbrev pub IsFractionFault : List ℕ → ℕ → Stop → Type 0
-IsFractionFault t i s = (byte t i ≡ 46) × ¬ (IsDigit (byte t (i + 1))) × (s ≡ bad t (i + 1) InvalidNumber)
+IsFractionFault t i s = (byte t i ≡ 46) × ¬ (IsDigit (byte t (i + 1))) × (s ≡ stop_at t (i + 1) InvalidNumber)
 
 -- no digit follows the e and its sign
 abbrev pub IsExponentFault : List ℕ → ℕ → Stop → Type 0
-IsExponentFault t i s = IsE (byte t i) × ¬ (IsDigit (byte t (after_sign t (i + 1)))) × (s ≡ bad t (after_sign t (i + 1)) InvalidNumber)
+IsExponentFault t i s = IsE (byte t i) × ¬ (IsDigit (byte t (after_sign t (i + 1)))) × (s ≡ stop_at t (after_sign t (i + 1)) InvalidNumber)
 
 -- the first part of a number that isn't there, as those before it are
 pub data IsNumberFault (t : List ℕ) (i : ℕ) (s : Stop) : Type 0 where

@@ -25,7 +25,7 @@ abbrev pub digits_end : List ℕ → ℕ → ℕ
 digits_end t i = i + prefix_len is_ascii_digit (drop i t)
 
 -- the stop at p for this reason; where p is no place of a byte, the end of the input is the reason
-abbrev pub bad : List ℕ → ℕ → ErrorCode → Stop
-bad t p code =
+abbrev pub stop_at : List ℕ → ℕ → ErrorCode → Stop
+stop_at t p code =
     if nat_lt p (length t) then record { place = p; code = code }
     else record { place = length t; code = EofWhileParsing }

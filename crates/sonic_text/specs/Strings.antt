@@ -4,7 +4,7 @@ use Rattle.std.specs.declared.option.Option.{Option}
 use Rattle.sonic_error.specs.declared.code.ErrorCode.{ErrorCode}
 use Rattle.sonic_error.specs.declared.code.ErrorCode.TheVariants.{ControlCharacterWhileParsingString, InvalidEscape, InvalidUnicodeCodePoint, InvalidSurrogateUnicodeCodePoint}
 use Rattle.sonic_text.specs.declared.stop.Stop.{Stop}
-use Rattle.sonic_text.specs.Places.{byte, bad}
+use Rattle.sonic_text.specs.Places.{byte, stop_at}
 
 -- a reader is strict, or lossy
 abbrev pub strict : Bool
@@ -107,8 +107,8 @@ unfoldable pub hex_within : ℕ → ℕ → ℕ → Bool
 hex_within low high b = is_some (hex_digit b) && nat_le low (unwrap_or (hex_digit b) 0) && nat_le (unwrap_or (hex_digit b) 0) high
 
 -- the byte may be at this place of an escape of a second half
-unfoldable pub is_low_byte : ℕ → ℕ → Bool
-is_low_byte n b =
+unfoldable pub is_low_surrogate_byte : ℕ → ℕ → Bool
+is_low_surrogate_byte n b =
     if n == 0 then b == 92
     else if n == 1 then b == 117
     else if n == 2 then hex_within 13 13 b
@@ -123,7 +123,7 @@ escape_fault m t k n =
     else if not (byte t (k + 1) == 117) then None
     else if n == 3 && not m && hex_within 13 13 (byte t (k + 2)) && hex_within 12 15 b then Some InvalidSurrogateUnicodeCodePoint
     else if nat_le n 5 then (if hex_within 0 15 b then None else Some InvalidUnicodeCodePoint)
-    else if not m && hex_within 13 13 (byte t (k + 2)) && hex_within 8 11 (byte t (k + 3)) && not (is_low_byte (n - 6) b)
+    else if not m && hex_within 13 13 (byte t (k + 2)) && hex_within 8 11 (byte t (k + 3)) && not (is_low_surrogate_byte (n - 6) b)
     then Some InvalidSurrogateUnicodeCodePoint
     else None
 
@@ -134,9 +134,9 @@ pub record IsEscapeFault (m : Bool) (t : List ℕ) (k : ℕ) (s : Stop) : Type 0
   pub after : (0 < n) × (n < 12)
   pub right : (d : ℕ) → 0 < d → d < n → escape_fault m t k d ≡ None
   pub wrong : escape_fault m t k n ≡ Some code
-  pub stop : s ≡ bad t (k + n) code
+  pub stop : s ≡ stop_at t (k + n) code
 
 -- chars fit up to k, where neither a char nor the closing quote is
 pub data IsStringFault (m : Bool) (t : List ℕ) (i : ℕ) (s : Stop) : Type 0 where
-  control_char : {k : ℕ} {b : List ℕ} → AreChars m t (i + 1) k b → byte t k < 32 → s ≡ bad t k ControlCharacterWhileParsingString → IsStringFault m t i s
+  control_char : {k : ℕ} {b : List ℕ} → AreChars m t (i + 1) k b → byte t k < 32 → s ≡ stop_at t k ControlCharacterWhileParsingString → IsStringFault m t i s
   in_escape : {k : ℕ} {b : List ℕ} → AreChars m t (i + 1) k b → byte t k ≡ 92 → IsEscapeFault m t k s → IsStringFault m t i s

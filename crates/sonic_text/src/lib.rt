@@ -5,6 +5,9 @@
 mod bracket_law;
 // Hexadecimal digits, four of which follow `\u`.
 mod hex;
+// What the crates above need, and no user of this one.
+#[doc(hidden)]
+pub mod internal;
 // Keys compared as they are read.
 mod key;
 // The two kinds of container.
@@ -14,7 +17,7 @@ mod law;
 // The three literals.
 mod literal;
 // What is short and near, without a look at the text's end.
-mod near;
+mod short;
 // Numbers: where they end, and what whole ones are.
 mod number;
 // Strings as they are written.
@@ -40,21 +43,20 @@ pub use bracket_law::{
     container_ends_once, string_is_inside, value_balances, value_is_level, value_keeps_backslashes,
 };
 pub use hex::hex4;
-pub use key::{compare_key, same_key};
+pub use key::same_key;
 pub use kind::Kind;
 pub use law::{
     end_is_honest, first_byte_says_the_type, literal_has_one_outcome, number_has_one_outcome,
     value_has_no_space_at_its_ends, value_has_one_outcome, value_means_one_tree,
 };
-pub use literal::{literal_end, skip_literal};
-pub use near::{near_number, near_space, near_stop, near_string};
-pub use number::{number_end, skip_number, whole_i64, whole_u64};
+pub use literal::literal_end;
+pub use number::{number_end, whole_i64, whole_u64};
 pub use quote::{QUOTE_TAB, format_string};
 pub use quoted::write_quoted;
-pub use scan::{byte_at, skip_digits, skip_space, stop_at, type_of};
+pub use scan::{byte_at, skip_space, type_of};
 pub use space::is_whitespace;
 pub use stop::Stop;
-pub use string::{StringEnd, skip_string, string_end};
+pub use string::{StringEnd, string_end};
 pub use string_law::{
     quoted_text_is_a_string, string_denotes_one_text, string_has_one_outcome,
     tables_have_the_escapes,

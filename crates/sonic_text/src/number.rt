@@ -4,7 +4,7 @@ ghost use Rattle.std.specs.Option.{SomeIff};
 ghost use Rattle.std.specs.Str.Parse.{digits_value, signed_digits_value};
 ghost use Rattle.sonic_error.specs.declared.code.ErrorCode.TheVariants.{InvalidNumber};
 ghost use Rattle.sonic_text.specs.declared.stop.Stop.{Stop};
-ghost use Rattle.sonic_text.specs.Places.{byte, bad, IsDigit};
+ghost use Rattle.sonic_text.specs.Places.{byte, stop_at, IsDigit};
 ghost use Rattle.sonic_text.specs.Numbers.{after_minus, after_sign, IsInt, IsIntFault, IsFraction, IsFractionFault, IsE, IsExponent, IsExponentFault, IsNumber, IsNumberFault, IsWholeText};
 
 use crate::scan::{byte_at, skip_digits, stop_at};
@@ -45,7 +45,7 @@ fn int_end(text: &[u8], start: usize) -> Result<usize, usize>
     requires { start ≤ length text.now }
     ensures ok { IfOk result (λ j. (start < j) × (j ≤ length text.now) × IsInt text.now start j) }
     ensures err { IfErr result (λ p. (p ≤ length text.now)
-        × IsIntFault text.now start (bad text.now p InvalidNumber)) }
+        × IsIntFault text.now start (stop_at text.now p InvalidNumber)) }
 {
     match byte_at(text, start) {
         b'0' if byte_at(text, start + 1).is_ascii_digit() => Err(start + 1),
@@ -61,7 +61,7 @@ fn fraction_end(text: &[u8], start: usize) -> Result<usize, usize>
     requires { start ≤ length text.now }
     ensures ok { IfOk result (λ j. (start ≤ j) × (j ≤ length text.now) × IsFraction text.now start j) }
     ensures err { IfErr result (λ p. (p ≤ length text.now)
-        × IsFractionFault text.now start (bad text.now p InvalidNumber)) }
+        × IsFractionFault text.now start (stop_at text.now p InvalidNumber)) }
 {
     if byte_at(text, start) != b'.' {
         return Ok(start);
@@ -80,7 +80,7 @@ fn power_end(text: &[u8], start: usize) -> Result<usize, usize>
     requires { IsE (byte text.now start) }
     ensures ok { IfOk result (λ j. (start ≤ j) × (j ≤ length text.now) × IsExponent text.now start j) }
     ensures err { IfErr result (λ p. (p ≤ length text.now)
-        × IsExponentFault text.now start (bad text.now p InvalidNumber)) }
+        × IsExponentFault text.now start (stop_at text.now p InvalidNumber)) }
 {
     let digits = skip_sign(text, start + 1);
     if byte_at(text, digits).is_ascii_digit() {
@@ -96,7 +96,7 @@ fn exponent_end(text: &[u8], start: usize) -> Result<usize, usize>
     requires { start ≤ length text.now }
     ensures ok { IfOk result (λ j. (start ≤ j) × (j ≤ length text.now) × IsExponent text.now start j) }
     ensures err { IfErr result (λ p. (p ≤ length text.now)
-        × IsExponentFault text.now start (bad text.now p InvalidNumber)) }
+        × IsExponentFault text.now start (stop_at text.now p InvalidNumber)) }
 {
     match byte_at(text, start) {
         b'e' | b'E' => power_end(text, start),
@@ -110,7 +110,7 @@ fn parts_end(text: &[u8], start: usize) -> Result<usize, usize>
     requires { start ≤ length text.now }
     ensures ok { IfOk result (λ j. (start < j) × (j ≤ length text.now) × IsNumber text.now start j) }
     ensures err { IfErr result (λ p. (p ≤ length text.now)
-        × IsNumberFault text.now start (bad text.now p InvalidNumber)) }
+        × IsNumberFault text.now start (stop_at text.now p InvalidNumber)) }
 {
     let whole = int_end(text, skip_minus(text, start))?;
     let fraction = fraction_end(text, whole)?;

@@ -3,7 +3,7 @@ ghost use Rattle.std.specs.Prelude.{◌≡◌, ◌+◌, ◌*◌, ◌≤◌, ◌+
 ghost use Rattle.sonic_blocks.specs.Runs.{is_plain};
 ghost use Rattle.sonic_text.specs.Quoting.{quoted, quoted_bytes, quoted_byte};
 
-use sonic_blocks::plain_end;
+use sonic_blocks::internal::plain_end;
 
 // The entry of a byte that stays as it is.
 const KEPT: (u8, [u8; 8]) = (0, [0; 8]);

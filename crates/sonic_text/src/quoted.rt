@@ -4,7 +4,7 @@ ghost use Rattle.std.specs.Fmt.{WritesOnOk};
 ghost use Rattle.sonic_text.specs.Quoting.{quoted};
 
 use crate::quote::escape_of;
-use sonic_blocks::plain_end;
+use sonic_blocks::internal::plain_end;
 use std::fmt;
 use std::fmt::Write;
 

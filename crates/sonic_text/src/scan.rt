@@ -1,9 +1,9 @@
 ghost use Rattle.std.specs.Prelude.{◌≡◌, ◌<◌, ◌≤◌, length};
-ghost use Rattle.sonic_text.specs.Places.{byte, after_space, digits_end, bad, IsDigit};
+ghost use Rattle.sonic_text.specs.Places.{byte, after_space, digits_end, stop_at, IsDigit};
 ghost use Rattle.sonic_text.specs.Values.{type_of};
 
 use crate::stop::Stop;
-use sonic_blocks::{digits_end, space_end};
+use sonic_blocks::internal::{digits_end, space_end};
 use sonic_error::{ErrorCode, JsonType};
 
 /// The byte at a place, and 0 after the end, where no rule of the grammar asks for a 0.
@@ -23,7 +23,7 @@ pub fn byte_at(text: &[u8], place: usize) -> u8
 /// In `[1;` the place 2 stops with the code that is given, and the place 3 with `EofWhileParsing`.
 pub fn stop_at(text: &[u8], place: usize, code: ErrorCode) -> Stop
     requires { place ≤ length text.now }
-    ensures { result ≡ bad text.now place code }
+    ensures { result ≡ stop_at text.now place code }
 {
     if place < text.len() {
         Stop { place, code }

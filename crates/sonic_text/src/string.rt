@@ -1,15 +1,16 @@
 ghost use Rattle.std.specs.Prelude.{◌≡◌, ◌+◌, ◌<◌, ◌≤◌, ◌↔◌, ℕ, List, length, true, false, IsTrue, IfOk, IfErr, IfSome, is_some, Some, None};
 ghost use Rattle.sonic_error.specs.declared.code.ErrorCode.TheVariants.{InvalidUnicodeCodePoint};
 ghost use Rattle.sonic_text.specs.declared.stop.Stop.{Stop};
-ghost use Rattle.sonic_text.specs.Places.{byte, bad};
+ghost use Rattle.sonic_text.specs.Places.{byte, stop_at};
 ghost use Rattle.sonic_text.specs.Internal.Reading.{AreSpecial, IsInString, EndsString, IsReadSoFar, CharsLeadOn};
-ghost use Rattle.sonic_text.specs.Strings.{escaped, hex_digit, is_low_byte, IsHex4, IsLow, IsChar, IsEscapeFault, IsString, IsEscapedString, IsStringFault, IsUnescaped};
+ghost use Rattle.sonic_text.specs.Strings.{escaped, hex_digit, is_low_surrogate_byte, IsHex4, IsLow, IsChar, IsEscapeFault, IsString, IsEscapedString, IsStringFault, IsUnescaped};
 
 use crate::hex::{digit_of, hex4_at};
 use crate::scan::{byte_at, stop_at};
 use crate::stop::Stop;
-use crate::unescape::{escaped_of, low_at};
-use sonic_blocks::{StringBlock, next_bit, plain_end};
+use crate::unescape::{escaped_of, low_surrogate_at};
+use sonic_blocks::internal::plain_end;
+use sonic_blocks::{StringBlock, next_bit};
 use sonic_error::ErrorCode;
 
 /// Where a string of a text ends (RFC 8259, section 7), and whether it has an escape.
@@ -24,9 +25,9 @@ pub struct StringEnd {
 }
 
 // Whether a byte may be `n` places after the start of an escape of a second half.
-#[tactic(auto, unfolding(crate::specs::Strings::is_low_byte, crate::specs::Strings::hex_within, crate::specs::Strings::hex_digit))]
-fn low_byte(n: usize, byte: u8) -> bool
-    ensures { result ≡ is_low_byte n byte }
+#[tactic(auto, unfolding(crate::specs::Strings::is_low_surrogate_byte, crate::specs::Strings::hex_within, crate::specs::Strings::hex_digit))]
+fn low_surrogate_byte(n: usize, byte: u8) -> bool
+    ensures { result ≡ is_low_surrogate_byte n byte }
 {
     match n {
         0 => byte == b'\\',
@@ -39,15 +40,15 @@ fn low_byte(n: usize, byte: u8) -> bool
 
 // How many bytes of an escape of a second half are at a place, up to six.
 #[tactic(auto, using(crate::proofs::HexDigitLemmas::low_some))]
-fn low_bytes(text: &[u8], place: usize) -> usize
+fn low_surrogate_bytes(text: &[u8], place: usize) -> usize
     requires { place ≤ length text.now }
     ensures few { result ≤ 6 }
     ensures within { place + result ≤ length text.now }
-    ensures right { (d : ℕ) → d < result → is_low_byte d (byte text.now (place + d)) ≡ true }
-    ensures wrong { result < 6 → is_low_byte result (byte text.now (place + result)) ≡ false }
+    ensures right { (d : ℕ) → d < result → is_low_surrogate_byte d (byte text.now (place + d)) ≡ true }
+    ensures wrong { result < 6 → is_low_surrogate_byte result (byte text.now (place + result)) ≡ false }
 {
     let mut n = 0;
-    while n < 6 && low_byte(n, byte_at(text, place + n)) {
+    while n < 6 && low_surrogate_byte(n, byte_at(text, place + n)) {
         n += 1;
     }
     n
@@ -117,11 +118,11 @@ fn unicode_end(text: &[u8], place: usize, lossy: bool) -> Result<usize, Stop>
     if number < 0xD800 || number > 0xDBFF {
         return Ok(place + 6);
     }
-    match low_at(text, place + 6) {
+    match low_surrogate_at(text, place + 6) {
         Some(_) => Ok(place + 12),
         None if lossy => Ok(place + 6),
         None => {
-            let n = low_bytes(text, place + 6);
+            let n = low_surrogate_bytes(text, place + 6);
             let code = ErrorCode::InvalidSurrogateUnicodeCodePoint;
             Err(stop_at(text, place + 6 + n, code))
         }

@@ -6,7 +6,7 @@ ghost use Rattle.sonic_text.specs.Strings.{escaped, IsEscape, IsLow, IsLowEscape
 
 use crate::hex::hex4_at;
 use crate::utf8::codepoint_to_utf8;
-use sonic_blocks::first_backslash;
+use sonic_blocks::internal::first_backslash;
 use sonic_error::{Error, ErrorCode};
 use std::alloc::AllocError;
 
@@ -41,7 +41,7 @@ pub(crate) fn escaped_of(letter: u8) -> u8
 }
 
 /// The second half of a surrogate pair whose escape is at `place`, if there is one (RFC 7493, 2.1).
-pub(crate) fn low_at(text: &[u8], place: usize) -> Option<u32>
+pub(crate) fn low_surrogate_at(text: &[u8], place: usize) -> Option<u32>
     requires { place ≤ length text.now }
     ensures some { IfSome result (λ l. IsEscape text.now place l × IsLow l) }
     ensures none { result ≡ None → ¬ (IsLowEscape text.now place) }
@@ -77,7 +77,7 @@ fn unicode_at(text: &[u8], place: usize) -> (u32, usize)
     if unit > 0xDBFF {
         return (0xFFFD, place + 6);
     }
-    match low_at(text, place + 6) {
+    match low_surrogate_at(text, place + 6) {
         Some(half) => {
             let code = 0x1_0000 + (unit - 0xD800) * 0x400 + (half - 0xDC00);
             (code, place + 12)

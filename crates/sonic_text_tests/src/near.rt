@@ -1,8 +1,9 @@
 // What no clause says: how long what is near may be, and that it ends where the other readers end it.
 use crate::same::same_at;
-use sonic_text::{
-    near_number, near_space, near_stop, near_string, skip_number, skip_space, skip_string,
+use sonic_text::internal::{
+    short_number, short_space, short_stop, short_string, skip_number, skip_string,
 };
+use sonic_text::skip_space;
 use std::process::Abort;
 
 // A text, and the filler after it.
@@ -19,7 +20,7 @@ fn padded(text: &[u8], filler: u8) -> [u8; 128] {
 fn check_number(rt: &impl Abort, text: &[u8], end: Option<usize>) {
     for filler in *b",]} \nx\x00" {
         let bytes = padded(text, filler);
-        same_at(rt, near_number(&bytes, 0), end, (text, filler));
+        same_at(rt, short_number(&bytes, 0), end, (text, filler));
         if end.is_some() {
             same_at(rt, skip_number(&bytes, 0), end, (text, filler));
         }
@@ -80,18 +81,18 @@ fn quoted(inside: u8, count: usize, last: u8) -> [u8; 128] {
 }
 
 // What the reader of near strings answers at the start of the text, where a quote and enough bytes are.
-fn near_end(text: &[u8]) -> Option<usize> {
+fn short_end(text: &[u8]) -> Option<usize> {
     if text.len() >= 33 && text[0] == b'"' {
-        near_string(text, 0)
+        short_string(text, 0)
     } else {
         None
     }
 }
 
 // The first byte there that isn't itself in a string, where it is near.
-fn near_special(text: &[u8]) -> Option<usize> {
+fn short_special(text: &[u8]) -> Option<usize> {
     if text.len() >= 33 && text[0] == b'"' {
-        near_stop(text, 0)
+        short_stop(text, 0)
     } else {
         None
     }
@@ -113,8 +114,8 @@ fn ends_near_strings(rt: HostRuntime) {
             let bytes = quoted(inside, count, b'"');
             let end = if count < 32 { Some(count + 2) } else { None };
             let stop = if count < 32 { Some(count + 1) } else { None };
-            same_at(&rt, near_end(&bytes), end, (inside, count));
-            same_at(&rt, near_special(&bytes), stop, (inside, count));
+            same_at(&rt, short_end(&bytes), end, (inside, count));
+            same_at(&rt, short_special(&bytes), stop, (inside, count));
             same_at(&rt, quick_end(&bytes), Some(count + 2), (inside, count));
         }
     }
@@ -126,8 +127,8 @@ fn says_nothing_of_other_strings(rt: HostRuntime) {
         for count in 0..40 {
             let bytes = quoted(b'a', count, other);
             let stop = if count < 32 { Some(count + 1) } else { None };
-            same_at(&rt, near_end(&bytes), None, (other, count));
-            same_at(&rt, near_special(&bytes), stop, (other, count));
+            same_at(&rt, short_end(&bytes), None, (other, count));
+            same_at(&rt, short_special(&bytes), stop, (other, count));
         }
     }
 }
@@ -138,7 +139,7 @@ fn ends_near_space(rt: HostRuntime) {
         for count in 0..40 {
             let mut bytes = [space; 40];
             bytes[count] = b'1';
-            same_at(&rt, near_space(&bytes, 0), count, (space, count));
+            same_at(&rt, short_space(&bytes, 0), count, (space, count));
             same_at(&rt, skip_space(&bytes, 0), count, (space, count));
         }
     }

@@ -4,10 +4,8 @@ ghost use Rattle.sonic_text.specs.Numbers.{IsNumber};
 
 use crate::same::{same, same_at};
 use sonic_error::ErrorCode;
-use sonic_text::{
-    Kind, Stop, is_whitespace, literal_end, number_end, skip_literal, skip_number, whole_i64,
-    whole_u64,
-};
+use sonic_text::internal::{skip_literal, skip_number};
+use sonic_text::{Kind, Stop, is_whitespace, literal_end, number_end, whole_i64, whole_u64};
 use std::process::Abort;
 
 #[test]

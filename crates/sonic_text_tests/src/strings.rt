@@ -2,7 +2,8 @@
 // at every state of its escapes.
 use crate::same::{same, same_at};
 use sonic_error::ErrorCode;
-use sonic_text::{Stop, StringEnd, skip_string, string_end};
+use sonic_text::internal::skip_string;
+use sonic_text::{Stop, StringEnd, string_end};
 use std::process::Abort;
 
 const STRICT: bool = false;

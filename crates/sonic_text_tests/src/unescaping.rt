@@ -1,8 +1,7 @@
 // What no clause says: that the calls answer the worked examples of their documents.
 use crate::same::{same, same_at};
-use sonic_text::{
-    ESCAPED_TAB, codepoint_to_utf8, compare_key, hex4, same_key, string_end, unescape_into,
-};
+use sonic_text::internal::compare_key;
+use sonic_text::{ESCAPED_TAB, codepoint_to_utf8, hex4, same_key, string_end, unescape_into};
 use std::alloc::Global;
 use std::cmp::Ordering;
 use std::process::Abort;

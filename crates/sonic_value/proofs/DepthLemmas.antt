@@ -7,11 +7,11 @@ use Rattle.sonic_text.proofs.Insides.{not_past_byte, not_past_key, not_past_valu
 use Rattle.sonic_text.proofs.Items.{at_key, at_value, head_one, head_never_both, opening_one}
 use Rattle.sonic_text.proofs.Outcomes.{value_some_outcome}
 use Rattle.sonic_text.proofs.Places.{after_space_later}
-use Rattle.sonic_text.proofs.Stops.{bad_from, key_fault_from, fault_from}
+use Rattle.sonic_text.proofs.Stops.{stop_at_from, key_fault_from, fault_from}
 use Rattle.sonic_text.proofs.Values.{ContainerOutcome, no_item, at_last, container_outcome, head-later, value-longer, items-later, items_open, items_not_empty, items_one, value_fault_one}
 use Rattle.sonic_text.proofs.Within.{value_within, items_within, head_within}
 use Rattle.sonic_text.specs.Faults.{code_after_item, IsKeyFault, IsFault, in_value}
-use Rattle.sonic_text.specs.Places.{byte, after_space, bad}
+use Rattle.sonic_text.specs.Places.{byte, after_space, stop_at}
 use Rattle.sonic_text.specs.Strings.{strict}
 use Rattle.sonic_text.specs.Values.{opening, closing, ItemHead, IsValue, ItemsFit}
 use Rattle.sonic_text.specs.declared.kind.Kind.{Kind}
@@ -45,8 +45,8 @@ outcome_later {t} {kind} {i} {s} (at_last is (at_value (Ok e) y x (inr a))) =
     let stop = a.1 in
     let later = after_space_later t e in
     let order : i + 1 ≤ e = omega (arith, items-later is, head-later y, value-longer x) in
-    let is_bad : s ≡ bad t (after_space t e) (code_after_item kind) = cc in
-    let from : i + 1 ≤ s.place = bad_from t (after_space t e) (code_after_item kind) s is_bad (omega arith) (omega (arith, value_within x)) in
+    let is_stop : s ≡ stop_at t (after_space t e) (code_after_item kind) = cc in
+    let from : i + 1 ≤ s.place = stop_at_from t (after_space t e) (code_after_item kind) s is_stop (omega arith) (omega (arith, value_within x)) in
     omega (arith, from)
 
 -- a container inside comes before the fault

@@ -24,7 +24,7 @@ use Rattle.sonic_value.specs.Internal.Readers.{Source, IsValueRead, IsUnreadValu
 use Rattle.sonic_value.specs.Reading.{IsRead, IsUnread, too_deep, invalid, IsUnreadError, out_of_memory, unread}
 
 -- a value that isn't read is so within the text
-pub unread_within : {t : List ℕ} {room i : ℕ} (s : Stop) → IsUnreadValue t room i s → s.place ≤ length t
+pub unread_within : {t : List ℕ} {depth_left i : ℕ} (s : Stop) → IsUnreadValue t depth_left i s → s.place ≤ length t
 unread_within {t} s (a_too_deep {p = p} x e) =
     let b = x.nested.bracket in
     let within = byte_within t p (λ z. opening_not_end x.nested.kind (sym b ∙ z)) in

@@ -12,7 +12,7 @@ use Rattle.std.specs.declared.fmt.Formatter.{Formatter}
 use Rattle.std.specs.declared.string.String.{String}
 use Rattle.sonic_owned.proofs.UnwrittenLemmas.{up_to, up_to_more}
 use Rattle.sonic_owned.specs.Forms.{label_text}
-use Rattle.sonic_owned.specs.Internal.Unwritten.{IsWrittenUpTo}
+use Rattle.sonic_owned.specs.Writing.{IsWrittenUpTo}
 use Rattle.sonic_text.specs.Trees.{Items, Tree}
 use Rattle.sonic_text.specs.Trees.Items.{item, no_item}
 use Rattle.sonic_value.specs.CompactTexts.{compact, items_text}

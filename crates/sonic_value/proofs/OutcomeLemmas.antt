@@ -60,7 +60,7 @@ abbrev utf8 : List ℕ → Source
 utf8 t = record { text = t; is_utf8 = true }
 
 abbrev ReadOutcome : List ℕ → ℕ → ℕ → Type 0
-ReadOutcome t room i = ((j : ℕ) × (x : Tree) × IsValueRead (utf8 t) room i j x) ⊎ ((s : Stop) × IsUnreadValue t room i s)
+ReadOutcome t depth_left i = ((j : ℕ) × (x : Tree) × IsValueRead (utf8 t) depth_left i j x) ⊎ ((s : Stop) × IsUnreadValue t depth_left i s)
 
 -- an item that follows another comes later
 next_later : {t : List ℕ} {kind : Kind} {h v e g : ℕ} {l : Option (List ℕ)} → ItemHead strict t kind h v l → IsValue strict t v e → IsSeparated t e g → h < g
@@ -68,10 +68,10 @@ next_later {t} {e = e} y x comma =
     omega (arith, head-later y, value-longer x, after_space_later t e, after_space_later t (after_space t e + 1), comma.1)
 
 -- the items of a container
-items_read : (t : List ℕ) (kind : Kind) (room i fuel h : ℕ) (xs : List (Option (List ℕ) × Tree)) → ((v : ℕ) → ReadOutcome t room v)
-    → AreItemsRead (utf8 t) kind room i h xs → length t < h + fuel → ReadOutcome t (room + 1) i
-items_read t kind room i zero h xs each read less = let within = items_within read.fit in absurd (omega (arith, within, less))
-items_read t kind room i (suc fuel) h xs each read less = elim (head_some strict t kind h) [
+items_read : (t : List ℕ) (kind : Kind) (depth_left i fuel h : ℕ) (xs : List (Option (List ℕ) × Tree)) → ((v : ℕ) → ReadOutcome t depth_left v)
+    → AreItemsRead (utf8 t) kind depth_left i h xs → length t < h + fuel → ReadOutcome t (depth_left + 1) i
+items_read t kind depth_left i zero h xs each read less = let within = items_within read.fit in absurd (omega (arith, within, less))
+items_read t kind depth_left i (suc fuel) h xs each read less = elim (head_some strict t kind h) [
   | inr (s, k, f) ↦ inr (s, key_unread read k f)
   | inl (v, l, y) ↦
       let head : IsHeadRead (utf8 t) kind h v (kept_label true l) = record { label = l; head = y; is = refl } in
@@ -82,37 +82,37 @@ items_read t kind room i (suc fuel) h xs each read less = elim (head_some strict
           | nothing f ↦ inr (_, separator_unread read head value f)
           | goes_on comma ↦
               let later = next_later y (value_read value) comma in
-              items_read t kind room i fuel _ _ each (item_read read head value comma) (omega (arith, less, later))
+              items_read t kind depth_left i fuel _ _ each (item_read read head value comma) (omega (arith, less, later))
         ]
       ]
 ]
 
 -- a container inside which so many more may be open
-container_read : (t : List ℕ) (kind : Kind) (room i : ℕ) → byte t i ≡ opening kind → ((v : ℕ) → ReadOutcome t room v) → ReadOutcome t (room + 1) i
-container_read t kind room i b each = elim (cases_eq (byte t (after_space t (i + 1))) (closing kind)) [
-  | inl c ↦ inl (_, _, empty_read kind room b (c, refl))
-  | inr c ↦ items_read t kind room i (suc (length t)) (after_space t (i + 1)) [] each (first_read kind room b refl c) (omega arith)
+container_read : (t : List ℕ) (kind : Kind) (depth_left i : ℕ) → byte t i ≡ opening kind → ((v : ℕ) → ReadOutcome t depth_left v) → ReadOutcome t (depth_left + 1) i
+container_read t kind depth_left i b each = elim (cases_eq (byte t (after_space t (i + 1))) (closing kind)) [
+  | inl c ↦ inl (_, _, empty_read kind depth_left b (c, refl))
+  | inr c ↦ items_read t kind depth_left i (suc (length t)) (after_space t (i + 1)) [] each (first_read kind depth_left b refl c) (omega arith)
 ]
 
 -- a scalar
-scalar_or_not : (t : List ℕ) (room i : ℕ) → BeginsNoContainer t i → ReadOutcome t room i
-scalar_or_not t room i none = elim (value_some_outcome strict t i) [
+scalar_or_not : (t : List ℕ) (depth_left i : ℕ) → BeginsNoContainer t i → ReadOutcome t depth_left i
+scalar_or_not t depth_left i none = elim (value_some_outcome strict t i) [
   | inl (j, value) ↦
       let x = tree_of value in
       let kept : IsKept (utf8 t) i j x.0 = record { meant = x.0; means = x.1; is = sym (kept_same x.0) } in
-      inl (j, x.0, scalar_read none kept room)
-  | inr (s, f) ↦ inr (s, scalar_unread none s f room)
+      inl (j, x.0, scalar_read none kept depth_left)
+  | inr (s, f) ↦ inr (s, scalar_unread none s f depth_left)
 ]
 
 -- each value
-pub read_or_not : (t : List ℕ) (room i : ℕ) → ReadOutcome t room i
+pub read_or_not : (t : List ℕ) (depth_left i : ℕ) → ReadOutcome t depth_left i
 read_or_not t zero i = elim (begins t i) [
   | inr none ↦ scalar_or_not t zero i none
   | inl (kind, b) ↦ inr (_, too_deep (too_deep_here kind b) refl)
 ]
-read_or_not t (suc room) i = elim (begins t i) [
-  | inr none ↦ scalar_or_not t (suc room) i none
-  | inl (kind, b) ↦ (let more : room + 1 ≡ suc room = omega arith in rw more at (container_read t kind room i b (read_or_not t room)))
+read_or_not t (suc depth_left) i = elim (begins t i) [
+  | inr none ↦ scalar_or_not t (suc depth_left) i none
+  | inl (kind, b) ↦ (let more : depth_left + 1 ≡ suc depth_left = omega arith in rw more at (container_read t kind depth_left i b (read_or_not t depth_left)))
 ]
 
 -- a schema is filled from the value at i, or it isn't

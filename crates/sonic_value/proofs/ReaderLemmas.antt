@@ -36,7 +36,7 @@ pub same_place : {a b : ReaderState} → a ≡ b → a.place ≡ b.place
 same_place e = ap (λ (c : ReaderState). c.place) e
 
 -- a value was read where one is
-pub value_read : {s : Source} {room i j : ℕ} {x : Tree} → IsValueRead s room i j x → IsValue strict s.text i j
+pub value_read : {s : Source} {depth_left i j : ℕ} {x : Tree} → IsValueRead s depth_left i j x → IsValue strict s.text i j
 value_read read = value_of read.kept.means
 
 -- an element has no label
@@ -50,9 +50,9 @@ before_more [] x ys = refl
 before_more (z ∷ xs) x ys = ap (item z.0 z.1) (before_more xs x ys)
 
 -- the container at i begins with the item that is expected after its bracket
-pub first_read : {s : Source} (kind : Kind) (room : ℕ) {i h : ℕ} → byte s.text i ≡ opening kind → h ≡ after_space s.text (i + 1) → byte s.text h ≢ closing kind
-    → AreItemsRead s kind room i h []
-first_read kind room b e more = record {
+pub first_read : {s : Source} (kind : Kind) (depth_left : ℕ) {i h : ℕ} → byte s.text i ≡ opening kind → h ≡ after_space s.text (i + 1) → byte s.text h ≢ closing kind
+    → AreItemsRead s kind depth_left i h []
+first_read kind depth_left b e more = record {
   count = 0;
   fit = first_item b e more refl;
   items = [];
@@ -62,33 +62,33 @@ first_read kind room b e more = record {
 }
 
 -- or it is empty
-pub empty_read : {s : Source} (kind : Kind) (room : ℕ) {i j : ℕ} → byte s.text i ≡ opening kind → IsEnd s.text kind (i + 1) j
-    → IsValueRead s (room + 1) i j (container kind no_item)
-empty_read kind room b end = record {
+pub empty_read : {s : Source} (kind : Kind) (depth_left : ℕ) {i j : ℕ} → byte s.text i ≡ opening kind → IsEnd s.text kind (i + 1) j
+    → IsValueRead s (depth_left + 1) i j (container kind no_item)
+empty_read kind depth_left b end = record {
   kept = record { meant = container kind no_item; means = means_empty b end.0 end.1; is = refl };
-  shallow = empty_shallow kind room b end.0;
+  shallow = empty_shallow kind depth_left b end.0;
 }
 
-module _ {s : Source} {kind : Kind} {room i h : ℕ} {xs : List (Option (List ℕ) × Tree)} (read : AreItemsRead s kind room i h xs) where
+module _ {s : Source} {kind : Kind} {depth_left i h : ℕ} {xs : List (Option (List ℕ) × Tree)} (read : AreItemsRead s kind depth_left i h xs) where
   -- a key that isn't there
-  pub key_unread : {stop : Stop} → kind ≡ Object → IsKeyFault strict s.text h stop → IsUnreadValue s.text (room + 1) i stop
+  pub key_unread : {stop : Stop} → kind ≡ Object → IsKeyFault strict s.text h stop → IsUnreadValue s.text (depth_left + 1) i stop
   key_unread k f =
       let is : ItemsFit strict s.text Object i read.count h = rw k at read.fit in
-      at_fault (key_shallow room read.fit read.shallow k f) (in_key is f)
+      at_fault (key_shallow depth_left read.fit read.shallow k f) (in_key is f)
 
   module _ {v : ℕ} {l : Option (List ℕ)} (head : IsHeadRead s kind h v l) where
     -- a value that isn't
-    pub value_unread : {stop : Stop} → IsUnreadValue s.text room v stop → IsUnreadValue s.text (room + 1) i stop
-    value_unread (too_deep x e) = too_deep (item_too_deep room read.fit read.shallow head.head x) e
-    value_unread (at_fault shallow f) = at_fault (fault_shallow room read.fit read.shallow head.head shallow f) (in_value read.fit head.head f)
+    pub value_unread : {stop : Stop} → IsUnreadValue s.text depth_left v stop → IsUnreadValue s.text (depth_left + 1) i stop
+    value_unread (too_deep x e) = too_deep (item_too_deep depth_left read.fit read.shallow head.head x) e
+    value_unread (at_fault shallow f) = at_fault (fault_shallow depth_left read.fit read.shallow head.head shallow f) (in_value read.fit head.head f)
 
-    module _ {e : ℕ} {x : Tree} (value : IsValueRead s room v e x) where
+    module _ {e : ℕ} {x : Tree} (value : IsValueRead s depth_left v e x) where
       -- what is kept with the item
       more_kept : xs ++ (l, x) ∷ [] ≡ map (kept_item s.is_utf8) (read.items ++ (head.label, value.kept.meant) ∷ [])
       more_kept = rw (read.kept, head.is, value.kept.is, map-append (kept_item s.is_utf8) read.items ((head.label, value.kept.meant) ∷ [])) refl
 
       -- after the item another one is expected
-      pub item_read : {g : ℕ} → IsSeparated s.text e g → AreItemsRead s kind room i g (xs ++ (l, x) ∷ [])
+      pub item_read : {g : ℕ} → IsSeparated s.text e g → AreItemsRead s kind depth_left i g (xs ++ (l, x) ∷ [])
       item_read comma = record {
         count = read.count + 1;
         fit = next_item read.fit head.head (value_read value) comma.0 comma.1 refl;
@@ -96,11 +96,11 @@ module _ {s : Source} {kind : Kind} {room i h : ℕ} {xs : List (Option (List �
         kept = more_kept;
         mean = λ j ys rest. rw (before_more read.items (head.label, value.kept.meant) ys)
             (read.mean j (item head.label value.kept.meant ys) (more_items head.head value.kept.means comma.0 comma.1 rest));
-        shallow = more_shallow room read.fit read.shallow head.head value.shallow;
+        shallow = more_shallow depth_left read.fit read.shallow head.head value.shallow;
       }
 
       -- or the container ends
-      pub last_read : {j : ℕ} → IsEnd s.text kind e j → IsValueRead s (room + 1) i j (container kind (items_before (xs ++ (l, x) ∷ []) no_item))
+      pub last_read : {j : ℕ} → IsEnd s.text kind e j → IsValueRead s (depth_left + 1) i j (container kind (items_before (xs ++ (l, x) ∷ []) no_item))
       last_read {j} end =
           let b = items_open read.fit in
           let items = read.items ++ (head.label, value.kept.meant) ∷ [] in
@@ -111,32 +111,32 @@ module _ {s : Source} {kind : Kind} {room i h : ℕ} {xs : List (Option (List �
               means = rw (before_more read.items (head.label, value.kept.meant) no_item) (means_filled b refl (items_not_empty read.fit) all);
               is = ap (container kind) (ap (λ ys. items_before ys no_item) more_kept ∙ kept_before s.is_utf8 items);
             };
-            shallow = whole_shallow room read.fit read.shallow head.head value.shallow (value_read value) (λ c. closing_no_comma kind (omega (arith, c, end.0)));
+            shallow = whole_shallow depth_left read.fit read.shallow head.head value.shallow (value_read value) (λ c. closing_no_comma kind (omega (arith, c, end.0)));
           }
 
       -- or neither follows
-      pub separator_unread : {stop : Stop} → IsSeparatorFault s.text kind e stop → IsUnreadValue s.text (room + 1) i stop
+      pub separator_unread : {stop : Stop} → IsSeparatorFault s.text kind e stop → IsUnreadValue s.text (depth_left + 1) i stop
       separator_unread f =
-          at_fault (whole_shallow room read.fit read.shallow head.head value.shallow (value_read value) f.0.0) (after_item read.fit head.head (value_read value) f.0 f.1)
+          at_fault (whole_shallow depth_left read.fit read.shallow head.head value.shallow (value_read value) f.0.0) (after_item read.fit head.head (value_read value) f.0 f.1)
 
 -- the container begins with an item, or ends
-pub container_begins : (s : Source) (kind : Kind) (room i : ℕ) {h : ℕ} (more : Bool) → byte s.text i ≡ opening kind
+pub container_begins : (s : Source) (kind : Kind) (depth_left i : ℕ) {h : ℕ} (more : Bool) → byte s.text i ≡ opening kind
     → (more ≡ true → (h ≡ after_space s.text (i + 1)) × (byte s.text h ≢ closing kind)) → (more ≡ false → IsEnd s.text kind (i + 1) h)
-    → IsContainerRead s kind room i h [] more
-container_begins s kind room i true b first close = let x = first refl in first_read kind room b x.0 x.1
-container_begins s kind room i false b first close = empty_read kind room b (close refl)
+    → IsContainerRead s kind depth_left i h [] more
+container_begins s kind depth_left i true b first close = let x = first refl in first_read kind depth_left b x.0 x.1
+container_begins s kind depth_left i false b first close = empty_read kind depth_left b (close refl)
 
 -- after an item it goes on with another one, or ends
-container_goes_on : {s : Source} {kind : Kind} {room i h v e g : ℕ} {xs : List (Option (List ℕ) × Tree)} {l : Option (List ℕ)} {x : Tree} (more : Bool)
-    → AreItemsRead s kind room i h xs → IsHeadRead s kind h v l → IsValueRead s room v e x → (more ≡ true → IsSeparated s.text e g)
+container_goes_on : {s : Source} {kind : Kind} {depth_left i h v e g : ℕ} {xs : List (Option (List ℕ) × Tree)} {l : Option (List ℕ)} {x : Tree} (more : Bool)
+    → AreItemsRead s kind depth_left i h xs → IsHeadRead s kind h v l → IsValueRead s depth_left v e x → (more ≡ true → IsSeparated s.text e g)
     → (more ≡ false → IsEnd s.text kind e g)
-    → IsContainerRead s kind room i g (xs ++ (l, x) ∷ []) more
+    → IsContainerRead s kind depth_left i g (xs ++ (l, x) ∷ []) more
 container_goes_on true read head value comma close = item_read read head value (comma refl)
 container_goes_on false read head value comma close = last_read read head value (close refl)
 
 -- and less of the text is left
-less_left : {s : Source} {kind : Kind} {room i h v e g : ℕ} {xs : List (Option (List ℕ) × Tree)} {l : Option (List ℕ)} {x : Tree} (more : Bool)
-    → AreItemsRead s kind room i h xs → IsHeadRead s kind h v l → IsValueRead s room v e x → (more ≡ true → IsSeparated s.text e g)
+less_left : {s : Source} {kind : Kind} {depth_left i h v e g : ℕ} {xs : List (Option (List ℕ) × Tree)} {l : Option (List ℕ)} {x : Tree} (more : Bool)
+    → AreItemsRead s kind depth_left i h xs → IsHeadRead s kind h v l → IsValueRead s depth_left v e x → (more ≡ true → IsSeparated s.text e g)
     → (more ≡ false → IsEnd s.text kind e g)
     → length s.text - g < length s.text - h
 less_left {s} {e = e} true read head value comma close =
@@ -149,9 +149,9 @@ less_left {s} {e = e} false read head value comma close =
     omega (arith, within, c.1, after_space_later s.text e, head-later head.head, value-longer (value_read value))
 
 -- the same by the cursors that an item is passed with: at its head, at its value, at its end, and where the next item is expected
-module _ {s : Source} {kind : Kind} {room i : ℕ} {h : ReaderState} {xs : List (Option (List ℕ) × Tree)} (at_head : h ≡ record { source = s; place = h.place })
-    (read : AreItemsRead s kind room i h.place xs) where
-  pub key_stops : {stop : Stop} → kind ≡ Object → IsKeyFault strict h.source.text h.place stop → IsUnreadValue s.text (room + 1) i stop
+module _ {s : Source} {kind : Kind} {depth_left i : ℕ} {h : ReaderState} {xs : List (Option (List ℕ) × Tree)} (at_head : h ≡ record { source = s; place = h.place })
+    (read : AreItemsRead s kind depth_left i h.place xs) where
+  pub key_stops : {stop : Stop} → kind ≡ Object → IsKeyFault strict h.source.text h.place stop → IsUnreadValue s.text (depth_left + 1) i stop
   key_stops k f = key_unread read k (rw (same_source at_head) at f)
 
   module _ {v : ReaderState} {l : Option (List ℕ)} (at_value : v ≡ record { source = h.source; place = v.place }) (head : IsHeadRead h.source kind h.place v.place l) where
@@ -161,14 +161,14 @@ module _ {s : Source} {kind : Kind} {room i : ℕ} {h : ReaderState} {xs : List 
     value_in : v.source ≡ s
     value_in = same_source at_value ∙ same_source at_head
 
-    pub value_stops : {stop : Stop} → IsUnreadValue v.source.text room v.place stop → IsUnreadValue s.text (room + 1) i stop
+    pub value_stops : {stop : Stop} → IsUnreadValue v.source.text depth_left v.place stop → IsUnreadValue s.text (depth_left + 1) i stop
     value_stops f = value_unread read head_in (rw value_in at f)
 
-    module _ {e : ReaderState} {x : Tree} (at_end : e ≡ record { source = v.source; place = e.place }) (value : IsValueRead v.source room v.place e.place x) where
+    module _ {e : ReaderState} {x : Tree} (at_end : e ≡ record { source = v.source; place = e.place }) (value : IsValueRead v.source depth_left v.place e.place x) where
       end_in : e.source ≡ s
       end_in = same_source at_end ∙ value_in
 
-      pub separator_stops : {stop : Stop} → IsSeparatorFault e.source.text kind e.place stop → IsUnreadValue s.text (room + 1) i stop
+      pub separator_stops : {stop : Stop} → IsSeparatorFault e.source.text kind e.place stop → IsUnreadValue s.text (depth_left + 1) i stop
       separator_stops f = separator_unread read head_in (rw value_in at value) (rw end_in at f)
 
       module _ {g : ReaderState} (at_next : g ≡ record { source = e.source; place = g.place }) (more : Bool) (comma : more ≡ true → IsSeparated e.source.text e.place g.place)
@@ -176,7 +176,7 @@ module _ {s : Source} {kind : Kind} {room i : ℕ} {h : ReaderState} {xs : List 
         pub item_kept : g ≡ record { source = s; place = g.place }
         item_kept = rw end_in at at_next
 
-        pub item_goes_on : IsContainerRead s kind room i g.place (xs ++ (l, x) ∷ []) more
+        pub item_goes_on : IsContainerRead s kind depth_left i g.place (xs ++ (l, x) ∷ []) more
         item_goes_on = container_goes_on more read head_in (rw value_in at value) (rw end_in at comma) (rw end_in at close)
 
         pub item_leaves_less : length g.source.text - g.place < length h.source.text - h.place

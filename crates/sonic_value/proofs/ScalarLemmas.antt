@@ -85,10 +85,10 @@ module _ {t : List ℕ} {i j : ℕ} (none : BeginsNoContainer t i) (value : IsVa
     | a_string c s ↦ absurd (q c)
   ]
 
--- it is read as what it means, in whatever room
-pub scalar_read : {s : Source} {i j : ℕ} {x : Tree} → BeginsNoContainer s.text i → IsKept s i j x → (room : ℕ) → IsValueRead s room i j x
-scalar_read none kept room = record { kept = kept; shallow = scalar_shallow none }
+-- it is read as what it means, however deep it may go
+pub scalar_read : {s : Source} {i j : ℕ} {x : Tree} → BeginsNoContainer s.text i → IsKept s i j x → (depth_left : ℕ) → IsValueRead s depth_left i j x
+scalar_read none kept depth_left = record { kept = kept; shallow = scalar_shallow none }
 
 -- or has its fault
-pub scalar_unread : {t : List ℕ} {i : ℕ} → BeginsNoContainer t i → (s : Stop) → IsFault strict t i s → (room : ℕ) → IsUnreadValue t room i s
-scalar_unread none s f room = at_fault (scalar_shallow none) f
+pub scalar_unread : {t : List ℕ} {i : ℕ} → BeginsNoContainer t i → (s : Stop) → IsFault strict t i s → (depth_left : ℕ) → IsUnreadValue t depth_left i s
+scalar_unread none s f depth_left = at_fault (scalar_shallow none) f

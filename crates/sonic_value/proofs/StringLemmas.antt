@@ -1,5 +1,5 @@
 -- What a string of a text is read as.
-use Rattle.std.proofs.Common.{◌≡◌, ◌∙◌, ap, refl, ℕ, ◌↔◌, List, Bool, true}
+use Rattle.std.proofs.Common.{◌≡◌, ◌∙◌, ap, refl, ℕ, ◌↔◌, List, true}
 use Rattle.std.specs.Prelude.{IsTrue, Some}
 use Rattle.sonic_parser.specs.ValueSpans.{IsStringSpan}
 use Rattle.sonic_parser.specs.declared.value_span.ValueSpan.{ValueSpan}

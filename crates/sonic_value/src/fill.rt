@@ -38,34 +38,34 @@ enum Begun {
 pub(crate) fn fill_value(
     reader: &mut Reader<'_>,
     schema: Value,
-    room: usize,
+    depth_left: usize,
 ) -> Result<Value, Fault>
-    ensures ok { IfOk result (λ made. IsFillRead reader.old.source room (tree schema) (tree made)
+    ensures ok { IfOk result (λ made. IsFillRead reader.old.source depth_left (tree schema) (tree made)
         reader.old.place reader.new.place) }
     ensures moved { reader.new ≡ record reader.old { place = reader.new.place } }
-    ensures err { IfErr result (IsStopFor (IsFillStopped reader.old.source room (tree schema)
+    ensures err { IfErr result (IsStopFor (IsFillStopped reader.old.source depth_left (tree schema)
         reader.old.place)) }
 {
     let mut opened = Vec::new(reader.alloc());
-    let mut begun = begin(reader, schema, room)?;
+    let mut begun = begin(reader, schema, depth_left)?;
     'members: loop {
         match begun {
             Begun::Filled(value) => return Ok(value),
-            Begun::Open(members) => begun = fill_member(reader, &mut opened, members, room)?,
+            Begun::Open(members) => begun = fill_member(reader, &mut opened, members, depth_left)?,
         }
     }
 }
 
 // Begins to fill a schema from the value at the cursor.
-fn begin(reader: &mut Reader<'_>, schema: Value, room: usize) -> Result<Begun, Fault>
-    ensures ok { IfOk result (λ begun. IsFillingBegun reader.old.source room (tree schema) begun
+fn begin(reader: &mut Reader<'_>, schema: Value, depth_left: usize) -> Result<Begun, Fault>
+    ensures ok { IfOk result (λ begun. IsFillingBegun reader.old.source depth_left (tree schema) begun
         reader.old.place reader.new.place) }
     ensures moved { reader.new ≡ record reader.old { place = reader.new.place } }
-    ensures err { IfErr result (IsStopFor (IsFillStopped reader.old.source room (tree schema)
+    ensures err { IfErr result (IsStopFor (IsFillStopped reader.old.source depth_left (tree schema)
         reader.old.place)) }
 {
     let Some(members) = fillable(reader, schema) else {
-        return Ok(Begun::Filled(read_value(reader, room)?));
+        return Ok(Begun::Filled(read_value(reader, depth_left)?));
     };
     if reader.enter(Kind::Object) {
         return Ok(Begun::Open(members));
@@ -94,24 +94,24 @@ fn fill_member(
     reader: &mut Reader<'_>,
     opened: &mut Vec<Level>,
     members: Vec<(String, Value)>,
-    room: usize,
+    depth_left: usize,
 ) -> Result<Begun, Fault>
     ensures ok { IfOk result (λ begun. (schema : Tree) (i : ℕ)
-        → IsFilling reader.old.source room schema i opened.old.items (Begun.Open members) reader.old.place
-        → IsFilling reader.old.source room schema i opened.new.items begun reader.new.place) }
+        → IsFilling reader.old.source depth_left schema i opened.old.items (Begun.Open members) reader.old.place
+        → IsFilling reader.old.source depth_left schema i opened.new.items begun reader.new.place) }
     ensures moved { reader.new ≡ record reader.old { place = reader.new.place } }
     ensures later { OnOk result (reader.old.place < reader.new.place) }
     ensures err { IfErr result (IsStopFor (λ s. (schema : Tree) (i : ℕ)
-        → IsFilling reader.old.source room schema i opened.old.items (Begun.Open members) reader.old.place
-        → IsFillStopped reader.old.source room schema i s)) }
+        → IsFilling reader.old.source depth_left schema i opened.old.items (Begun.Open members) reader.old.place
+        → IsFillStopped reader.old.source depth_left schema i s)) }
 {
     let Some(index) = find_next(reader, &members)? else {
         reader.skip_value()?;
-        return leave(reader, opened, members, room);
+        return leave(reader, opened, members);
     };
     let (level, schema) = Level::take(members, index);
-    match begin(reader, schema, room)? {
-        Begun::Filled(value) => leave(reader, opened, level.put(value), room),
+    match begin(reader, schema, depth_left)? {
+        Begun::Filled(value) => leave(reader, opened, level.put(value)),
         Begun::Open(inner) => {
             opened.push(level)?;
             Ok(Begun::Open(inner))
@@ -121,21 +121,20 @@ fn fill_member(
 
 // After a member of the data, ends objects as long as they close.
 //
-// The innermost object of the schema has these members. `room` is for the contract alone.
+// The innermost object of the schema has these members.
 fn leave(
     reader: &mut Reader<'_>,
     opened: &mut Vec<Level>,
     members: Vec<(String, Value)>,
-    room: usize,
 ) -> Result<Begun, Fault>
-    ensures ok { IfOk result (λ begun. (schema : Tree) (i : ℕ)
-        → IsMemberEnded reader.old.source room schema i opened.old.items (items_of members.items) reader.old.place
-        → IsFilling reader.old.source room schema i opened.new.items begun reader.new.place) }
+    ensures ok { IfOk result (λ begun. (depth_left : ℕ) (schema : Tree) (i : ℕ)
+        → IsMemberEnded reader.old.source depth_left schema i opened.old.items (items_of members.items) reader.old.place
+        → IsFilling reader.old.source depth_left schema i opened.new.items begun reader.new.place) }
     ensures moved { reader.new ≡ record reader.old { place = reader.new.place } }
     ensures later { OnOk result (reader.old.place ≤ reader.new.place) }
-    ensures err { IfErr result (IsStopFor (λ s. (schema : Tree) (i : ℕ)
-        → IsMemberEnded reader.old.source room schema i opened.old.items (items_of members.items) reader.old.place
-        → IsFillStopped reader.old.source room schema i s)) }
+    ensures err { IfErr result (IsStopFor (λ s. (depth_left : ℕ) (schema : Tree) (i : ℕ)
+        → IsMemberEnded reader.old.source depth_left schema i opened.old.items (items_of members.items) reader.old.place
+        → IsFillStopped reader.old.source depth_left schema i s)) }
 {
     let mut members = members;
     'levels: loop {

@@ -107,39 +107,42 @@ fn read_document(alloc: Global, text: &[u8], utf8: bool) -> std::result::Result<
 
 // Reads the value at the cursor, inside which so many containers may be open at once.
 #[cycle(read)]
-pub(crate) fn read_value(reader: &mut Reader<'_>, room: usize) -> std::result::Result<Value, Fault>
+pub(crate) fn read_value(
+    reader: &mut Reader<'_>,
+    depth_left: usize,
+) -> std::result::Result<Value, Fault>
     ensures ok { IfOk result (λ made.
-        IsValueRead reader.old.source room reader.old.place reader.new.place (tree made)) }
+        IsValueRead reader.old.source depth_left reader.old.place reader.new.place (tree made)) }
     ensures moved { reader.new ≡ record reader.old { place = reader.new.place } }
-    ensures err { IfErr result (IsStopFor (IsUnreadValue reader.old.source.text room reader.old.place)) }
+    ensures err { IfErr result (IsStopFor (IsUnreadValue reader.old.source.text depth_left reader.old.place)) }
 {
     let Some(kind) = reader.container() else {
         return reader.scalar();
     };
-    if room == 0 {
+    if depth_left == 0 {
         let place = reader.place();
         let code = ErrorCode::RecursionLimitExceeded;
         return Err(Fault::At(Stop { place, code }));
     }
     match kind {
-        Kind::Array => read_array(reader, room - 1),
-        Kind::Object => read_object(reader, room - 1),
+        Kind::Array => read_array(reader, depth_left - 1),
+        Kind::Object => read_object(reader, depth_left - 1),
     }
 }
 
 // Reads the array at the cursor, inside whose elements so many containers may be open at once.
 #[cycle(read)]
-fn read_array(reader: &mut Reader<'_>, room: usize) -> std::result::Result<Value, Fault>
+fn read_array(reader: &mut Reader<'_>, depth_left: usize) -> std::result::Result<Value, Fault>
     requires { byte reader.old.source.text reader.old.place ≡ opening Kind.Array }
     ensures ok { IfOk result (λ made.
-        IsValueRead reader.old.source (room + 1) reader.old.place reader.new.place (tree made)) }
+        IsValueRead reader.old.source (depth_left + 1) reader.old.place reader.new.place (tree made)) }
     ensures moved { reader.new ≡ record reader.old { place = reader.new.place } }
-    ensures err { IfErr result (IsStopFor (IsUnreadValue reader.old.source.text (room + 1) reader.old.place)) }
+    ensures err { IfErr result (IsStopFor (IsUnreadValue reader.old.source.text (depth_left + 1) reader.old.place)) }
 {
     let mut elements = Vec::new(reader.alloc());
     let mut more = reader.enter(Kind::Array);
     while more {
-        elements.push(read_value(reader, room)?)?;
+        elements.push(read_value(reader, depth_left)?)?;
         more = reader.next_item(Kind::Array)?;
     }
     Ok(Value::Array(elements))
@@ -147,18 +150,18 @@ fn read_array(reader: &mut Reader<'_>, room: usize) -> std::result::Result<Value
 
 // Reads the object at the cursor, in the same way.
 #[cycle(read)]
-fn read_object(reader: &mut Reader<'_>, room: usize) -> std::result::Result<Value, Fault>
+fn read_object(reader: &mut Reader<'_>, depth_left: usize) -> std::result::Result<Value, Fault>
     requires { byte reader.old.source.text reader.old.place ≡ opening Kind.Object }
     ensures ok { IfOk result (λ made.
-        IsValueRead reader.old.source (room + 1) reader.old.place reader.new.place (tree made)) }
+        IsValueRead reader.old.source (depth_left + 1) reader.old.place reader.new.place (tree made)) }
     ensures moved { reader.new ≡ record reader.old { place = reader.new.place } }
-    ensures err { IfErr result (IsStopFor (IsUnreadValue reader.old.source.text (room + 1) reader.old.place)) }
+    ensures err { IfErr result (IsStopFor (IsUnreadValue reader.old.source.text (depth_left + 1) reader.old.place)) }
 {
     let mut members = Vec::new(reader.alloc());
     let mut more = reader.enter(Kind::Object);
     while more {
         let key = reader.key()?;
-        members.push((key, read_value(reader, room)?))?;
+        members.push((key, read_value(reader, depth_left)?))?;
         more = reader.next_item(Kind::Object)?;
     }
     Ok(Value::Object(members))

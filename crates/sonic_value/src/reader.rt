@@ -163,11 +163,11 @@ impl<'de> Reader<'de> {
     // Reads the value at the cursor, which is no container.
     pub(crate) fn scalar(&mut self) -> Result<Value, Fault>
         requires { (kind : Kind) → byte self.old.source.text self.old.place ≢ opening kind }
-        ensures ok { IfOk result (λ value. (room : ℕ)
-            → IsValueRead self.old.source room self.old.place self.new.place (tree value)) }
+        ensures ok { IfOk result (λ value. (depth_left : ℕ)
+            → IsValueRead self.old.source depth_left self.old.place self.new.place (tree value)) }
         ensures moved { self.new ≡ record self.old { place = self.new.place } }
-        ensures err { IfErr result (IsStopFor (λ s. (room : ℕ)
-            → IsUnreadValue self.old.source.text room self.old.place s)) }
+        ensures err { IfErr result (IsStopFor (λ s. (depth_left : ℕ)
+            → IsUnreadValue self.old.source.text depth_left self.old.place s)) }
     {
         let value = self.parser.skip_value(self.alloc)?;
         Ok(self.scalar_value(value)?)

@@ -14,7 +14,8 @@ use Rattle.sonic_find.proofs.WalkLemmas.List.{some_there, first_of}
 use Rattle.sonic_find.proofs.WalkLemmas.Path.{contained}
 use Rattle.sonic_find.specs.Answers.{AllLeadBy, no_more, one_more, IsNearest, NoneFails, SomeLacks, IsReach, to_the_root, to_the_furthest, Span, span_of, Answer, ComeTo, no_path, failing, cutting, lacking, breaking, finding, IsAnswerBy}
 use Rattle.sonic_find.specs.Found.{FlagEscapes, span_at, spans_of}
-use Rattle.sonic_find.specs.Internal.Walk.{Findings, root_point, AllSettled, IsKnown, was_found, was_lacked, AreFindings, SomeLack, IsPathStop, fails_so, cut_so, NoneNearer, path_stops, value_stops, IsStop, IsFurthest, AllReached, IsError}
+use Rattle.sonic_find.specs.Internal.Walk.{Findings, root_point, AllSettled, IsKnown, was_found, was_lacked, AreFindings, SomeLack, NoneNearer, path_stops, value_stops, IsStop, IsFurthest, AllReached, IsError}
+use Rattle.sonic_find.specs.DeadEnds.{IsPathStop, fails_so, cut_so}
 use Rattle.sonic_find.specs.Paths.{Outcome, found, lacks, fails, cut, kind_of, EvaluatesBy, LeadsUnder}
 use Rattle.sonic_find.specs.Paths.EvaluatesBy.{found_here, goes_on, leads_nowhere}
 use Rattle.sonic_parser.specs.declared.value_span.ValueSpan.{ValueSpan}
@@ -57,14 +58,14 @@ pub both_same : {X : Type 0} {x y : X} {xs ys : List X} → x ≡ y → xs ≡ y
 both_same e f = cc
 
 -- one by one
-pub gather : (rule : KeyRule) (t : List ℕ) (noted : Bool) (spans : List (Option Span)) (paths : List Path) → length spans ≡ length paths
+pub mark_value : (rule : KeyRule) (t : List ℕ) (noted : Bool) (spans : List (Option Span)) (paths : List Path) → length spans ≡ length paths
     → ((k : ℕ) (path : Path) → slice_get paths k ≡ Some path → Ends rule t noted (slice_get spans k) path) → IsGathered rule t noted spans paths
-gather rule t noted [] [] long all = record { outcomes = []; lead = no_more; entries = refl; ends = λ o c. absurd (none_in_empty o c) }
-gather rule t noted [] (p ∷ paths) long all = absurd (omega arith)
-gather rule t noted (x ∷ spans) [] long all = absurd (omega arith)
-gather rule t noted (x ∷ spans) (p ∷ paths) long all =
+mark_value rule t noted [] [] long all = record { outcomes = []; lead = no_more; entries = refl; ends = λ o c. absurd (none_in_empty o c) }
+mark_value rule t noted [] (p ∷ paths) long all = absurd (omega arith)
+mark_value rule t noted (x ∷ spans) [] long all = absurd (omega arith)
+mark_value rule t noted (x ∷ spans) (p ∷ paths) long all =
     let e = all 0 p refl in
-    let rest = gather rule t noted spans paths (omega arith) (λ k path h. all (suc k) path h) in
+    let rest = mark_value rule t noted spans paths (omega arith) (λ k path h. all (suc k) path h) in
     let kept : x ≡ span_of e.outcome = same_Some x (span_of e.outcome) e.is in
     record {
       outcomes = e.outcome ∷ rest.outcomes;
@@ -100,7 +101,7 @@ settled_ends {paths = paths} {notes} k path reported is (was_lacked {q = q} l e)
 -- where the walk ends, all paths are gathered
 gathered : {t : List ℕ} {paths : List Path} {f : Findings} {rule : KeyRule} → AreFindings rule t paths f → AllSettled (root_point rule t paths) f → IsGathered rule t f.lacking f.spans paths
 gathered {t} {paths} {f} {rule = rule} are settled =
-    gather rule t f.lacking f.spans paths are.long (λ k path is. settled_ends k path are is (settled k path is))
+    mark_value rule t f.lacking f.spans paths are.long (λ k path is. settled_ends k path are is (settled k path is))
 
 -- a path's outcome is among all
 lead_at : {t : List ℕ} {rule : KeyRule} {paths : List Path} {os : List Outcome} {o : Outcome} (k : ℕ) (path : Path) → AllLeadBy rule t paths os → slice_get paths k ≡ Some path

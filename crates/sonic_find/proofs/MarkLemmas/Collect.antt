@@ -1,26 +1,27 @@
 -- What the outcomes of paths are that the marks of their prefixes come to.
-use Rattle.std.proofs.Common.{◌≡◌, ◌≢◌, ◌∙◌, ◌⊎◌, inl, inr, sym, ap, refl, Bool, true, false, ℕ, ◌+◌, ◌-◌, ◌<◌, ◌≤◌, List, [], ◌∷◌, ◌++◌, append_assoc, append-nil, arith}
+use Rattle.std.proofs.Common.{◌≡◌, ◌≢◌, ◌∙◌, ◌⊎◌, inl, inr, sym, ap, refl, Bool, true, false, ℕ, ◌+◌, ◌-◌, ◌<◌, ◌≤◌, List, [], ◌∷◌, ◌++◌, append_assoc, append-nil, length, arith}
 use Rattle.std.proofs.lemmas.Bool.{cases_order}
 use Rattle.std.specs.Prelude.{Option, Some, None, not, slice_get, IfSome}
 use Rattle.sonic_error.specs.declared.code.ErrorCode.{ErrorCode}
 use Rattle.sonic_error.specs.declared.code.ErrorCode.TheVariants.{GetIndexOutOfArray, DuplicateKey, Message}
 use Rattle.sonic_error.specs.declared.json_type.Note.TheVariants.{Mismatch}
-use Rattle.sonic_find.proofs.FillLemmas.{paths_unmixed, stopped_fails}
 use Rattle.sonic_find.proofs.MarkLemmas.Kept.{mark_one}
-use Rattle.sonic_find.proofs.PathLemmas.Outcome.{by_one, fails_agree, nowhere_past}
+use Rattle.sonic_find.proofs.PathLemmas.Outcome.{MixNowhere, by_one, cut_is_fault, fails_agree, nowhere_past}
 use Rattle.sonic_find.proofs.WalkLemmas.List.{first_of}
-use Rattle.sonic_find.proofs.WalkLemmas.Path.{contained, child_at, path_of_child, path_down, settled_no_fail, still_settled}
+use Rattle.sonic_find.proofs.WalkLemmas.Path.{contained, child_at, path_of_child, path_down, settled_no_fail, still_known}
 use Rattle.sonic_find.proofs.WalkLemmas.Start.{no_entry_by_kind, no_entry_in_empty}
 use Rattle.sonic_find.specs.Answers.{Span}
-use Rattle.sonic_find.specs.Internal.Collected.{IsFailBelow, IsCollected, is_settled, is_failed, AllCollected, NodeCollected}
-use Rattle.sonic_find.specs.Internal.Fill.{IsNoted}
+use Rattle.sonic_find.specs.Internal.Collected.{IsNoted, IsFailBelow, IsCollected, is_settled, is_failed, AllCollected, NodeCollected}
 use Rattle.sonic_find.specs.Internal.Follow.{IsDeadNode, LacksNode}
-use Rattle.sonic_find.specs.Internal.Marks.{Marking, IsMarkOf, AreMarks, IsWholeMark, HasItems, ChildSays, says_none, says_twice, says_one, NodeSays, says_no_items, says_items, SaysAll, IsLive}
-use Rattle.sonic_find.specs.Internal.Steps.{HasWhole}
-use Rattle.sonic_find.specs.Internal.Walk.{Findings, Point, child_point, ComesTo, IsPath, AreFindings, IsLater, IsKnown, was_found, was_lacked, AllSettled, fails_so, cut_so, IsCause, path_stops, value_stops, IsStop, AreSetTo, NoneNearer}
-use Rattle.sonic_find.specs.Paths.{found, lacks, fails, kind_of, empty_code, wanted_of, LeadsOn, LeadsBy, EvaluatesBy, past_end}
+use Rattle.sonic_find.specs.Internal.Marks.{MarkState, IsMarkOf, AreMarks, IsWholeMark, HasItems, ChildSays, says_none, says_twice, says_one, NodeSays, says_no_items, says_items, SaysAll, IsLive}
+use Rattle.sonic_find.specs.Cursors.{HasWhole}
+use Rattle.sonic_find.specs.Internal.Walk.{Findings, Keeps, Point, child_point, ComesTo, IsPath, AreFindings, IsLater, IsKnown, was_found, was_lacked, AllSettled, IsCause, path_stops, value_stops, IsStop, AreSetTo, NoneNearer}
+use Rattle.sonic_find.specs.DeadEnds.{IsPathStop, fails_so, cut_so}
+use Rattle.sonic_find.specs.Paths.{found, lacks, fails, kind_of, empty_code, wanted_of, LeadsOn, LeadsBy, LeadsUnder, EvaluatesBy, past_end}
 use Rattle.sonic_find.specs.Paths.EvaluatesBy.{found_here, goes_on, repeats, leads_nowhere, cut_before}
 use Rattle.sonic_find.specs.declared.marks.Mark.{Mark}
+use Rattle.std.specs.List.{Contains}
+use Rattle.sonic_pointer.specs.Nodes.{is_key}
 use Rattle.sonic_pointer.specs.Paths.{IsChildren, IsOrders, IsUnmixed}
 use Rattle.sonic_pointer.specs.declared.rule.KeyRule.{KeyRule}
 use Rattle.sonic_pointer.specs.declared.rule.KeyRule.TheVariants.{First, Last, Refuse}
@@ -33,6 +34,28 @@ use Rattle.sonic_text.specs.Values.{type_at, opening, IsValue, empty}
 use Rattle.sonic_text.specs.declared.kind.Kind.TheVariants.{Object, Array}
 use Rattle.sonic_text.specs.declared.stop.Stop.{Stop}
 
+-- nodes that are both keys or both indexes ask for one kind
+same_kind : (a b : Node) → is_key a ≡ is_key b → kind_of a ≡ kind_of b
+same_kind (key k) (key l) e = refl
+same_kind (index n) (index m) e = refl
+same_kind (key k) (index m) e = absurd cc
+same_kind (index n) (key l) e = absurd cc
+
+-- two paths of a tree mix nowhere
+pub paths_unmixed : {paths : List Path} {p q : Path} → IsUnmixed paths → Contains paths p → Contains paths q → MixNowhere p q
+paths_unmixed unmixed x y = λ prefix r s a b e f.
+    same_kind a b (unmixed prefix a b (record { rest = r; path = rw e at x }) (record { rest = s; path = rw f at y }))
+
+-- so two that fail at one place fail at one stop
+pub unmixed_agree : {rule : KeyRule} {t : List ℕ} {paths : List Path} (p q : Path) {s r : Stop} → IsUnmixed paths → Contains paths p → Contains paths q
+    → LeadsUnder rule t p (fails s) → LeadsUnder rule t q (fails r) → s.place ≡ r.place → s ≡ r
+unmixed_agree p q unmixed x y = fails_agree p q (paths_unmixed unmixed x y)
+
+-- in a whole value a path that is stopped fails
+pub stopped_fails : {t : List ℕ} {i : ℕ} {path : Path} {s : Stop} {rule : KeyRule} → HasWhole t i → IsPathStop rule t i path s → EvaluatesBy rule t i path (fails s)
+stopped_fails x (fails_so e) = e
+stopped_fails {path = path} x (cut_so e) = absurd (value_never_both x.1 (cut_is_fault path e))
+
 -- a test that fails, and one that holds
 pub not_true : (b : Bool) → not b ≡ true → b ≡ false
 not_true true e = absurd cc
@@ -43,10 +66,10 @@ not_false true e = refl
 not_false false e = absurd cc
 
 -- what is known below a live mark
-abbrev pub LeadsToMark : Marking → ℕ → Node → Mark → (Mark → Type 0) → Type 0
+abbrev pub LeadsToMark : MarkState → ℕ → Node → Mark → (Mark → Type 0) → Type 0
 LeadsToMark g i node c Below = LeadsBy g.rule g.text i node c.value.start × IsWholeMark g.text c × Below c
 
-live_child_says : {g : Marking} {i place : ℕ} {prefix : Path} {node : Node} {c : Mark} {B : Mark → Type 0} → AreMarks g place → IsMarkOf g prefix c
+live_child_says : {g : MarkState} {i place : ℕ} {prefix : Path} {node : Node} {c : Mark} {B : Mark → Type 0} → AreMarks g place → IsMarkOf g prefix c
     → i < c.value.start → c.again ≡ None → ChildSays g i prefix node B → LeadsToMark g i node c B
 live_child_says {c = c} are is later first (says_none old none) = absurd (let before = old c is in omega (arith, before, later))
 live_child_says {c = c} are is later first (says_twice {c = d} {q} there inside again refuses same y) =
@@ -58,13 +81,13 @@ live_child_says {g} {i} {node = node} {c} {B} are is later first (says_one {c = 
     (rw same at leads, rw same at whole, rw same at below)
 
 -- a live mark is of the value to which the node leads on
-pub live_says : {g : Marking} {m : Mark} {place : ℕ} {prefix : Path} {node : Node} {c : Mark} {B : Mark → Type 0} → AreMarks g place → IsLive g m prefix c
+pub live_says : {g : MarkState} {m : Mark} {place : ℕ} {prefix : Path} {node : Node} {c : Mark} {B : Mark → Type 0} → AreMarks g place → IsLive g m prefix c
     → NodeSays g m prefix node B → LeadsToMark g m.value.start node c B
 live_says are live (says_no_items none x) = (let clash : true ≡ false = sym live.items ∙ none in absurd cc)
 live_says are live (says_items has x child) = live_child_says are live.is live.later live.first child
 
 -- a value without items has no entry for a node
-pub empty_dead : {g : Marking} {m : Mark} {node : Node} {code : ErrorCode} {place : ℕ} {prefix : Path} {B : Mark → Type 0} → NodeSays g m prefix node B → IsWholeMark g.text m
+pub empty_dead : {g : MarkState} {m : Mark} {node : Node} {code : ErrorCode} {place : ℕ} {prefix : Path} {B : Mark → Type 0} → NodeSays g m prefix node B → IsWholeMark g.text m
     → m.has_items ≡ false → (byte g.text m.value.start ≡ opening (kind_of node) → code ≡ empty_code (kind_of node))
     → (byte g.text m.value.start ≢ opening (kind_of node) → code ≡ Message (Mismatch (type_at g.text m.value.start) (wanted_of (kind_of node)))) → place ≡ m.value.end - 1
     → IsDeadNode g.rule g.text m.value.start node (record { place = place; code = code })
@@ -78,7 +101,7 @@ empty_dead {g} {m} {node} {code} {place} (says_no_items is x) whole none inside 
 ]
 
 -- a node that none of the items has comes to the container's end
-past_child : (g : Marking) {m : Mark} {node : Node} → IsWholeMark g.text m → HasItems g.text m.value.start (kind_of node)
+past_child : (g : MarkState) {m : Mark} {node : Node} → IsWholeMark g.text m → HasItems g.text m.value.start (kind_of node)
     → ((v : ℕ) → ¬ LeadsOn g.text m.value.start node v) → (rest : Path)
     → EvaluatesBy g.rule g.text m.value.start (node ∷ rest) (past_end (kind_of node) (m.value.end - 1))
 past_child g {m} {node} whole x none rest =
@@ -86,7 +109,7 @@ past_child g {m} {node} whole x none rest =
     leads_nowhere whole.value none (rw past refl)
 
 -- so it is where its mark is of a value before
-pub old_past : {g : Marking} {m c : Mark} {node : Node} {prefix : Path} {place : ℕ} {B : Mark → Type 0} → AreMarks g place → IsWholeMark g.text m
+pub old_past : {g : MarkState} {m c : Mark} {node : Node} {prefix : Path} {place : ℕ} {B : Mark → Type 0} → AreMarks g place → IsWholeMark g.text m
     → IsMarkOf g prefix c → c.value.start ≤ m.value.start → m.has_items ≡ true → NodeSays g m prefix node B → (rest : Path)
     → EvaluatesBy g.rule g.text m.value.start (node ∷ rest) (past_end (kind_of node) (m.value.end - 1))
 old_past are whole is before has (says_no_items none x) rest = (let clash : true ≡ false = sym has ∙ none in absurd cc)
@@ -97,19 +120,19 @@ old_past {m = m} are whole is before has (says_items h x (says_one there inside 
     absurd (let same = ap (λ (y : Mark). y.value.start) (mark_one are there is) in omega (arith, same, inside, before))
 
 -- which lacks it where it is a key
-pub old_lacks : {g : Marking} {m c : Mark} {node : Node} {prefix : Path} {place : ℕ} {B : Mark → Type 0} → AreMarks g place → IsWholeMark g.text m
+pub old_lacks : {g : MarkState} {m c : Mark} {node : Node} {prefix : Path} {place : ℕ} {B : Mark → Type 0} → AreMarks g place → IsWholeMark g.text m
     → IsMarkOf g prefix c → c.value.start ≤ m.value.start → m.has_items ≡ true → kind_of node ≡ Object → NodeSays g m prefix node B
     → LacksNode g.rule g.text m.value.start node (m.value.end - 1)
 old_lacks are whole is before has object says = λ rest. rw object at (old_past are whole is before has says rest)
 
 -- and fails where it is an index
-pub old_dead : {g : Marking} {m c : Mark} {node : Node} {prefix : Path} {place : ℕ} {s : Stop} {B : Mark → Type 0} → AreMarks g place → IsWholeMark g.text m
+pub old_dead : {g : MarkState} {m c : Mark} {node : Node} {prefix : Path} {place : ℕ} {s : Stop} {B : Mark → Type 0} → AreMarks g place → IsWholeMark g.text m
     → IsMarkOf g prefix c → c.value.start ≤ m.value.start → m.has_items ≡ true → kind_of node ≡ Array
     → s ≡ record { place = m.value.end - 1; code = GetIndexOutOfArray } → NodeSays g m prefix node B → IsDeadNode g.rule g.text m.value.start node s
 old_dead are whole is before has array e says = λ rest. rw e (fails_so (rw array at (old_past are whole is before has says rest)))
 
 -- a key that came again is refused
-pub twice_dead : {g : Marking} {m c : Mark} {node : Node} {prefix : Path} {place q : ℕ} {B : Mark → Type 0} → AreMarks g place → IsMarkOf g prefix c
+pub twice_dead : {g : MarkState} {m c : Mark} {node : Node} {prefix : Path} {place q : ℕ} {B : Mark → Type 0} → AreMarks g place → IsMarkOf g prefix c
     → m.value.start < c.value.start → m.has_items ≡ true → c.again ≡ Some q → NodeSays g m prefix node B
     → IsDeadNode g.rule g.text m.value.start node (record { place = q; code = DuplicateKey })
 twice_dead are is later has again (says_no_items none x) = (let clash : true ≡ false = sym has ∙ none in absurd cc)
@@ -124,23 +147,23 @@ twice_dead {g} {m} {c} {node} {q = q} are is later has again (says_items h x (sa
     rw (refuses, same, ← one) (fails_so (repeats y))
 
 -- what is said of all paths is said of each child
-pub says_child : {g : Marking} {prefix : Path} {children : List Node} {m : Mark} (c : ℕ) (node : Node) → IsChildren g.paths prefix children
+pub says_child : {g : MarkState} {prefix : Path} {children : List Node} {m : Mark} (c : ℕ) (node : Node) → IsChildren g.paths prefix children
     → slice_get children c ≡ Some node → SaysAll g prefix m → NodeSays g m (prefix ++ node ∷ []) node (λ d. Unit)
 says_child {g} {prefix} {m = m} c node all is says =
     let path = path_of_child (record { rule = g.rule; text = g.text; paths = g.paths; prefix = prefix; place = m.value.start }) c node all is in
     forget (says path.number (node ∷ path.rest) path.is)
   where
-    forget_child : {g : Marking} {i : ℕ} {prefix : Path} {node : Node} {B : Mark → Type 0} → ChildSays g i prefix node B → ChildSays g i prefix node (λ d. Unit)
+    forget_child : {g : MarkState} {i : ℕ} {prefix : Path} {node : Node} {B : Mark → Type 0} → ChildSays g i prefix node B → ChildSays g i prefix node (λ d. Unit)
     forget_child (says_none old none) = says_none old none
     forget_child (says_twice is later again refuses same y) = says_twice is later again refuses same y
     forget_child (says_one is later first leads whole below) = says_one is later first leads whole tt
 
-    forget : {g : Marking} {m : Mark} {prefix : Path} {node : Node} {B : Mark → Type 0} → NodeSays g m prefix node B → NodeSays g m prefix node (λ d. Unit)
+    forget : {g : MarkState} {m : Mark} {prefix : Path} {node : Node} {B : Mark → Type 0} → NodeSays g m prefix node B → NodeSays g m prefix node (λ d. Unit)
     forget (says_no_items none x) = says_no_items none x
     forget (says_items has x child) = says_items has x (forget_child child)
 
 -- below a live mark all is said of the paths of the child
-pub live_all : {g : Marking} {prefix : Path} {m c : Mark} {place : ℕ} (node : Node) → AreMarks g place → IsLive g m (prefix ++ node ∷ []) c → SaysAll g prefix m
+pub live_all : {g : MarkState} {prefix : Path} {m c : Mark} {place : ℕ} (node : Node) → AreMarks g place → IsLive g m (prefix ++ node ∷ []) c → SaysAll g prefix m
     → SaysAll g (prefix ++ node ∷ []) c
 live_all node are live says = λ k rest h. (live_says are live (says k (node ∷ rest) (rw append_assoc at h))).2
 
@@ -192,13 +215,13 @@ lacks_later p {q = q} c node comes all is lack are =
     }
 
 -- what is collected stays so
-pub still_collected : {t : List ℕ} {paths : List Path} {f g : Findings} {k : ℕ} {path : Path} {rule : KeyRule} {was now : Option Stop} → IsLater rule t paths f g
+pub still_collected : {t : List ℕ} {f g : Findings} {k : ℕ} {path : Path} {rule : KeyRule} {was now : Option Stop} → Keeps f g
     → ((q : ℕ) → IsNoted was q → IsNoted now q) → IsCollected rule t f was k path → IsCollected rule t g now k path
-still_collected later nearer (is_settled x) = is_settled (still_settled later x)
-still_collected later nearer (is_failed {s} l n) = is_failed l (nearer s.place n)
+still_collected keeps nearer (is_settled x) = is_settled (still_known keeps x)
+still_collected keeps nearer (is_failed {s} l n) = is_failed l (nearer s.place n)
 
 -- what is known of the first children is known of one more
-pub one_more_collected : (p : Point) (children : List Node) {f g : Findings} {was stop now : Option Stop} {i : ℕ} → IsLater p.rule p.text p.paths f g
+pub one_more_collected : (p : Point) (children : List Node) {f g : Findings} {was stop now : Option Stop} {i : ℕ} → Keeps f g
     → ((q : ℕ) → IsNoted was q → IsNoted now q) → ((q : ℕ) → IsNoted stop q → IsNoted now q)
     → ((c : ℕ) (node : Node) → c < i → slice_get children c ≡ Some node → NodeCollected p f was node)
     → ((node : Node) → slice_get children i ≡ Some node → NodeCollected p g stop node)
@@ -223,7 +246,7 @@ nearer_below p x y (inr e) = rw e y
 -- where the value is kept for the paths that end at the prefix, all with it are collected
 pub kept_collected : (p : Point) {j : ℕ} {orders : List ℕ} {f : Findings} {more : List (Option Span)} {nearest : Option Stop} {children : List Node} → ComesTo p
     → IsValue strict p.text p.place j → IsOrders p.paths p.prefix orders → AreSetTo orders f.spans more (p.place, j)
-    → IsLater p.rule p.text p.paths f (record f { spans = more }) → IsChildren p.paths p.prefix children
+    → Keeps f (record f { spans = more }) → IsChildren p.paths p.prefix children
     → ((c : ℕ) (node : Node) → slice_get children c ≡ Some node → NodeCollected p f nearest node) → AllCollected p (record f { spans = more }) nearest
 kept_collected p comes value o fill later all below k [] h =
     is_settled (filled_here p comes value o fill k h)
@@ -237,6 +260,17 @@ kept_collected p comes value o fill later all below k [] h =
 kept_collected p comes value o fill later all below k (node ∷ rest) h =
     let c = child_at p k node rest all h in
     still_collected later (λ q n. n) (below c.0 node c.1 k rest h)
+
+-- where none ends at it, they are without
+pub early_collected : (p : Point) {orders : List ℕ} {f : Findings} {nearest : Option Stop} {children : List Node} → IsOrders p.paths p.prefix orders → length orders ≡ 0
+    → IsChildren p.paths p.prefix children → ((c : ℕ) (node : Node) → slice_get children c ≡ Some node → NodeCollected p f nearest node) → AllCollected p f nearest
+early_collected p o none all below k [] h =
+    let is : slice_get p.paths k ≡ Some p.prefix = rw append-nil at h in
+    let there = (o.exact k).1 is in
+    absurd (omega (arith, none, there.1))
+early_collected p o none all below k (node ∷ rest) h =
+    let c = child_at p k node rest all h in
+    below c.0 node c.1 k rest h
 
 -- where no stop is noted, all are settled
 pub none_settled : (p : Point) {f : Findings} → AllCollected p f None → AllSettled p f

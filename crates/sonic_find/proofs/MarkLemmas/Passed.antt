@@ -8,7 +8,7 @@ use Rattle.sonic_find.proofs.MarkLemmas.Seen.{nothing_seen, seen_other, seen_las
 use Rattle.sonic_find.proofs.PathLemmas.Lead.{node_or_other, named_kind, past_byte}
 use Rattle.sonic_find.proofs.WalkLemmas.Path.{contained, child_at}
 use Rattle.sonic_parser.specs.ValueSpans.{FlagsEscape}
-use Rattle.sonic_find.specs.Internal.Marks.{Marking, IsMarkOf, AreMarks, KeptBeside, HasNoItems, ChildSays, says_none, says_twice, says_one, says_no_items, says_items, Says, SaysAll, IsPassedBy, IsMarked, Sight, none_seen, one_seen, two_seen, IsSeen, seen_none, seen_only, seen_twice, SightSays, sight_none, sight_one, sight_two, IsFollowing, AllFollowing, IsMarking, IsMarkedItem, IsClosed, IsWholeLevel}
+use Rattle.sonic_find.specs.Internal.Marks.{MarkState, IsMarkOf, AreMarks, KeptBeside, HasNoItems, ChildSays, says_none, says_twice, says_one, says_no_items, says_items, Says, SaysAll, IsPassedBy, IsMarked, Sight, none_seen, one_seen, two_seen, IsSeen, seen_none, seen_only, seen_twice, SightSays, sight_none, sight_one, sight_two, IsFollowing, AllFollowing, IsMarking, IsMarkedItem, IsClosed, IsWholeLevel}
 use Rattle.sonic_find.specs.Internal.Walk.{Container}
 use Rattle.sonic_find.specs.Paths.{kind_of, IsNamed}
 use Rattle.sonic_parser.specs.declared.value_span.ValueSpan.{ValueSpan}
@@ -27,7 +27,7 @@ use Rattle.sonic_text.specs.Values.{opening, closing, IsValue, ItemsFit, first_i
 use Rattle.sonic_text.specs.declared.kind.Kind.{Kind}
 
 -- before the first item nothing is known of a child, whose mark is of a value before
-pub first_marking : {g : Marking} {a : Container} {h : ℕ} → AreMarks g a.point.place → ItemsFit strict g.text a.kind a.point.place 0 h → IsMarking g a 0 h
+pub first_marking : {g : MarkState} {a : Container} {h : ℕ} → AreMarks g a.point.place → ItemsFit strict g.text a.kind a.point.place 0 h → IsMarking g a 0 h
 first_marking {g} {a} are fit =
     let later = items-later fit in
     record {
@@ -41,7 +41,7 @@ first_marking {g} {a} are fit =
     }
 
 -- what is known of a child after an item of another name
-following_other : {g : Marking} {a : Container} {n h v : ℕ} {node b : Node} (marks : List Mark) → ItemsFit strict g.text a.kind a.point.place n h
+following_other : {g : MarkState} {a : Container} {n h v : ℕ} {node b : Node} (marks : List Mark) → ItemsFit strict g.text a.kind a.point.place n h
     → IsNamed g.text a.kind n h v node → node ≢ b → kind_of b ≡ a.kind → KeepsFrom g marks (a.point.prefix ++ b ∷ []) → IsFollowing g a n b
     → IsFollowing (with_marks g marks) a (n + 1) b
 following_other {g} {a} {n} {h} {v} {node} {b} marks fit item other same kept x =
@@ -50,14 +50,14 @@ following_other {g} {a} {n} {h} {v} {node} {b} marks fit item other same kept x 
     record { sight = x.sight; seen = seen_other fits named other x.seen; says = sight_kept g marks (a.point.prefix ++ b ∷ []) kept x.says }
 
 -- after an item that is no child all children have other names
-pub none_following : {g : Marking} {a : Container} {n h v : ℕ} {node : Node} → IsWholeLevel a → ItemsFit strict g.text a.kind a.point.place n h
+pub none_following : {g : MarkState} {a : Container} {n h v : ℕ} {node : Node} → IsWholeLevel a → ItemsFit strict g.text a.kind a.point.place n h
     → IsNamed g.text a.kind n h v node → ¬ HasNextNode a.point.paths a.point.prefix node → AllFollowing g a n → AllFollowing g a (n + 1)
 none_following {g} {a} {node = node} level fit item none all = λ c b is.
     let other : node ≢ b = (λ e. none (rw e ((level.children.exact b).0 (contained a.children c is)))) in
     following_other g.marks fit item other (level.kind c b is) (λ more n there. refl) (all c b is)
 
 -- after one that is, that one is known, and the marks of the others are kept
-pub child_following : {g : Marking} {a : Container} {n h v : ℕ} {node : Node} (marks : List Mark) → IsWholeLevel a → ItemsFit strict g.text a.kind a.point.place n h
+pub child_following : {g : MarkState} {a : Container} {n h v : ℕ} {node : Node} (marks : List Mark) → IsWholeLevel a → ItemsFit strict g.text a.kind a.point.place n h
     → IsNamed g.text a.kind n h v node → KeptBeside g marks (a.point.prefix ++ node ∷ []) → IsFollowing (with_marks g marks) a (n + 1) node → AllFollowing g a n
     → AllFollowing (with_marks g marks) a (n + 1)
 child_following {g} {a} {n} {node = node} marks level fit item beside this all = λ c b is. elim (node_or_other node b) [
@@ -70,7 +70,7 @@ item_inside : {t : List ℕ} {kind : Kind} {i n h v : ℕ} {node : Node} → Ite
 item_inside fit item = omega (arith, items-later fit, head-later item.head)
 
 -- by the rule the item that is gathered is the one that counts so far
-counts_seen : {g : Marking} {a : Container} {n h v : ℕ} {node : Node} {m : Mark} {place : ℕ} (r : KeyRule) → g.rule ≡ r → r ≢ First
+counts_seen : {g : MarkState} {a : Container} {n h v : ℕ} {node : Node} {m : Mark} {place : ℕ} (r : KeyRule) → g.rule ≡ r → r ≢ First
     → (r ≢ Refuse) ⊎ (m.value.start ≤ a.point.place) → AreMarks g place → IsMarkOf g (a.point.prefix ++ node ∷ []) m
     → ItemsFit strict g.text (kind_of node) a.point.place n h → IsNamed g.text (kind_of node) n h v node → IsFollowing g a n node
     → IsSeen g.text a.point.place (n + 1) node r (one_seen v)
@@ -81,7 +81,7 @@ counts_seen {g} {a} {n} {node = node} {m} Refuse e some (inr before) are is fit 
     let seen : IsSeen g.text a.point.place n node Refuse x.sight = rw e at x.seen in
     only_where_none are is before fit item seen x.says
   where
-    only_where_none : {g : Marking} {prefix : Path} {i n h v place : ℕ} {node : Node} {m : Mark} {s : Sight} → AreMarks g place → IsMarkOf g prefix m
+    only_where_none : {g : MarkState} {prefix : Path} {i n h v place : ℕ} {node : Node} {m : Mark} {s : Sight} → AreMarks g place → IsMarkOf g prefix m
         → m.value.start ≤ i → ItemsFit strict g.text (kind_of node) i n h → IsNamed g.text (kind_of node) n h v node → IsSeen g.text i n node Refuse s
         → SightSays g i prefix s → IsSeen g.text i (n + 1) node Refuse (one_seen v)
     only_where_none are is before fit item (seen_none none) says = seen_only_next fit item none
@@ -91,7 +91,7 @@ counts_seen {g} {a} {n} {node = node} {m} Refuse e some (inr before) are is fit 
         absurd (let same = ap (λ (d : Mark). d.value.start) (mark_one are there is) in omega (arith, same, later, before))
 
 -- after it was gathered this is known of it
-pub gathered_following : {g : Marking} {a : Container} {n h v e : ℕ} {node : Node} {m : Mark} {place : ℕ} (marks : List Mark) → g.rule ≢ First
+pub gathered_following : {g : MarkState} {a : Container} {n h v e : ℕ} {node : Node} {m : Mark} {place : ℕ} (marks : List Mark) → g.rule ≢ First
     → (g.rule ≢ Refuse) ⊎ (m.value.start ≤ a.point.place) → AreMarks g place → IsMarkOf g (a.point.prefix ++ node ∷ []) m
     → ItemsFit strict g.text a.kind a.point.place n h → IsNamed g.text a.kind n h v node → IsFollowing g a n node
     → IsMarked (with_marks g marks) (a.point.prefix ++ node ∷ []) v e → IsFollowing (with_marks g marks) a (n + 1) node
@@ -108,7 +108,7 @@ gathered_following {g} {a} {n} {h} {v} {node = node} marks some counts are is fi
     }
 
 -- after a second one was refused this is
-pub repeated_following : {g : Marking} {a : Container} {n h v : ℕ} {node : Node} {m : Mark} {place : ℕ} (now : Mark) (number : ℕ) → g.rule ≡ Refuse
+pub repeated_following : {g : MarkState} {a : Container} {n h v : ℕ} {node : Node} {m : Mark} {place : ℕ} (now : Mark) (number : ℕ) → g.rule ≡ Refuse
     → a.point.place < m.value.start → AreMarks g place → slice_get g.prefixes number ≡ Some (a.point.prefix ++ node ∷ []) → slice_get g.marks number ≡ Some m
     → now.value ≡ m.value → (m.again ≡ None → now.again ≡ Some h) → (m.again ≢ None → now.again ≡ m.again) → ItemsFit strict g.text a.kind a.point.place n h
     → IsNamed g.text a.kind n h v node → IsFollowing g a n node → IsFollowing (with_marks g (set g.marks number now)) a (n + 1) node
@@ -121,7 +121,7 @@ repeated_following {g} {a} {n} {h} {v} {node} {m} now number refuses inside are 
     let there : a.point.place < now.value.start = rw same inside in
     twice_where_seen refuses are known (set_mark number now are is) inside there first later fits named seen x.says
   where
-    twice_where_seen : {g : Marking} {a : Container} {n h v place : ℕ} {node : Node} {m now : Mark} {s : Sight} {marks : List Mark} → g.rule ≡ Refuse
+    twice_where_seen : {g : MarkState} {a : Container} {n h v place : ℕ} {node : Node} {m now : Mark} {s : Sight} {marks : List Mark} → g.rule ≡ Refuse
         → AreMarks g place → IsMarkOf g (a.point.prefix ++ node ∷ []) m → IsMarkOf (with_marks g marks) (a.point.prefix ++ node ∷ []) now → a.point.place < m.value.start
         → a.point.place < now.value.start → (m.again ≡ None → now.again ≡ Some h) → (m.again ≢ None → now.again ≡ m.again)
         → ItemsFit strict g.text (kind_of node) a.point.place n h → IsNamed g.text (kind_of node) n h v node → IsSeen g.text a.point.place n node Refuse s
@@ -137,7 +137,7 @@ repeated_following {g} {a} {n} {h} {v} {node} {m} now number refuses inside are 
         record { sight = two_seen q; seen = rw refuses (seen_twice_still y); says = sight_two new there (kept ∙ some) }
 
 -- an item that is no child is passed
-pub none_marked : {g : Marking} {a : Container} {n h v e : ℕ} {node : Node} → IsWholeLevel a → IsMarking g a n h → IsNamed g.text a.kind n h v node
+pub none_marked : {g : MarkState} {a : Container} {n h v e : ℕ} {node : Node} → IsWholeLevel a → IsMarking g a n h → IsNamed g.text a.kind n h v node
     → ¬ HasNextNode a.point.paths a.point.prefix node → IsValue strict g.text v e → IsMarkedItem g a n h e
 none_marked {v = v} {node = node} level m item none value = record {
   are = later_are m.are (omega (arith, head-later item.head, value-longer value));
@@ -150,7 +150,7 @@ none_marked {v = v} {node = node} level m item none value = record {
 }
 
 -- so is one that is gathered
-pub gathered_marked : {g : Marking} {a : Container} {n h v e : ℕ} {node : Node} {m : Mark} (c : ℕ) (marks : List Mark) → IsWholeLevel a → g.rule ≢ First
+pub gathered_marked : {g : MarkState} {a : Container} {n h v e : ℕ} {node : Node} {m : Mark} (c : ℕ) (marks : List Mark) → IsWholeLevel a → g.rule ≢ First
     → (g.rule ≢ Refuse) ⊎ (m.value.start ≤ a.point.place) → IsMarking g a n h → IsMarkOf g (a.point.prefix ++ node ∷ []) m → IsNamed g.text a.kind n h v node
     → slice_get a.children c ≡ Some node → KeptBeside g marks (a.point.prefix ++ node ∷ [])
     → IsMarked (with_marks g marks) (a.point.prefix ++ node ∷ []) v e → IsMarkedItem (with_marks g marks) a n h e
@@ -165,7 +165,7 @@ gathered_marked {g} {v = v} {node = node} c marks level some counts m is item th
 }
 
 -- and one that is refused
-pub repeated_marked : {g : Marking} {a : Container} {n h v e : ℕ} {node : Node} {m : Mark} (c : ℕ) (now : Mark) (number : ℕ) → IsWholeLevel a → g.rule ≡ Refuse
+pub repeated_marked : {g : MarkState} {a : Container} {n h v e : ℕ} {node : Node} {m : Mark} (c : ℕ) (now : Mark) (number : ℕ) → IsWholeLevel a → g.rule ≡ Refuse
     → a.point.place < m.value.start → IsMarking g a n h → slice_get g.prefixes number ≡ Some (a.point.prefix ++ node ∷ []) → slice_get g.marks number ≡ Some m
     → now.value ≡ m.value → (m.again ≡ None → now.again ≡ Some h) → (m.again ≢ None → now.again ≡ m.again) → IsNamed g.text a.kind n h v node
     → slice_get a.children c ≡ Some node → IsValue strict g.text v e → IsMarkedItem (with_marks g (set g.marks number now)) a n h e
@@ -184,7 +184,7 @@ repeated_marked {g} {a} {n} {h} {v} {e} {node} {m} c now number level refuses in
     }
 
 -- after a comma the next item is expected
-pub next_marking : {g : Marking} {a : Container} {n h e next : ℕ} → IsMarkedItem g a n h e → IsSeparated g.text e next → IsMarking g a (n + 1) next
+pub next_marking : {g : MarkState} {a : Container} {n h e next : ℕ} → IsMarkedItem g a n h e → IsSeparated g.text e next → IsMarking g a (n + 1) next
 next_marking {g} {a} {n} {e = e} x comma =
     let first = after_space_later g.text e in
     let second = after_space_later g.text (after_space g.text e + 1) in
@@ -195,7 +195,7 @@ next_marking {g} {a} {n} {e = e} x comma =
     }
 
 -- after the closing bracket no more items fit than were passed
-none_more : {g : Marking} {a : Container} {n h e j : ℕ} → IsMarkedItem g a n h e → IsEnd g.text a.kind e j → NoMore g.text a.point.place a.kind (n + 1)
+none_more : {g : MarkState} {a : Container} {n h e j : ℕ} → IsMarkedItem g a n h e → IsEnd g.text a.kind e j → NoMore g.text a.point.place a.kind (n + 1)
 none_more {a = a} {n} x k p f fits = elim (cases_order p n) [
   | inl same ↦ omega (arith, same)
   | inr (inl less) ↦ omega (arith, less)
@@ -203,7 +203,7 @@ none_more {a = a} {n} x k p f fits = elim (cases_order p n) [
 ]
 
 -- and the mark of a child says what was seen of its node
-closed_child : {g : Marking} {i n j : ℕ} {prefix : Path} {s : Sight} (node : Node) → IsValue strict g.text i j → NoMore g.text i (kind_of node) n
+closed_child : {g : MarkState} {i n j : ℕ} {prefix : Path} {s : Sight} (node : Node) → IsValue strict g.text i j → NoMore g.text i (kind_of node) n
     → IsSeen g.text i n node g.rule s → SightSays g i prefix s → ChildSays g i prefix node (λ below. SaysAll g prefix below)
 closed_child node whole most (seen_none none) (sight_none old) = says_none old (none_of_all most none)
 closed_child {g} {i = i} {n} {s = s} node whole most seen (sight_one {c} is later first true_mark below) =
@@ -213,7 +213,7 @@ closed_child node whole most seen (sight_two is later again) =
     says_twice is later again x.refuses x.is x.twice
 
 -- so the container is closed
-pub closed_marking : {g : Marking} {a : Container} {n h e j : ℕ} → IsWholeLevel a → IsMarkedItem g a n h e → IsEnd g.text a.kind e j → IsClosed g a j
+pub closed_marking : {g : MarkState} {a : Container} {n h e j : ℕ} → IsWholeLevel a → IsMarkedItem g a n h e → IsEnd g.text a.kind e j → IsClosed g a j
 closed_marking {g} {a} {n} {e = e} level x k =
     let value = filled x.fit x.item.head x.value k.0 k.1 in
     let last = after_space_later g.text e in
@@ -245,7 +245,7 @@ pub none_in_empty : (t : List ℕ) (i : ℕ) {kind : Kind} (children : List Node
 none_in_empty t i children kinds o k c node is = inr (rw (kinds c node is) (o, k))
 
 -- a value without items is passed, and each child finds none
-pub passed_without : {g : Marking} {prefix : Path} {children : List Node} {start place : ℕ} {x : ValueSpan} → AreMarks g start
+pub passed_without : {g : MarkState} {prefix : Path} {children : List Node} {start place : ℕ} {x : ValueSpan} → AreMarks g start
     → IsChildren g.paths prefix children → IsValue strict g.text start place → x.start ≡ start → x.end ≡ place → FlagsEscape g.text x
     → ((c : ℕ) (node : Node) → slice_get children c ≡ Some node → HasNoItems g.text start (kind_of node))
     → IsPassedBy g prefix children start place (record { value = x; has_items = false; again = None })
@@ -260,7 +260,7 @@ passed_without are all value begins ends escaped each = record {
 }
 
 -- one with items is passed when it has closed
-pub passed_with : {g : Marking} {a : Container} {place : ℕ} {x : ValueSpan} → IsWholeLevel a → IsChildren g.paths a.point.prefix a.children → IsClosed g a place
+pub passed_with : {g : MarkState} {a : Container} {place : ℕ} {x : ValueSpan} → IsWholeLevel a → IsChildren g.paths a.point.prefix a.children → IsClosed g a place
     → x.start ≡ a.point.place → x.end ≡ place → FlagsEscape g.text x
     → IsPassedBy g a.point.prefix a.children a.point.place place (record { value = x; has_items = true; again = None })
 passed_with level all closed begins ends escaped = record {
@@ -274,7 +274,7 @@ passed_with level all closed begins ends escaped = record {
 }
 
 -- once its own mark is set, it is marked
-pub passed_marked : {g : Marking} {prefix : Path} {children : List Node} {start place : ℕ} {m : Mark} (number : ℕ) → slice_get g.prefixes number ≡ Some prefix → IsPassedBy g prefix children start place m
+pub passed_marked : {g : MarkState} {prefix : Path} {children : List Node} {start place : ℕ} {m : Mark} (number : ℕ) → slice_get g.prefixes number ≡ Some prefix → IsPassedBy g prefix children start place m
     → IsMarked (with_marks g (set g.marks number m)) prefix start place
 passed_marked {g} {prefix} {children} {start} {place} {m} number is x =
     let inside : m.value.start ≤ place = (let l = value-longer x.whole.value in omega (arith, l, x.ends)) in
@@ -290,7 +290,7 @@ passed_marked {g} {prefix} {children} {start} {place} {m} number is x =
       says = λ k rest h. path_says g number x.all kept x k rest h;
     }
   where
-    path_says : (g : Marking) {prefix : Path} {children : List Node} {start place : ℕ} {m : Mark} (number : ℕ) → IsChildren g.paths prefix children
+    path_says : (g : MarkState) {prefix : Path} {children : List Node} {start place : ℕ} {m : Mark} (number : ℕ) → IsChildren g.paths prefix children
         → KeepsBelow g (set g.marks number m) prefix → IsPassedBy g prefix children start place m → (k : ℕ) (rest : Path)
         → slice_get g.paths k ≡ Some (prefix ++ rest) → Says (with_marks g (set g.marks number m)) prefix m rest
     path_says g number all kept x k [] h = tt

@@ -13,7 +13,8 @@ use Rattle.sonic_find.proofs.WalkLemmas.Step.{OpenStopped, open_node, open_cause
 use Rattle.sonic_find.specs.Answers.{Span}
 use Rattle.sonic_parser.specs.ValueSpans.{FlagsEscape}
 use Rattle.sonic_find.specs.Found.{FlagEscapes}
-use Rattle.sonic_find.specs.Internal.Walk.{Findings, Point, ComesTo, IsPath, AreFindings, IsLater, IsKnown, was_found, was_lacked, BelowSettled, IsCause, value_stops, path_stops, IsStop, fails_so, SomeLack, Container, Progress, SomeOpen, IsUnvisited, IsWanted, IsItemPassed, AreSetTo}
+use Rattle.sonic_find.specs.Internal.Walk.{Findings, Point, ComesTo, IsPath, AreFindings, IsLater, IsKnown, was_found, was_lacked, BelowSettled, IsCause, value_stops, path_stops, IsStop, SomeLack, Container, Progress, SomeOpen, IsUnvisited, IsWanted, IsItemPassed, AreSetTo}
+use Rattle.sonic_find.specs.DeadEnds.{fails_so}
 use Rattle.sonic_parser.specs.declared.value_span.ValueSpan.{ValueSpan}
 use Rattle.sonic_find.specs.Paths.{found, lacks, past_end, EvaluatesBy, LeadsUnder}
 use Rattle.sonic_find.specs.Paths.EvaluatesBy.{found_here, leads_nowhere}

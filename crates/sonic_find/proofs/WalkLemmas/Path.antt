@@ -6,7 +6,8 @@ use Rattle.std.specs.List.{Contains}
 use Rattle.std.specs.Prelude.{Some, slice_get}
 use Rattle.sonic_find.proofs.PathLemmas.Rule.{by_first, by_fault}
 use Rattle.sonic_find.proofs.PathLemmas.Outcome.{cut_is_fault, by_one}
-use Rattle.sonic_find.specs.Internal.Walk.{Findings, Point, child_point, IsPath, AreFindings, IsLater, IsKnown, was_found, was_lacked, AllSettled, ComesTo, IsPathStop, fails_so, cut_so, IsCause, path_stops, value_stops}
+use Rattle.sonic_find.specs.Internal.Walk.{Findings, Keeps, Point, child_point, IsPath, AreFindings, IsLater, IsKnown, was_found, was_lacked, AllSettled, ComesTo, IsCause, path_stops, value_stops}
+use Rattle.sonic_find.specs.DeadEnds.{IsPathStop, fails_so, cut_so}
 use Rattle.sonic_find.specs.Paths.{found, lacks, fails, cut, LeadsOn, LeadsBy, EvaluatesBy}
 use Rattle.sonic_find.specs.Paths.EvaluatesBy.{goes_on, cut_before}
 use Rattle.sonic_pointer.specs.Paths.{IsChildren}
@@ -89,11 +90,14 @@ settled_no_fail {p} {rest} {r = r} comes (was_lacked {q} l h) e =
     let same : lacks q ≡ fails r = by_one (p.prefix ++ rest) l (comes.up rest (fails r) e) in
     absurd cc
 
--- what is settled stays so
+-- what is known stays so
+pub still_known : {t : List ℕ} {before now : Findings} {k : ℕ} {path : Path} {rule : KeyRule} → Keeps before now → IsKnown rule t before k path → IsKnown rule t now k path
+still_known {k = k} keeps (was_found {i} {j} l h) = was_found l (keeps.0 k i j h)
+still_known keeps (was_lacked l h) = was_lacked l (keeps.1 h)
+
 pub still_settled : {t : List ℕ} {paths : List Path} {before now : Findings} {k : ℕ} {path : Path} {rule : KeyRule} → IsLater rule t paths before now → IsKnown rule t before k path
     → IsKnown rule t now k path
-still_settled {k = k} g (was_found {i} {j} l h) = was_found l (g.kept k i j h)
-still_settled g (was_lacked l h) = was_lacked l (g.lack h)
+still_settled g known = still_known (g.kept, g.lack) known
 
 -- findings stay as they are
 pub not_later : {t : List ℕ} {paths : List Path} {f : Findings} {rule : KeyRule} → AreFindings rule t paths f → IsLater rule t paths f f

@@ -8,7 +8,8 @@ use Rattle.sonic_find.proofs.PathLemmas.Lead.{first_unnamed, none_unopened, none
 use Rattle.sonic_find.proofs.PathLemmas.Outcome.{nowhere_empty, nowhere_other}
 use Rattle.sonic_find.proofs.WalkLemmas.List.{first_of}
 use Rattle.sonic_find.proofs.WalkLemmas.Path.{held, child_at, path_of_child, stopped_one, cut_stops}
-use Rattle.sonic_find.specs.Internal.Walk.{fails_so, cut_so, Findings, Point, Container, IsPath, AreFindings, BelowSettled, IsCause, path_stops, IsStop, IsNoEntry, IsContainer, SomeOpen, IsFollowed}
+use Rattle.sonic_find.specs.Internal.Walk.{Findings, Point, Container, IsPath, AreFindings, BelowSettled, IsCause, path_stops, IsStop, IsNoEntry, IsContainer, SomeOpen, IsFollowed}
+use Rattle.sonic_find.specs.DeadEnds.{fails_so, cut_so}
 use Rattle.sonic_find.specs.Paths.{fails, EvaluatesBy, kind_of, empty_code, wanted_of, nowhere}
 use Rattle.sonic_find.specs.Paths.EvaluatesBy.{cut_here, leads_nowhere}
 use Rattle.sonic_pointer.specs.Paths.{HasPrefix, IsChildren}

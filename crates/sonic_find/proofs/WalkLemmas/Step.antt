@@ -5,7 +5,8 @@ use Rattle.std.specs.Prelude.{Option, Some, None, IfSome, slice_get}
 use Rattle.sonic_find.proofs.PathLemmas.Lead.{none_leads, one_more_unnamed, not_named, past_value, past_byte, past_key}
 use Rattle.sonic_find.proofs.WalkLemmas.List.{some_there}
 use Rattle.sonic_find.proofs.WalkLemmas.Path.{contained, path_of_child, child_one, settled_no_fail, cut_stops, stopped_one}
-use Rattle.sonic_find.specs.Internal.Walk.{IsPath, AreFindings, IsPathStop, IsCause, path_stops, value_stops, IsStop, Container, Progress, IsContainer, SomeOpen, IsUnvisited, IsWanted, IsFollowed, IsItemPassed, IsChildOf}
+use Rattle.sonic_find.specs.Internal.Walk.{IsPath, AreFindings, IsCause, path_stops, value_stops, IsStop, Container, Progress, IsContainer, SomeOpen, IsUnvisited, IsWanted, IsFollowed, IsItemPassed, IsChildOf}
+use Rattle.sonic_find.specs.DeadEnds.{IsPathStop}
 use Rattle.sonic_find.specs.Paths.{fails, IsNamed, LeadsOn, EvaluatesBy}
 use Rattle.sonic_parser.specs.Containers.{IsSeparated, IsSeparatorFault}
 use Rattle.sonic_text.proofs.Items.{head_never_both}

@@ -1,11 +1,15 @@
 -- What is known while the outcomes of paths are read off the marks of their prefixes.
-use Rattle.std.specs.Prelude.{ℕ, List, ◌∷◌, ◌++◌, Option}
+use Rattle.std.specs.Prelude.{ℕ, ◌≤◌, List, ◌∷◌, ◌++◌, Option}
+use Rattle.std.specs.Option.{IsSomeAnd}
 use Rattle.sonic_text.specs.declared.stop.Stop.{Stop}
 use Rattle.sonic_text.specs.Paths.{Node, Path}
 use Rattle.sonic_pointer.specs.declared.rule.KeyRule.{KeyRule}
-use Rattle.sonic_find.specs.Internal.Fill.{IsNoted}
 use Rattle.sonic_find.specs.Internal.Walk.{Findings, Point, IsPath, IsKnown}
 use Rattle.sonic_find.specs.Paths.{fails, EvaluatesBy, LeadsUnder}
+
+-- a stop at this place or before it is noted
+abbrev pub IsNoted : Option Stop → ℕ → Type 0
+IsNoted nearest q = IsSomeAnd nearest (λ s. s.place ≤ q)
 
 -- some path with the prefix fails so
 pub record IsFailBelow (p : Point) (s : Stop) : Type 0 where

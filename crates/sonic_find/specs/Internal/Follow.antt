@@ -1,16 +1,10 @@
 -- What a walk knows that follows one path.
 use Rattle.std.specs.Prelude.{◌≡◌, ◌≢◌, ℕ, Bool, List, ◌∷◌, IsTrue, IsFalse}
-use Rattle.sonic_error.specs.declared.code.ErrorCode.TheVariants.{GetUnknownKeyInObject}
 use Rattle.sonic_text.specs.declared.stop.Stop.{Stop}
 use Rattle.sonic_text.specs.Paths.{Node, Path}
 use Rattle.sonic_find.specs.Paths.{Outcome, lacks, kind_of, IsNamed, EvaluatesBy}
-use Rattle.sonic_find.specs.Internal.Walk.{IsPathStop}
+use Rattle.sonic_find.specs.DeadEnds.{IsPathStop}
 use Rattle.sonic_pointer.specs.declared.rule.KeyRule.{KeyRule}
-
--- the path stops so from the place i: it fails, is cut, or lacks its key
-pub data IsDeadEnd (rule : KeyRule) (t : List ℕ) (i : ℕ) (path : Path) (s : Stop) : Type 0 where
-  stops_so : IsPathStop rule t i path s → IsDeadEnd rule t i path s
-  lacks_so : {q : ℕ} → EvaluatesBy rule t i path (lacks q) → s ≡ record { place = q; code = GetUnknownKeyInObject } → IsDeadEnd rule t i path s
 
 -- each path that goes on by the node stops so
 abbrev pub IsDeadNode : KeyRule → List ℕ → ℕ → Node → Stop → Type 0

@@ -15,7 +15,7 @@ use Rattle.sonic_find.specs.Internal.Walk.{Container}
 use Rattle.sonic_find.specs.Paths.{kind_of, IsNamed, LeadsOn, Repeats, LeadsBy}
 
 -- the marks of a walk by its rule, over its text, and the prefixes of the paths that have them by their numbers
-pub record Marking : Type 0 where
+pub record MarkState : Type 0 where
   pub rule : KeyRule
   pub text : List ℕ
   pub paths : List Path
@@ -23,28 +23,28 @@ pub record Marking : Type 0 where
   pub marks : List Mark
 
 -- the prefix has this mark
-pub record IsMarkOf (g : Marking) (prefix : Path) (m : Mark) : Type 0 where
+pub record IsMarkOf (g : MarkState) (prefix : Path) (m : Mark) : Type 0 where
   pub number : ℕ
   pub is : slice_get g.prefixes number ≡ Some prefix
   pub mark : slice_get g.marks number ≡ Some m
 
 -- each prefix has one, of a value that doesn't begin after the place, and keys and indexes don't mix
-pub record AreMarks (g : Marking) (place : ℕ) : Type 0 where
+pub record AreMarks (g : MarkState) (place : ℕ) : Type 0 where
   pub unmixed : IsUnmixed g.paths
   pub one : HaveOneNumber g.prefixes
   pub long : length g.marks ≡ length g.prefixes
   pub before : (n : ℕ) (m : Mark) → slice_get g.marks n ≡ Some m → m.value.start ≤ place
 
 -- where the first of equal keys counts there are none
-abbrev pub KeepsMarks : Marking → ℕ → Type 0
+abbrev pub KeepsMarks : MarkState → ℕ → Type 0
 KeepsMarks g place = (g.rule ≡ First) ⊎ AreMarks g place
 
 -- the prefix has the mark that it had
-abbrev pub KeepsMark : Marking → List Mark → Path → Type 0
+abbrev pub KeepsMark : MarkState → List Mark → Path → Type 0
 KeepsMark g marks prefix = (n : ℕ) → slice_get g.prefixes n ≡ Some prefix → slice_get marks n ≡ slice_get g.marks n
 
 -- so it is for each prefix that doesn't begin with this one
-abbrev pub KeptBeside : Marking → List Mark → Path → Type 0
+abbrev pub KeptBeside : MarkState → List Mark → Path → Type 0
 KeptBeside g marks prefix = (other : Path) → ((rest : Path) → other ≢ prefix ++ rest) → KeepsMark g marks other
 
 -- the mark is of a whole value
@@ -61,7 +61,7 @@ abbrev pub HasItems : List ℕ → ℕ → Kind → Type 0
 HasItems t i kind = (h : ℕ) × ItemsFit strict t kind i 0 h
 
 -- what the mark of a child's prefix says of its node in the whole value at i, below which this holds of the mark where the node leads on: it names no item, it names a second one, which is refused, or it leads on to the value of the mark
-pub data ChildSays (g : Marking) (i : ℕ) (prefix : Path) (node : Node) (Below : Mark → Type 0) : Type 0 where
+pub data ChildSays (g : MarkState) (i : ℕ) (prefix : Path) (node : Node) (Below : Mark → Type 0) : Type 0 where
   says_none : ((c : Mark) → IsMarkOf g prefix c → c.value.start ≤ i) → ((v : ℕ) → ¬ LeadsOn g.text i node v) → ChildSays g i prefix node Below
   says_twice : {c : Mark} {q : ℕ} {k : List ℕ} → IsMarkOf g prefix c → i < c.value.start → c.again ≡ Some q → g.rule ≡ Refuse → node ≡ key k
       → Repeats g.text i (key k) q → ChildSays g i prefix node Below
@@ -69,21 +69,21 @@ pub data ChildSays (g : Marking) (i : ℕ) (prefix : Path) (node : Node) (Below 
       → ChildSays g i prefix node Below
 
 -- what the mark of a prefix says of a node, whose own prefix is this
-pub data NodeSays (g : Marking) (m : Mark) (prefix : Path) (node : Node) (Below : Mark → Type 0) : Type 0 where
+pub data NodeSays (g : MarkState) (m : Mark) (prefix : Path) (node : Node) (Below : Mark → Type 0) : Type 0 where
   says_no_items : IsFalse m.has_items → HasNoItems g.text m.value.start (kind_of node) → NodeSays g m prefix node Below
   says_items : IsTrue m.has_items → HasItems g.text m.value.start (kind_of node) → ChildSays g m.value.start prefix node Below → NodeSays g m prefix node Below
 
 -- and of the rest of a path
-abbrev pub Says : Marking → Path → Mark → Path → Type 0
+abbrev pub Says : MarkState → Path → Mark → Path → Type 0
 Says g prefix m [] = Unit
 Says g prefix m (node ∷ rest) = NodeSays g m (prefix ++ node ∷ []) node (λ c. Says g (prefix ++ node ∷ []) c rest)
 
 -- and of all paths with the prefix
-abbrev pub SaysAll : Marking → Path → Mark → Type 0
+abbrev pub SaysAll : MarkState → Path → Mark → Type 0
 SaysAll g prefix m = (k : ℕ) (rest : Path) → slice_get g.paths k ≡ Some (prefix ++ rest) → Says g prefix m rest
 
 -- the value from start to place was passed for a prefix: this mark of it says what each child that follows has there
-pub record IsPassedBy (g : Marking) (prefix : Path) (children : List Node) (start place : ℕ) (m : Mark) : Type 0 where
+pub record IsPassedBy (g : MarkState) (prefix : Path) (children : List Node) (start place : ℕ) (m : Mark) : Type 0 where
   pub are : AreMarks g place
   pub begins : m.value.start ≡ start
   pub ends : m.value.end ≡ place
@@ -94,7 +94,7 @@ pub record IsPassedBy (g : Marking) (prefix : Path) (children : List Node) (star
       → NodeSays g m (prefix ++ node ∷ []) node (λ below. SaysAll g (prefix ++ node ∷ []) below)
 
 -- and the prefix has a mark that says so of all paths that begin with it
-pub record IsMarked (g : Marking) (prefix : Path) (start place : ℕ) : Type 0 where
+pub record IsMarked (g : MarkState) (prefix : Path) (start place : ℕ) : Type 0 where
   pub are : AreMarks g place
   pub mark : Mark
   pub is : IsMarkOf g prefix mark
@@ -150,30 +150,30 @@ pub data IsSeen (t : List ℕ) (i n : ℕ) (node : Node) : KeyRule → Sight →
   seen_twice : {q : ℕ} → TwiceAmong t i n node q → IsSeen t i n node Refuse (two_seen q)
 
 -- and the mark of the node's prefix says it
-pub data SightSays (g : Marking) (i : ℕ) (prefix : Path) : Sight → Type 0 where
+pub data SightSays (g : MarkState) (i : ℕ) (prefix : Path) : Sight → Type 0 where
   sight_none : ((c : Mark) → IsMarkOf g prefix c → c.value.start ≤ i) → SightSays g i prefix none_seen
   sight_one : {c : Mark} → IsMarkOf g prefix c → i < c.value.start → c.again ≡ None → IsWholeMark g.text c → SaysAll g prefix c
       → SightSays g i prefix (one_seen c.value.start)
   sight_two : {c : Mark} {q : ℕ} → IsMarkOf g prefix c → i < c.value.start → c.again ≡ Some q → SightSays g i prefix (two_seen q)
 
 -- after the first n items of a container this is known of a child
-pub record IsFollowing (g : Marking) (a : Container) (n : ℕ) (node : Node) : Type 0 where
+pub record IsFollowing (g : MarkState) (a : Container) (n : ℕ) (node : Node) : Type 0 where
   pub sight : Sight
   pub seen : IsSeen g.text a.point.place n node g.rule sight
   pub says : SightSays g a.point.place (a.point.prefix ++ node ∷ []) sight
 
 -- and so of all
-abbrev pub AllFollowing : Marking → Container → ℕ → Type 0
+abbrev pub AllFollowing : MarkState → Container → ℕ → Type 0
 AllFollowing g a n = (c : ℕ) (node : Node) → slice_get a.children c ≡ Some node → IsFollowing g a n node
 
 -- the first n items of the container fit up to the next, and of each child this is known
-pub record IsMarking (g : Marking) (a : Container) (n next : ℕ) : Type 0 where
+pub record IsMarking (g : MarkState) (a : Container) (n next : ℕ) : Type 0 where
   pub are : AreMarks g next
   pub fit : ItemsFit strict g.text a.kind a.point.place n next
   pub all : AllFollowing g a n
 
 -- so it is after the item that is expected at h, whose value ends at e
-pub record IsMarkedItem (g : Marking) (a : Container) (n h e : ℕ) : Type 0 where
+pub record IsMarkedItem (g : MarkState) (a : Container) (n h e : ℕ) : Type 0 where
   pub are : AreMarks g e
   pub fit : ItemsFit strict g.text a.kind a.point.place n h
   pub node : Node
@@ -183,7 +183,7 @@ pub record IsMarkedItem (g : Marking) (a : Container) (n h e : ℕ) : Type 0 whe
   pub all : AllFollowing g a (n + 1)
 
 -- the container has closed at the place, and the marks say what each child has in it
-pub record IsClosed (g : Marking) (a : Container) (place : ℕ) : Type 0 where
+pub record IsClosed (g : MarkState) (a : Container) (place : ℕ) : Type 0 where
   pub are : AreMarks g place
   pub value : IsValue strict g.text a.point.place place
   pub items : HasItems g.text a.point.place a.kind
@@ -197,7 +197,7 @@ pub record IsWholeLevel (a : Container) : Type 0 where
   pub kind : (c : ℕ) (node : Node) → slice_get a.children c ≡ Some node → kind_of node ≡ a.kind
 
 -- the mark of a child's prefix is of a value inside that of this mark, which is the only one so far
-pub record IsLive (g : Marking) (m : Mark) (prefix : Path) (c : Mark) : Type 0 where
+pub record IsLive (g : MarkState) (m : Mark) (prefix : Path) (c : Mark) : Type 0 where
   pub is : IsMarkOf g prefix c
   pub items : IsTrue m.has_items
   pub later : m.value.start < c.value.start

@@ -1,5 +1,5 @@
 -- What the fields of a walk and of a level denote.
-use Rattle.std.specs.Prelude.{◌≡◌, ◌<◌, ◌≤◌, ℕ, Bool, List, IsTrue}
+use Rattle.std.specs.Prelude.{◌<◌, ◌≤◌, ℕ, Bool, List, IsTrue}
 use Rattle.sonic_text.specs.Paths.{index}
 use Rattle.sonic_pointer.specs.Paths.{HasNextNode}
 use Rattle.sonic_pointer.specs.Views.{View}
@@ -7,14 +7,14 @@ use Rattle.sonic_find.specs.declared.state.Walk.TheInside.{Inside}
 use Rattle.sonic_find.specs.declared.marks.Mark.{Mark}
 use Rattle.sonic_find.specs.declared.walk.Level.{Level}
 use Rattle.sonic_find.specs.Found.{spans_of, FlagEscapes}
-use Rattle.sonic_find.specs.Internal.Marks.{Marking}
-use Rattle.sonic_find.specs.Internal.Walk.{Findings, Walking, Point, Container, Progress}
+use Rattle.sonic_find.specs.Internal.Marks.{MarkState}
+use Rattle.sonic_find.specs.Internal.Walk.{Findings, WalkState, Point, Container, Progress}
 
 -- the walk that its callers see
-abbrev pub walking_of : Inside → Walking
-walking_of walk = record {
-  text = walk.steps.text;
-  place = walk.steps.place;
+abbrev pub walk_state_of : Inside → WalkState
+walk_state_of walk = record {
+  text = walk.cursor.text;
+  place = walk.cursor.place;
   findings = record { spans = spans_of walk.spans.items; lacking = walk.lacking };
   rule = walk.rule;
   marks = walk.marks.items;
@@ -22,15 +22,15 @@ walking_of walk = record {
 
 -- it looks at what it skips, and each value that was found says whether it is a string with a backslash
 pub record IsWalk (walk : Inside) : Type 0 where
-  pub checks : IsTrue walk.steps.checks
-  pub escaped : FlagEscapes walk.steps.text walk.spans.items
+  pub checks : IsTrue walk.cursor.checks
+  pub escaped : FlagEscapes walk.cursor.text walk.spans.items
 
 -- the prefix of a view, whose value is expected where the walk has come to
-abbrev pub point_at : Walking → View → Point
+abbrev pub point_at : WalkState → View → Point
 point_at walk view = record { rule = walk.rule; text = walk.text; paths = view.paths; prefix = view.prefix; place = walk.place }
 
 -- the container of a level, in the text of a walk
-abbrev pub container_at : Walking → Level → Container
+abbrev pub container_at : WalkState → Level → Container
 container_at walk level = record {
   point = record { rule = walk.rule; text = walk.text; paths = level.view.now.paths; prefix = level.view.now.prefix; place = level.start };
   children = level.view.now.children;
@@ -43,15 +43,15 @@ abbrev pub progress_at : ℕ → ℕ → List Bool → Findings → Progress
 progress_at passed next visited findings = record { passed = passed; next = next; visited = visited; findings = findings }
 
 -- how far a walk has come now
-abbrev pub progress_of : Walking → ℕ → List Bool → Progress
+abbrev pub progress_of : WalkState → ℕ → List Bool → Progress
 progress_of walk passed visited = progress_at passed walk.place visited walk.findings
 
 -- the marks of a walk, by the prefixes of a view
-abbrev pub marking_at : Walking → View → Marking
+abbrev pub marking_at : WalkState → View → MarkState
 marking_at walk view = record { rule = walk.rule; text = walk.text; paths = view.paths; prefixes = view.prefixes; marks = walk.marks }
 
 -- the point of a view whose value is known by its mark
-abbrev pub marked_at : Walking → View → Mark → Point
+abbrev pub marked_at : WalkState → View → Mark → Point
 marked_at walk view mark = record { rule = walk.rule; text = walk.text; paths = view.paths; prefix = view.prefix; place = mark.value.start }
 
 -- from the n-th element on none before this one is a child

@@ -15,7 +15,8 @@ use Rattle.sonic_text.specs.Faults.{IsFault}
 use Rattle.sonic_pointer.specs.Paths.{HasNextNode, IsChildren}
 use Rattle.sonic_find.specs.declared.marks.Mark.{Mark}
 use Rattle.sonic_find.specs.Answers.{Span, span_of, AllLeadBy, NoneFails, NoneCut, IsReach, Answer, IsAnswerBy}
-use Rattle.sonic_find.specs.Paths.{Outcome, found, lacks, fails, cut, kind_of, IsNamed, NoneNamed, EvaluatesBy, LeadsUnder}
+use Rattle.sonic_find.specs.DeadEnds.{IsPathStop}
+use Rattle.sonic_find.specs.Paths.{Outcome, found, lacks, fails, kind_of, IsNamed, NoneNamed, EvaluatesBy, LeadsUnder}
 
 -- what a walk has found: the span of each path that found one, and whether some path lacks its key
 pub record Findings : Type 0 where
@@ -23,7 +24,7 @@ pub record Findings : Type 0 where
   pub lacking : Bool
 
 -- a walk: the text, the place that it has come to, what it has found, the rule for equal keys, and what each prefix had last
-pub record Walking : Type 0 where
+pub record WalkState : Type 0 where
   pub text : List ℕ
   pub place : ℕ
   pub findings : Findings
@@ -78,6 +79,11 @@ pub record AreFindings (rule : KeyRule) (t : List ℕ) (paths : List Path) (f : 
   pub found_there : (k i j : ℕ) → slice_get f.spans k ≡ Some (Some (i, j)) → (path : Path) × (slice_get paths k ≡ Some path) × LeadsUnder rule t path (found i j)
   pub lack : IsTrue f.lacking → SomeLack rule t paths
 
+-- what was found before is kept, and that some path lacks its key
+abbrev pub Keeps : Findings → Findings → Type 0
+Keeps before now =
+    ((k i j : ℕ) → slice_get before.spans k ≡ Some (Some (i, j)) → slice_get now.spans k ≡ Some (Some (i, j))) × (IsTrue before.lacking → IsTrue now.lacking)
+
 -- they are, and what was found before is kept
 pub record IsLater (rule : KeyRule) (t : List ℕ) (paths : List Path) (before now : Findings) : Type 0 where
   pub are : AreFindings rule t paths now
@@ -101,11 +107,6 @@ BelowSettled p f = (k : ℕ) (node : Node) (rest : Path) → IsPath p k (node �
 pub record ComesTo (p : Point) : Type 0 where
   pub up : (rest : Path) (o : Outcome) → EvaluatesBy p.rule p.text p.place rest o → LeadsUnder p.rule p.text (p.prefix ++ rest) o
   pub fault : (s : Stop) → IsFault strict p.text p.place s → IsRootFault p.text s
-
--- the path fails so from the place i, or is cut
-pub data IsPathStop (rule : KeyRule) (t : List ℕ) (i : ℕ) (path : Path) (s : Stop) : Type 0 where
-  fails_so : EvaluatesBy rule t i path (fails s) → IsPathStop rule t i path s
-  cut_so : EvaluatesBy rule t i path (cut s) → IsPathStop rule t i path s
 
 -- no path with the prefix fails before this stop, and none that fails at its place does so for another reason
 abbrev pub NoneNearer : Point → Stop → Type 0

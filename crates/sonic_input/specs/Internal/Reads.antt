@@ -1,13 +1,13 @@
 -- What the fields of a `Read` denote.
 use Rattle.std.specs.Prelude.{◌≡◌, ◌≢◌, ℕ, ◌≤◌, true, false, length}
 use Rattle.std.specs.Str.{IsUtf8}
-use Rattle.sonic_input.specs.Cursors.{Cursor, no_invalid, IsNextInvalid}
+use Rattle.sonic_input.specs.ReadStates.{ReadState, no_invalid, IsNextInvalid}
 use Rattle.sonic_input.specs.Slices.{slice_bytes, is_shared}
 use Rattle.sonic_input.specs.declared.read.Read.TheInside.{Inside}
 
 -- the cursor that callers see
-abbrev pub cursor_of : Inside → Cursor
-cursor_of read = record {
+abbrev pub read_state_of : Inside → ReadState
+read_state_of read = record {
   text = read.text.now;
   place = read.index;
   next_invalid = read.next_invalid_utf8;

@@ -1,4 +1,4 @@
--- What the steps of an iterator know of the items that they pass.
+-- What the cursor of an iterator knows of the items that it passes.
 use Rattle.std.specs.Prelude.{◌≡◌, ℕ, ◌+◌, ◌<◌, ◌≤◌, List, length, IfSome, IsTrue, IsFalse}
 use Rattle.std.specs.Str.{IsUtf8}
 use Rattle.std.specs.declared.borrow.CowStr.{CowStr}
@@ -16,7 +16,7 @@ use Rattle.sonic_lazy.specs.declared.iteration.Items.TheInside.{Inside}
 use Rattle.sonic_parser.specs.declared.value_span.ValueSpan.{ValueSpan}
 use Rattle.sonic_parser.specs.ValueSpans.{FlagsEscape, IsKeyAt, IsStringSpan, DenotesUtf8, IsTextAt}
 use Rattle.sonic_lazy.specs.Items.{Item, ItemsReach, IsItemAt}
-use Rattle.sonic_lazy.specs.Iterators.{Iterating}
+use Rattle.sonic_lazy.specs.Iterators.{IteratorState}
 use Rattle.sonic_find.specs.Parts.{IsPart}
 
 -- so many items were passed up to here: none before the container, or the last of them ends here
@@ -59,21 +59,21 @@ IsKeyText t None text = ⊥
 IsKeyText t (Some key) text = IsTextAt t key.start key.end text
 
 -- the iterator that its callers see
-abbrev pub iterating_of : Inside → Iterating
-iterating_of items = record {
+abbrev pub iterator_state_of : Inside → IteratorState
+iterator_state_of items = record {
   kind = items.kind;
-  text = items.steps.text;
+  text = items.cursor.text;
   is_bytes = items.is_bytes;
-  checks = items.steps.checks;
+  checks = items.cursor.checks;
   given = items.given;
   ended = items.ended;
 }
 
 -- it has passed the items that it gave; its text is UTF-8 once that was looked at, or starts with a value, which needs no look
 pub record IsIterator (items : Inside) : Type 0 where
-  pub raw : slice_bytes items.raw ≡ items.steps.text
-  pub text : items.text.now ≡ items.steps.text
-  pub after : IsFalse items.ended → IsAfterItems items.steps.text items.kind items.given items.steps.place
-  pub within : items.given ≤ length items.steps.text
-  pub utf8 : IsTrue items.steps.checks → (IsTrue items.is_bytes → 0 < items.given) → IsUtf8 items.steps.text
-  pub sure : IsFalse items.steps.checks → StartsWithUtf8Value items.steps.text × IsFalse items.is_bytes
+  pub raw : slice_bytes items.raw ≡ items.cursor.text
+  pub text : items.text.now ≡ items.cursor.text
+  pub after : IsFalse items.ended → IsAfterItems items.cursor.text items.kind items.given items.cursor.place
+  pub within : items.given ≤ length items.cursor.text
+  pub utf8 : IsTrue items.cursor.checks → (IsTrue items.is_bytes → 0 < items.given) → IsUtf8 items.cursor.text
+  pub sure : IsFalse items.cursor.checks → StartsWithUtf8Value items.cursor.text × IsFalse items.is_bytes

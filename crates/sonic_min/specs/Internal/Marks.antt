@@ -5,12 +5,12 @@ use Rattle.sonic_blocks.specs.Outside.{is_inside_at}
 use Rattle.sonic_text.specs.Places.{byte, is_space, after_space}
 
 -- a bracket, a comma or a colon
-abbrev pub is_point : ℕ → Bool
-is_point b = b == 44 || b == 58 || b == 91 || b == 93 || b == 123 || b == 125
+abbrev pub is_structural : ℕ → Bool
+is_structural b = b == 44 || b == 58 || b == 91 || b == 93 || b == 123 || b == 125
 
 -- at k is one outside strings
 abbrev pub is_mark : List ℕ → ℕ → Bool
-is_mark t k = is_point (byte t k) && not (is_inside_at t 0 (k + 1))
+is_mark t k = is_structural (byte t k) && not (is_inside_at t 0 (k + 1))
 
 -- from p on and before q is no mark
 abbrev pub HasNoMark : List ℕ → ℕ → ℕ → Type 0

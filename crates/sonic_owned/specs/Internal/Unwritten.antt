@@ -1,9 +1,6 @@
 -- What is still to be written of a value whose text is written piece by piece.
-use Rattle.std.specs.Prelude.{◌≡◌, ℕ, ◌+◌, Bool, List, [], ◌∷◌, ◌++◌, Option, Some, None, Result, IfOk, if◌then◌else◌}
+use Rattle.std.specs.Prelude.{ℕ, ◌+◌, Bool, List, [], ◌∷◌, ◌++◌, Option, Some, None, if◌then◌else◌}
 use Rattle.std.specs.Borrow.{Bor}
-use Rattle.std.specs.Fmt.{HasWritten, IsPlainFormatter}
-use Rattle.std.specs.declared.fmt.Error.{Error}
-use Rattle.std.specs.declared.fmt.Formatter.{Formatter}
 use Rattle.sonic_owned.specs.Forms.{Members, text, members_text, unnamed, named}
 use Rattle.sonic_owned.specs.Internal.Bulks.{members_bulk}
 use Rattle.sonic_owned.specs.Internal.Levels.{elements_of, members_of}
@@ -59,13 +56,3 @@ item_left u (Some v) = text (form v.now) ++ left_text u
 abbrev pub level_left : Unwritten → Option Unwritten → List ℕ
 level_left u None = []
 level_left u (Some inner) = left_text inner ++ left_text u
-
--- g is f after writing all before the rest
-pub record IsWrittenUpTo {W : Type 0} (took : W → List ℕ → W → Type 0) (f : Formatter W) (all rest : List ℕ) (g : Formatter W) : Type 0 where
-  pub done : List ℕ
-  pub has : HasWritten took f done g
-  pub whole : done ++ rest ≡ all
-
--- if f is plain and r is `Ok`, g is f after writing all before what is left
-abbrev pub WritesUpTo : {W A : Type 0} → (W → List ℕ → W → Type 0) → Formatter W → List ℕ → (A → List ℕ) → Result A Error → Formatter W → Type 0
-WritesUpTo took f all rest r g = IsPlainFormatter f → IfOk r (λ a. IsWrittenUpTo took f all (rest a) g)

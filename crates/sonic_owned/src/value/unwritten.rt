@@ -2,7 +2,8 @@
 ghost use Rattle.std.specs.Prelude.{◌≡◌, ◌≤◌, ◌+◌, IfOk, IfSome};
 ghost use Rattle.std.specs.Fmt.{WritesOnOk};
 ghost use Rattle.sonic_owned.specs.Forms.{text};
-ghost use Rattle.sonic_owned.specs.Internal.Unwritten.{item_left, items_left, left_text, level_left, text_left, WritesUpTo};
+ghost use Rattle.sonic_owned.specs.Internal.Unwritten.{item_left, items_left, left_text, level_left, text_left};
+ghost use Rattle.sonic_owned.specs.Writing.{WritesUpTo};
 ghost use Rattle.sonic_owned.specs.Internal.Bulks.{members_bulk, bulk};
 ghost use Rattle.sonic_owned.specs.Views.{form};
 

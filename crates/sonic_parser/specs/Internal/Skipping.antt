@@ -6,11 +6,11 @@ use Rattle.sonic_text.specs.declared.stop.Stop.{Stop}
 use Rattle.sonic_text.specs.Strings.{IsEscapedString}
 use Rattle.sonic_text.specs.Values.{closing, IsValue, ItemsFit}
 use Rattle.sonic_text.specs.Faults.{IsKeyFault, NothingFits}
-use Rattle.sonic_parser.specs.declared.begin.Begun.{Begun}
-use Rattle.sonic_parser.specs.declared.begin.Begun.TheVariants.{Complete, Inside}
-use Rattle.sonic_parser.specs.declared.quick.Ahead.{Ahead}
-use Rattle.sonic_parser.specs.declared.container.Next.TheVariants.{Item}
-use Rattle.sonic_parser.specs.declared.quick.Ahead.TheVariants.{Value, Next, Inside as Within, Other}
+use Rattle.sonic_parser.specs.declared.begin.ValueStart.{ValueStart}
+use Rattle.sonic_parser.specs.declared.begin.ValueStart.TheVariants.{Complete, Inside}
+use Rattle.sonic_parser.specs.declared.quick.Peek.{Peek}
+use Rattle.sonic_parser.specs.declared.container.AfterItem.TheVariants.{Item}
+use Rattle.sonic_parser.specs.declared.quick.Peek.TheVariants.{Value, AfterItem, Inside as Within, Other}
 use Rattle.sonic_parser.specs.declared.skip.Reached.{Reached}
 use Rattle.sonic_parser.specs.declared.skip.Reached.TheVariants.{Expected, Ended, Closed}
 use Rattle.sonic_parser.specs.declared.value_span.ValueSpan.{ValueSpan}
@@ -26,7 +26,7 @@ pub record IsComplete (m : Bool) (t : List ℕ) (i : ℕ) (x : ValueSpan) : Type
   pub escaped : IsTrue x.escaped ↔ IsEscapedString t i x.end
 
 -- the value at i was read, or it is a container whose first item is expected
-abbrev pub IsBegun : Bool → List ℕ → ℕ → Begun → Type 0
+abbrev pub IsBegun : Bool → List ℕ → ℕ → ValueStart → Type 0
 IsBegun m t i (Complete x) = IsComplete m t i x
 IsBegun m t i (Inside kind h) = (i < h) × (h ≤ length t) × ItemsFit m t kind i 0 h
 
@@ -59,8 +59,8 @@ place_of (Ended e) = e
 place_of (Closed j) = j
 
 -- what is at the place i of a value: a value, perhaps with the next item expected after it, or a container whose first item is expected, or nothing is known
-abbrev pub IsAhead : Bool → List ℕ → ℕ → Ahead → Type 0
+abbrev pub IsAhead : Bool → List ℕ → ℕ → Peek → Type 0
 IsAhead m t i (Value e) = IsValueEnd m t i e
-IsAhead m t i (Next h) = (e : ℕ) × IsValueEnd m t i e × ((kind : Kind) → IsAfterValue t kind e (Item h))
+IsAhead m t i (AfterItem h) = (e : ℕ) × IsValueEnd m t i e × ((kind : Kind) → IsAfterValue t kind e (Item h))
 IsAhead m t i (Within kind h) = (i < h) × (h ≤ length t) × ItemsFit m t kind i 0 h
 IsAhead m t i Other = Unit {0}

@@ -1,11 +1,11 @@
 -- What the fields of a `Parser` denote.
-use Rattle.sonic_parser.specs.Parsers.{Parsing}
+use Rattle.sonic_parser.specs.Parsers.{ParserState}
 use Rattle.sonic_parser.specs.Internal.Spaces.{IsKeptBlock}
 use Rattle.sonic_parser.specs.declared.parser.Parser.TheInside.{Inside}
 
 -- the parser that callers see
-abbrev pub parsing_of : Inside → Parsing
-parsing_of parser = record {
+abbrev pub parser_state_of : Inside → ParserState
+parser_state_of parser = record {
   text = parser.read.text;
   place = parser.read.place;
   next_invalid = parser.read.next_invalid;

@@ -137,7 +137,7 @@ impl<'de> Parser<'de> {
     fn pass_string(&mut self, end: usize)
         requires within { end ≤ length self.old.text }
         ensures next_invalid { IsNextKnown self.old self.new }
-        ensures cursor { self.new.place ≡ end }
+        ensures moved { self.new.place ≡ end }
         ensures kept { self.new
             ≡ record self.old { place = self.new.place; next_invalid = self.new.next_invalid } }
     {

@@ -4,7 +4,7 @@ ghost use Rattle.sonic_parser.specs.Containers.{GoesOn, IsEnd, IsSeparated};
 ghost use Rattle.sonic_parser.specs.Parsers.{moved, value_start, HasKey, HasValue, IsSkipped, IsKeyPassed, IsPassed};
 
 use super::Parser;
-use crate::container::Next;
+use crate::container::AfterItem;
 use crate::status::ParseStatus;
 use crate::unchecked::{whole_key, whole_next, whole_value};
 use crate::value_span::ValueSpan;
@@ -20,15 +20,15 @@ impl<'de> Parser<'de> {
         requires { GoesOn self.old.text kind self.old.place }
         ensures item { result ≡ true → IsSeparated self.old.text self.old.place self.new.place }
         ensures end { result ≡ false → IsEnd self.old.text kind self.old.place self.new.place }
-        ensures cursor { self.new ≡ moved self.old self.new.place }
+        ensures moved { self.new ≡ moved self.old self.new.place }
         ensures fits { self.new.place < 2 ^ 64 }
     {
         match whole_next(self.read.as_u8_slice(), self.read.index(), kind) {
-            Next::Item(next) => {
+            AfterItem::Item(next) => {
                 self.read.set_index(next);
                 true
             }
-            Next::End(end) => {
+            AfterItem::End(end) => {
                 self.read.set_index(end);
                 false
             }
@@ -42,7 +42,7 @@ impl<'de> Parser<'de> {
     pub fn key_unchecked(&mut self) -> ValueSpan
         requires { HasKey self.old }
         ensures ok { IsKeyPassed self.old self.new result }
-        ensures cursor { self.new ≡ moved self.old self.new.place }
+        ensures moved { self.new ≡ moved self.old self.new.place }
     {
         let start = self.read.index();
         let (string, value) = whole_key(self.read.as_u8_slice(), start, self.lossy);
@@ -61,7 +61,7 @@ impl<'de> Parser<'de> {
     pub fn skip_value_unchecked(&mut self) -> ValueSpan
         requires { HasValue self.old self.old.place }
         ensures ok { IsPassed self.old self.new result }
-        ensures cursor { self.new ≡ moved self.old self.new.place }
+        ensures moved { self.new ≡ moved self.old self.new.place }
     {
         let start = self.read.index();
         let (end, escaped) = whole_value(self.read.as_u8_slice(), start, self.lossy);

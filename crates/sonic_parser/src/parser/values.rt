@@ -9,7 +9,7 @@ ghost use Rattle.sonic_parser.specs.Internal.Skipping.{IsReached};
 ghost use Rattle.sonic_parser.specs.Parsers.{moved, value_start, IsSkipped, IsUnskipped, IsFilledContainer, IsOutOfMemory, IsPassed};
 
 use super::Parser;
-use crate::begin::{Begun, begin};
+use crate::begin::{ValueStart, begin};
 use crate::fault::Fault;
 use crate::quick::{digits_ahead, pass_items, scalar_end};
 use crate::skip::{Extent, Reached, close, separator_stop};
@@ -28,7 +28,7 @@ impl<'de> Parser<'de> {
     #[inline(always)]
     pub(crate) fn pass_scalar(&mut self) -> bool
         ensures yes { result ≡ true → IsValue self.old.lossy self.old.text self.old.place self.new.place }
-        ensures cursor { self.new ≡ moved self.old self.new.place }
+        ensures moved { self.new ≡ moved self.old self.new.place }
         ensures no { result ≡ false → self.new ≡ self.old }
     {
         match scalar_end(self.read.as_u8_slice(), self.read.index(), self.lossy) {
@@ -48,7 +48,7 @@ impl<'de> Parser<'de> {
     #[inline(always)]
     pub fn skip_value(&mut self, alloc: Global) -> Result<ValueSpan, Fault>
         ensures ok { IfOk result (IsPassed self.old self.new) }
-        ensures cursor { self.new ≡ moved self.old self.new.place }
+        ensures moved { self.new ≡ moved self.old self.new.place }
         ensures err { IfErr result (IsStopFor (λ s.
             IsFault self.old.lossy self.old.text self.old.place s)) }
         ensures memory { IsErrOf result Fault.OutOfMemory
@@ -74,7 +74,7 @@ impl<'de> Parser<'de> {
     fn skip_other(&mut self, alloc: Global) -> Result<bool, Fault>
         ensures ok { IfOk result (λ escaped. IsPassed self.old self.new
             (record { start = self.old.place; end = self.new.place; escaped = escaped })) }
-        ensures cursor { self.new ≡ moved self.old self.new.place }
+        ensures moved { self.new ≡ moved self.old self.new.place }
         ensures err { IfErr result (IsStopFor (λ s.
             IsFault self.old.lossy self.old.text self.old.place s)) }
         ensures memory { IsErrOf result Fault.OutOfMemory
@@ -85,11 +85,11 @@ impl<'de> Parser<'de> {
         let text = self.read.as_u8_slice();
         let start = self.read.index();
         match begin(text, start, self.lossy)? {
-            Begun::Complete(value) => {
+            ValueStart::Complete(value) => {
                 self.read.set_index(value.end);
                 Ok(value.escaped)
             }
-            Begun::Inside(kind, first) => {
+            ValueStart::Inside(kind, first) => {
                 let end = self.close(alloc, kind, first)?;
                 self.read.set_index(end);
                 Ok(false)
@@ -133,10 +133,10 @@ impl<'de> Parser<'de> {
             Some(opened) => opened,
             None => Vec::new(alloc),
         };
-        let (text, start) = (self.read.as_u8_slice(), self.read.index());
+        let text = self.read.as_u8_slice();
         opened.clear();
         let end = match opened.extend_from_slice(kinds) {
-            Ok(()) => close(text, start, &mut opened, place, self.lossy),
+            Ok(()) => close(text, &mut opened, place, self.lossy),
             Err(_) => Err(Fault::OutOfMemory),
         };
         self.opened = Some(opened);

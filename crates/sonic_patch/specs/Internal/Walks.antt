@@ -7,9 +7,9 @@ use Rattle.sonic_text.specs.Trees.{Tree, Items, Means, ItemsMean}
 use Rattle.sonic_text.specs.Trees.Items.{no_item, item}
 use Rattle.sonic_text.specs.Trees.Tree.{null, truth, numeral, text, container}
 use Rattle.sonic_text.specs.Values.{closing}
-use Rattle.sonic_parser.specs.Descents.{Descending}
+use Rattle.sonic_parser.specs.Descents.{DescentState}
 use Rattle.sonic_patch.specs.Internal.Tags.{Tag, Frame, leaf_tag, begin_tag, end_tag, frame, tags, item_tags, tags_after}
-use Rattle.std.proofs.Common.{Bor}
+use Rattle.std.specs.Borrow.{Bor}
 use Rattle.sonic_patch.specs.declared.walk.Leaf.{Leaf}
 use Rattle.sonic_patch.specs.declared.walk.Leaf.TheVariants.{Null, Truth, Number, Text, Empty}
 use Rattle.sonic_patch.specs.declared.walk.Event.{Event}
@@ -30,13 +30,13 @@ kinds_of [] = []
 kinds_of (frame kind xs ∷ frames) = kinds_of frames ++ kind ∷ []
 
 -- the walk has come to the root, or to an item, and these tags are to come
-pub data RemainsFromItem (walk : Descending) (rest : List Tag) : Type 0 where
+pub data RemainsFromItem (walk : DescentState) (rest : List Tag) : Type 0 where
   root_expected : {e : ℕ} {x : Tree} → walk.opened ≡ [] → Means walk.text walk.place e x → rest ≡ tags None x [] → RemainsFromItem walk rest
   item_expected : {j : ℕ} {kind : Kind} {xs : Items} {frames : List Frame} → walk.opened ≡ kinds_of frames ++ kind ∷ [] → ItemsMean walk.text kind walk.place j xs
       → Follows walk.text j frames → rest ≡ item_tags xs (end_tag kind ∷ tags_after frames) → RemainsFromItem walk rest
 
 -- or to the value with this label
-pub record RemainsFromValue (walk : Descending) (label : Option (List ℕ)) (rest : List Tag) : Type 0 where
+pub record RemainsFromValue (walk : DescentState) (label : Option (List ℕ)) (rest : List Tag) : Type 0 where
   pub end : ℕ
   pub tree : Tree
   pub frames : List Frame
@@ -46,7 +46,7 @@ pub record RemainsFromValue (walk : Descending) (label : Option (List ℕ)) (res
   pub are : rest ≡ tags label tree (tags_after frames)
 
 -- or to the end of a value
-pub record RemainsAfterItem (walk : Descending) (rest : List Tag) : Type 0 where
+pub record RemainsAfterItem (walk : DescentState) (rest : List Tag) : Type 0 where
   pub frames : List Frame
   pub opened : walk.opened ≡ kinds_of frames
   pub follows : Follows walk.text walk.place frames

@@ -5,7 +5,7 @@ use Rattle.std.specs.declared.option.Option.TheVariants.{Some, None}
 use Rattle.sonic_text.specs.declared.kind.Kind.TheVariants.{Array}
 use Rattle.sonic_text.specs.Paths.{Node, Path}
 use Rattle.sonic_text.specs.Trees.{Tree, Items, Means, ItemsMean}
-use Rattle.sonic_parser.specs.Parsers.{Parsing}
+use Rattle.sonic_parser.specs.Parsers.{ParserState}
 use Rattle.sonic_pointer.specs.Nodes.{owned_node}
 use Rattle.sonic_pointer.specs.declared.owned.OwnedNode.{OwnedNode}
 use Rattle.sonic_pointer.specs.declared.owned.OwnedPath.{OwnedPath}
@@ -20,12 +20,12 @@ abbrev pub AreNodesAt : List ℕ → ℕ → ℕ → Path → Type 0
 AreNodesAt t h j path = (xs : Items) × ItemsMean t Array h j xs × SayNodes xs path
 
 -- the value at the cursor was passed and says this node, or it says none
-abbrev pub IsNodeRead : Parsing → Parsing → Option OwnedNode → Type 0
+abbrev pub IsNodeRead : ParserState → ParserState → Option OwnedNode → Type 0
 IsNodeRead before now (Some node) = IsNodeAt before.text before.place now.place (owned_node node)
 IsNodeRead before now None = (j : ℕ) (node : Node) → ¬ IsNodeAt before.text before.place j node
 
 -- the array at the cursor was passed and says this path of at most 255 nodes, or it says none
-abbrev pub IsArrayRead : Parsing → Parsing → Option OwnedPath → Type 0
+abbrev pub IsArrayRead : ParserState → ParserState → Option OwnedPath → Type 0
 IsArrayRead before now (Some path) = (length path ≤ 255) × IsNodeArray before.text before.place now.place path
 IsArrayRead before now None = (j : ℕ) (path : Path) → length path ≤ 255 → ¬ IsNodeArray before.text before.place j path
 

@@ -5,7 +5,7 @@ use Rattle.sonic_text.specs.Paths.{Node, index, Path}
 use Rattle.sonic_pointer.specs.Nodes.{is_key}
 use Rattle.sonic_pointer.specs.Paths.{HasNextNode, IsMixed}
 use Rattle.sonic_pointer.specs.Internal.Tries.{Entry, Spot, paths_of, spots_of, spot_at, prefix_at, label_at, labels, entry_at, with_child, IsChildVertex, IsGap, IsChain, IsTree}
-use Rattle.sonic_pointer.specs.declared.commit.Parts.{Parts}
+use Rattle.sonic_pointer.specs.declared.insert.Parts.{Parts}
 use Rattle.sonic_pointer.specs.declared.trie.Trie.{Trie}
 use Rattle.sonic_pointer.specs.declared.trie.InsertionPoint.{InsertionPoint}
 

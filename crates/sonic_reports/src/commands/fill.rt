@@ -9,7 +9,7 @@ use crate::error_line::error_reply;
 use crate::reply::Reply;
 use crate::status::Status;
 use sonic_error::ErrorCode;
-use sonic_paths::find_line_end;
+use sonic_paths::internal::find_line_end;
 use sonic_value::{Value, get_by_schema};
 use std::alloc::{AllocError, Global};
 use std::borrow::CowStr;

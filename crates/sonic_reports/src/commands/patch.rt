@@ -14,7 +14,7 @@ use crate::reply::Reply;
 use crate::status::Status;
 use sonic_owned::OwnedLazyValue;
 use sonic_patch::{Patch, PatchError, apply, read_patch};
-use sonic_paths::find_line_end;
+use sonic_paths::internal::find_line_end;
 use std::alloc::{AllocError, Global};
 use std::borrow::CowStr;
 

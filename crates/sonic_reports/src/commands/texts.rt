@@ -13,7 +13,7 @@ use std::alloc::{AllocError, Global};
 use std::borrow::CowStr;
 
 // The report of `min`. All memory that it takes is taken here.
-pub(crate) fn small<'i>(alloc: Global, input: &[u8]) -> Result<Reply<'i>, AllocError>
+pub(crate) fn minified<'i>(alloc: Global, input: &[u8]) -> Result<Reply<'i>, AllocError>
     ensures { IfOk result (λ reply. IsMinReport input.now (text_of reply) reply.status) }
 {
     match minify(alloc, input) {
@@ -24,7 +24,11 @@ pub(crate) fn small<'i>(alloc: Global, input: &[u8]) -> Result<Reply<'i>, AllocE
 
 // The report of `indent`, with so many blanks for each level of depth. All memory that it takes is taken
 // here.
-pub(crate) fn wide<'i>(alloc: Global, input: &[u8], width: usize) -> Result<Reply<'i>, AllocError>
+pub(crate) fn indented<'i>(
+    alloc: Global,
+    input: &[u8],
+    width: usize,
+) -> Result<Reply<'i>, AllocError>
     requires { width ≤ most_blanks }
     ensures { IfOk result (λ reply. IsIndentReport width input.now (text_of reply) reply.status) }
 {

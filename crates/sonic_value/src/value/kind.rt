@@ -5,7 +5,8 @@ ghost use Rattle.sonic_text.specs.Numbers.{IsNumber};
 use super::Value;
 use sonic_error::JsonType;
 use sonic_lazy::{JsonContainerTrait, JsonValueTrait};
-use sonic_text::{skip_number, whole_i64, whole_u64};
+use sonic_text::internal::skip_number;
+use sonic_text::{whole_i64, whole_u64};
 
 /// A value is what its variant says. A number whose text is no number is a number still, but no
 /// integer.

@@ -5,7 +5,7 @@
 ghost use Rattle.std.specs.Prelude.{◌≡◌, ◌<◌, ◌*◌, string_bytes, IfOk, IfErr};
 ghost use Rattle.std.specs.Fmt.{WritesOnOk};
 ghost use Rattle.sonic_error.specs.Errors.{IsPlainError};
-ghost use Rattle.sonic_owned.specs.Internal.Unwritten.{WritesUpTo};
+ghost use Rattle.sonic_owned.specs.Writing.{WritesUpTo};
 ghost use Rattle.sonic_value.specs.CompactTexts.{compact};
 ghost use Rattle.sonic_value.specs.Internal.OpenTexts.{array_size, array_text, begun_size, begun_text, next_size, next_text, object_size, object_text, shown_size, shown_text};
 ghost use Rattle.sonic_value.specs.Internal.ValueCounts.{value_count};

@@ -19,7 +19,7 @@ returns-in_err-item-clause-stop c =
 
 pub returns-clause-item : goal.returns-clause-item
 returns-clause-item c = λ n passed. record {
-  place = c.go_on.new.steps.place;
+  place = c.go_on.new.cursor.place;
   before = c.in_ok-go_on.ensures.item c.if-not-branch.false n passed;
   found = rw c.in_ok-go_on.ensures.moved at c.in_ok-item.ensures.item;
 }

@@ -2,12 +2,12 @@ use Rattle.std.proofs.Common.{ap, arith, refl}
 use Rattle.std.proofs.lemmas.List.{length-map}
 use Rattle.sonic_edits.proofs.ElementLemmas.{none_first, element_first, all_first, more_first}
 use Rattle.sonic_edits.proofs.elements.first_elements.Goals as goal
-use Rattle.sonic_lazy.specs.Iterators.{Iterating}
+use Rattle.sonic_lazy.specs.Iterators.{IteratorState}
 use Rattle.sonic_lazy.specs.LazyValues.{raw_bytes}
 
 pub elements-init : goal.elements-init
 elements-init c =
-    let zero = ap (λ (it : Iterating). it.given) c.requires in
+    let zero = ap (λ (it : IteratorState). it.given) c.requires in
     record { going = rw c.requires refl; first = rw (zero, c.new-elements.ensures.items) none_first }
 
 pub elements-preserved : goal.elements-preserved

@@ -1,4 +1,4 @@
-use Rattle.sonic_find.proofs.FillLemmas.{unmixed_agree}
+use Rattle.sonic_find.proofs.MarkLemmas.Collect.{unmixed_agree}
 use Rattle.sonic_find.proofs.law.fails_at_one_place_agree.Goals as goal
 
 -- paths of one tree mix nowhere

@@ -1,7 +1,9 @@
 use Rattle.std.proofs.Common.{◌≡◌, ◌+◌, ◌-◌, ◌*◌, ◌<◌, ℕ, length}
-use Rattle.std.specs.Prelude.{Some, slice_get}
+use Rattle.std.specs.Prelude.{Some, slice_get, IfSome}
 use Rattle.sonic_text.specs.Paths.{Node}
-use Rattle.sonic_find.specs.Internal.Fill.{filling_at, origin_at, IsFuller, NodeSlots}
+use Rattle.sonic_find.specs.Internal.Collected.{IsFailBelow, NodeCollected}
+use Rattle.sonic_find.specs.Internal.Fill.{origin_at, found_in, settled_in}
+use Rattle.sonic_find.specs.Internal.Walk.{IsLater}
 use Rattle.sonic_find.proofs.many_unchecked.+fill.Given as goal
 use Rattle.sonic_pointer.specs.declared.rule.KeyRule.TheVariants.{First}
 
@@ -13,6 +15,7 @@ decreases-fill_child l = 2 * (length l.origin.text.now - l.origin.place)
 
 abbrev pub invariant-fill-loop-i : goal.invariant-fill-loop-i
 invariant-fill-loop-i l = record {
-  fuller : IsFuller First l.origin.text.now l.view.paths (filling_at l.fn.slots l.fn.nearest) (filling_at l.slots l.nearest);
-  below : (c : ℕ) (node : Node) → c < l.i → slice_get l.view.children c ≡ Some node → NodeSlots (origin_at l.origin l.view) (filling_at l.slots l.nearest) node;
+  later : IsLater First l.origin.text.now l.view.paths (found_in l.fn.slots) (found_in l.slots);
+  fails : IfSome l.nearest (IsFailBelow (origin_at l.origin l.view));
+  below : (c : ℕ) (node : Node) → c < l.i → slice_get l.view.children c ≡ Some node → NodeCollected (origin_at l.origin l.view) (settled_in l.slots) l.nearest node;
 }

@@ -26,7 +26,7 @@ pub loop-node-preserved : goal.loop-node-preserved
 loop-node-preserved c =
     let more = at_drop_more path_of c.args.path.now c.loop-node.node-index no_node c.loop-node-test.true in
     let up = rw more at c.loop-node.invariant.rest in
-    let moved : c.lead_on.new.steps ≡ record c.args.steps.now { place = c.lead_on.new.steps.place } = rw c.loop-node.invariant.moved at c.in_ok-lead_on.ensures.moved in
+    let moved : c.lead_on.new.cursor ≡ record c.args.cursor.now { place = c.lead_on.new.cursor.place } = rw c.loop-node.invariant.moved at c.in_ok-lead_on.ensures.moved in
     let leads = rw c.loop-node.invariant.moved at (c.in_ok-lead_on.ensures.leads c.if-not-branch.false) in
     let skippable = rw c.loop-node.invariant.moved at c.loop-node.invariant.skippable in
     record { moved = moved; skippable = rw moved (λ e. leads_whole leads (skippable e)); rest = λ o e. up o (goes_on leads e) }

@@ -3,7 +3,8 @@ use Rattle.std.proofs.Common.{◌≡◌, ℕ, List, [], refl}
 use Rattle.std.specs.Prelude.{Result, Ok, Err, IfOk, OnOk}
 use Rattle.std.proofs.lemmas.Result.{IfErr-weaker}
 use Rattle.sonic_find.proofs.GetLemmas.{rest_found, rest_cut}
-use Rattle.sonic_find.specs.Internal.Follow.{lacks_so, IsRest}
+use Rattle.sonic_find.specs.Internal.Follow.{IsRest}
+use Rattle.sonic_find.specs.DeadEnds.{lacks_so}
 use Rattle.sonic_find.specs.Paths.{found, Evaluates}
 use Rattle.sonic_parser.specs.declared.fault.Fault.{Fault}
 use Rattle.sonic_parser.specs.declared.value_span.ValueSpan.{ValueSpan}

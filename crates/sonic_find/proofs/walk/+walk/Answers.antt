@@ -164,29 +164,29 @@ item-returns-clause-passed t c =
     let done = rw c.visit.ensures at c.is_wanted-more.ensures.done in
     rw c.visit.ensures (child_passed m later settled (λ w. value (asked_or_lacks (set c.args.visited.now c.in-Some.unvisited true) c.is_wanted-more.result done w)))
 
-pub items-returns-in_err-enter-clause-err : goal.items-returns-in_err-enter-clause-err
-items-returns-in_err-enter-clause-err t c =
+pub items-returns-in_err-enter_or_explain-clause-err : goal.items-returns-in_err-enter_or_explain-clause-err
+items-returns-in_err-enter_or_explain-clause-err t c =
     let p = err_from_is_err_and c.from_residual.result c.from_residual.ensures.1 in
-    let e = rw (← c.requires.start) at c.in_err-enter.ensures.err in
-    rw (p.1, p.2) (stop_weaker c.in_err-enter.field-0.0 (λ s f. entry_stops c.requires.container c.requires.some f) e)
+    let e = rw (← c.requires.start) at c.in_err-enter_or_explain.ensures.err in
+    rw (p.1, p.2) (stop_weaker c.in_err-enter_or_explain.field-0.0 (λ s f. entry_stops c.requires.container c.requires.some f) e)
 
 pub items-items-init : goal.items-items-init
 items-items-init t c =
-    let fit = c.in_ok-enter.ensures.ok in
+    let fit = c.in_ok-enter_or_explain.ensures.ok in
     let place = items-later fit in
     let within = items_within fit in
     let at_start = rw (← c.requires.start) at fit in
     let none = rw c.count.ensures.count at c.in_ok-visited.ensures.none in
     record {
-      text = ap (λ walk. walk.text) c.in_ok-enter.ensures.moved;
-      rule = ap (λ walk. walk.rule) c.in_ok-enter.ensures.moved;
+      text = ap (λ walk. walk.text) c.in_ok-enter_or_explain.ensures.moved;
+      rule = ap (λ walk. walk.rule) c.in_ok-enter_or_explain.ensures.moved;
       place = place;
-      within = rw c.in_ok-enter.ensures.moved (omega arith);
-      before = rw c.in_ok-enter.ensures.moved
+      within = rw c.in_ok-enter_or_explain.ensures.moved (omega arith);
+      before = rw c.in_ok-enter_or_explain.ensures.moved
           (first_followed c.requires.container at_start c.requires.are (c.in_ok-visited.ensures.long ∙ c.count.ensures.count) none);
       wanted = inr (inr (first_wanted (container_at c.args.walk.now c.args.level.now) _ c.requires.some none));
-      later = rw c.in_ok-enter.ensures.moved (not_later c.requires.are);
-      marks = rw c.in_ok-enter.ensures.moved (keeps_later c.requires.marks (omega (arith, place)));
+      later = rw c.in_ok-enter_or_explain.ensures.moved (not_later c.requires.are);
+      marks = rw c.in_ok-enter_or_explain.ensures.moved (keeps_later c.requires.marks (omega (arith, place)));
       none = λ k later less. absurd (omega (arith, less));
     }
 

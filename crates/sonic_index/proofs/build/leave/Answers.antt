@@ -1,7 +1,7 @@
 use Rattle.std.proofs.Common.{arith}
 use Rattle.std.proofs.lemmas.List.{length-set}
 use Rattle.std.proofs.lemmas.Result.{err_from_is_err_and}
-use Rattle.sonic_parser.specs.declared.container.Next.TheVariants.{Item, End}
+use Rattle.sonic_parser.specs.declared.container.AfterItem.TheVariants.{Item, End}
 use Rattle.sonic_parser.specs.Parts.{IsAfterValue}
 use Rattle.sonic_index.proofs.PlaceLemmas.{container_left, item_follows, next_fault, outer_opens, root_left}
 use Rattle.sonic_index.proofs.build.leave.Goals as goal

@@ -3,8 +3,8 @@ use Rattle.sonic_find.proofs.HonestLemmas.{honest_of_invalid}
 use Rattle.sonic_find.proofs.DocumentLemmas.{alone_part, reason_either, invalid_error, valid_but_memory}
 use Rattle.sonic_lazy.proofs.document.from_str.Goals as goal
 
-pub entry-requires : goal.entry-requires
-entry-requires c κs =
+pub at-requires : goal.at-requires
+at-requires c κs =
     let text = c.unscanned.ensures.text ∙ c.as_bytes-text.ensures.value in
     let alone = rw text at c.in-Ok.ensures.ok in
     let escaped = rw text at c.in-Ok.ensures.escaped in

@@ -3,8 +3,8 @@ use Rattle.std.proofs.Common.{refl}
 use Rattle.sonic_find.proofs.HonestLemmas.{honest_of_get}
 use Rattle.sonic_find.proofs.GetLemmas.{part_alone, get_refusal, get_but_memory}
 
-pub entry-requires : goal.entry-requires
-entry-requires g c κs =
+pub at-requires : goal.at-requires
+at-requires g c κs =
     let answer = rw (c.unscanned-read.ensures.text, c.to_json_slice.ensures.bytes, c.need_utf8_valid.ensures) at c.in-Ok.ensures.ok in
     let value = rw (c.unscanned-read.ensures.text, c.to_json_slice.ensures.bytes) at c.in-Ok.ensures.value in
     let escaped = rw (c.unscanned-read.ensures.text, c.to_json_slice.ensures.bytes) at c.in-Ok.ensures.escaped in
@@ -13,7 +13,7 @@ entry-requires g c κs =
 pub returns-in-Ok-clause-lookup : goal.returns-in-Ok-clause-lookup
 returns-in-Ok-clause-lookup g c =
     let answer = rw (c.unscanned-read.ensures.text, c.to_json_slice.ensures.bytes, c.need_utf8_valid.ensures) at c.in-Ok.ensures.ok in
-    record { ok = record { start = _; end = _; answer = answer; shown = c.entry.ensures }; err = tt; complete = λ _. tt }
+    record { ok = record { start = _; end = _; answer = answer; shown = c.at.ensures }; err = tt; complete = λ _. tt }
 
 pub returns-in-Err-clause-lookup : goal.returns-in-Err-clause-lookup
 returns-in-Err-clause-lookup g c =

@@ -4,7 +4,7 @@ use Rattle.std.specs.Prelude.{IsTrue, slice_range}
 use Rattle.std.specs.Str.{IsUtf8}
 use Rattle.sonic_input.specs.Slices.{slice_bytes}
 use Rattle.sonic_lazy.specs.Wholes.{IsWholeValue}
-use Rattle.sonic_parser.specs.Parsers.{Parsing, IsSkipped}
+use Rattle.sonic_parser.specs.Parsers.{ParserState, IsSkipped}
 use Rattle.sonic_parser.specs.declared.status.ParseStatus.{ParseStatus}
 use Rattle.sonic_parser.specs.declared.status.ParseStatus.TheVariants.{HasEscaped}
 use Rattle.sonic_text.proofs.Values.{value-longer}
@@ -27,7 +27,7 @@ span_is_whole t i j m x n u escapes =
     record { value = rw (start, end) at x; utf8 = u; escapes = rw (start, end) at escapes }
 
 -- a value that was skipped and is as long as the text is a whole one
-skipped_is_whole : {before now : Parsing} {bytes : List ℕ} {needs : ParseStatus} (raw : List ℕ) (m : Bool) → IsSkipped before now bytes needs
+skipped_is_whole : {before now : ParserState} {bytes : List ℕ} {needs : ParseStatus} (raw : List ℕ) (m : Bool) → IsSkipped before now bytes needs
     → before.lossy ≡ strict → before.text ≡ raw → length bytes ≡ length raw → IsUtf8 raw → IsTrue m ↔ (needs ≡ HasEscaped) → IsWholeValue raw m
 skipped_is_whole {before} {now} {bytes} {needs} raw m s mode text n u escapes =
     let x : IsValue strict raw (after_space raw before.place) now.place = rw (mode, text) at s.value in

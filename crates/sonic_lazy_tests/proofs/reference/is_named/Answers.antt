@@ -45,7 +45,7 @@ returns-in_err-string-in-Key-clause-err c =
 pub returns-in_ok-string-in-Key-clause-item : goal.returns-in_ok-string-in-Key-clause-item
 returns-in_ok-string-in-Key-clause-item c =
     let y = c.in_ok-string-in-Key.ensures.ok in
-    let test = rw (c.text.ensures, c.in_ok-string-in-Key.ensures.cursor, c.offset-start.ensures.place) at c.same_key.ensures in
+    let test = rw (c.text.ensures, c.in_ok-string-in-Key.ensures.moved, c.offset-start.ensures.place) at c.same_key.ensures in
     rw c.in-Key.is (member_tested (rw c.requires.reads at y.string) (rw c.requires.reads at y.key) test)
 
 pub returns-in-Index-clause-item : goal.returns-in-Index-clause-item

@@ -29,8 +29,8 @@ items-init c =
     let bracket = rw c.kind_of-kind.ensures at (sym byte ∙ (c.if-byte_at-opening.false ∙ c.opening.ensures)) in
     let entered = rw c.kind_of-kind.ensures at (c.if-not-enter.ensures.item refl) in
     record {
-      cursor = c.enter.ensures.cursor;
-      fit = rw c.enter.ensures.cursor (first_item bracket entered.value_start entered.item refl);
+      cursor = c.enter.ensures.moved;
+      fit = rw c.enter.ensures.moved (first_item bracket entered.value_start entered.item refl);
       seen = nothing_seen _ _ _ _;
       within = λ v e. absurd cc;
     }
@@ -47,7 +47,7 @@ returns-in_err-skip_value-clause-err c =
     let p = err_from_is_err_and c.from_residual-in_err-skip_value.result c.from_residual-in_err-skip_value.ensures.1 in
     let fit = rw c.items.invariant.cursor at c.items.invariant.fit in
     let item = rw c.items.invariant.cursor at c.in_ok-named.ensures.item in
-    let e = rw (c.in_ok-named.ensures.cursor, c.items.invariant.cursor, c.requires.reads) at c.in_err-skip_value.ensures.err in
+    let e = rw (c.in_ok-named.ensures.moved, c.items.invariant.cursor, c.requires.reads) at c.in_err-skip_value.ensures.err in
     rw (p.1, p.2) (stop_weaker c.in_err-skip_value.field-0.0 (λ s f. value_never_both c.requires.whole.1 (in_value fit item.1.head f)) e)
 
 pub returns-in_err-next_item-clause-err : goal.returns-in_err-next_item-clause-err
@@ -55,16 +55,16 @@ returns-in_err-next_item-clause-err c =
     let p = err_from_is_err_and c.from_residual-in_err-next_item.result c.from_residual-in_err-next_item.ensures.1 in
     let fit = rw c.items.invariant.cursor at c.items.invariant.fit in
     let item = rw c.items.invariant.cursor at c.in_ok-named.ensures.item in
-    let value = rw (c.in_ok-named.ensures.cursor, c.items.invariant.cursor, c.requires.reads) at c.in_ok-skip_value.ensures.ok.value in
-    let e = rw (c.in_ok-skip_value.ensures.cursor, c.in_ok-named.ensures.cursor, c.items.invariant.cursor, c.kind_of-kind.ensures) at c.in_err-next_item.ensures.err in
+    let value = rw (c.in_ok-named.ensures.moved, c.items.invariant.cursor, c.requires.reads) at c.in_ok-skip_value.ensures.ok.value in
+    let e = rw (c.in_ok-skip_value.ensures.moved, c.in_ok-named.ensures.moved, c.items.invariant.cursor, c.kind_of-kind.ensures) at c.in_err-next_item.ensures.err in
     rw (p.1, p.2) (value_never_both c.requires.whole.1 (after_item fit item.1.head value e.0 e.1))
 
 pub returns-then-not-branch-clause-on : goal.returns-then-not-branch-clause-on
 returns-then-not-branch-clause-on c = λ v e.
     let fit = rw c.items.invariant.cursor at c.items.invariant.fit in
     let item = rw c.items.invariant.cursor at c.in_ok-named.ensures.item in
-    let value = rw (c.in_ok-named.ensures.cursor, c.items.invariant.cursor, c.requires.reads) at c.in_ok-skip_value.ensures.ok.value in
-    let end = rw (c.in_ok-skip_value.ensures.cursor, c.in_ok-named.ensures.cursor, c.items.invariant.cursor) at (c.in_ok-next_item.ensures.end c.if-not-branch.true) in
+    let value = rw (c.in_ok-named.ensures.moved, c.items.invariant.cursor, c.requires.reads) at c.in_ok-skip_value.ensures.ok.value in
+    let end = rw (c.in_ok-skip_value.ensures.moved, c.in_ok-named.ensures.moved, c.items.invariant.cursor) at (c.in_ok-next_item.ensures.end c.if-not-branch.true) in
     let most = all_passed (past_byte fit item.1 value (λ comma. closing_no_comma c.kind_of-kind.result (sym end.0 ∙ comma))) in
     let after = c.after_item-way.ensures in
     let follows : c.in_ok-named.named ≡ true → IsWayAfter c.args.rule c.offset-head.result c.offset-value.result c.items.way c.after_item-way.result =
@@ -90,8 +90,8 @@ pub returns-then-not-branch-clause-nowhere : goal.returns-then-not-branch-clause
 returns-then-not-branch-clause-nowhere c = λ e.
     let fit = rw c.items.invariant.cursor at c.items.invariant.fit in
     let item = rw c.items.invariant.cursor at c.in_ok-named.ensures.item in
-    let value = rw (c.in_ok-named.ensures.cursor, c.items.invariant.cursor, c.requires.reads) at c.in_ok-skip_value.ensures.ok.value in
-    let end = rw (c.in_ok-skip_value.ensures.cursor, c.in_ok-named.ensures.cursor, c.items.invariant.cursor) at (c.in_ok-next_item.ensures.end c.if-not-branch.true) in
+    let value = rw (c.in_ok-named.ensures.moved, c.items.invariant.cursor, c.requires.reads) at c.in_ok-skip_value.ensures.ok.value in
+    let end = rw (c.in_ok-skip_value.ensures.moved, c.in_ok-named.ensures.moved, c.items.invariant.cursor) at (c.in_ok-next_item.ensures.end c.if-not-branch.true) in
     let most = all_passed (past_byte fit item.1 value (λ comma. closing_no_comma c.kind_of-kind.result (sym end.0 ∙ comma))) in
     let after = c.after_item-way.ensures in
     let follows : c.in_ok-named.named ≡ true → IsWayAfter c.args.rule c.offset-head.result c.offset-value.result c.items.way c.after_item-way.result =
@@ -112,17 +112,17 @@ pub items-smaller : goal.items-smaller
 items-smaller c =
     let later = head-later c.in_ok-named.ensures.item.1.head in
     let next = separated_later _ _ (c.in_ok-next_item.ensures.item c.if-not-branch.false) in
-    let named = ap (λ p. length p.text) c.in_ok-named.ensures.cursor in
-    let skipped = ap (λ p. length p.text) c.in_ok-skip_value.ensures.cursor in
-    let long = ap (λ p. length p.text) c.in_ok-next_item.ensures.cursor in
+    let named = ap (λ p. length p.text) c.in_ok-named.ensures.moved in
+    let skipped = ap (λ p. length p.text) c.in_ok-skip_value.ensures.moved in
+    let long = ap (λ p. length p.text) c.in_ok-next_item.ensures.moved in
     omega (arith, later, c.in_ok-skip_value.ensures.ok.later, next.0, next.1, named, skipped, long)
 
 pub items-preserved : goal.items-preserved
 items-preserved c =
     let fit = rw c.items.invariant.cursor at c.items.invariant.fit in
     let item = rw c.items.invariant.cursor at c.in_ok-named.ensures.item in
-    let value = rw (c.in_ok-named.ensures.cursor, c.items.invariant.cursor, c.requires.reads) at c.in_ok-skip_value.ensures.ok.value in
-    let comma = rw (c.in_ok-skip_value.ensures.cursor, c.in_ok-named.ensures.cursor, c.items.invariant.cursor) at (c.in_ok-next_item.ensures.item c.if-not-branch.false) in
+    let value = rw (c.in_ok-named.ensures.moved, c.items.invariant.cursor, c.requires.reads) at c.in_ok-skip_value.ensures.ok.value in
+    let comma = rw (c.in_ok-skip_value.ensures.moved, c.in_ok-named.ensures.moved, c.items.invariant.cursor) at (c.in_ok-next_item.ensures.item c.if-not-branch.false) in
     let next = next_item fit item.1.head value comma.0 comma.1 refl in
     let after = c.after_item-way.ensures in
     let follows : c.in_ok-named.named ≡ true → IsWayAfter c.args.rule c.offset-head.result c.offset-value.result c.items.way c.after_item-way.result =
@@ -131,11 +131,11 @@ items-preserved c =
     let seen = rw c.items.invariant.cursor at c.items.invariant.seen in
     let now = seen_after _ c.requires.counts there after.other fit item.1 item.2 item.3 seen in
     record {
-      cursor = rw (c.in_ok-next_item.ensures.cursor, c.in_ok-skip_value.ensures.cursor, c.in_ok-named.ensures.cursor, c.items.invariant.cursor) refl;
-      fit = rw (c.in_ok-next_item.ensures.cursor, c.in_ok-skip_value.ensures.cursor, c.in_ok-named.ensures.cursor, c.items.invariant.cursor) next;
-      seen = rw (c.in_ok-next_item.ensures.cursor, c.in_ok-skip_value.ensures.cursor, c.in_ok-named.ensures.cursor, c.items.invariant.cursor) now;
+      cursor = rw (c.in_ok-next_item.ensures.moved, c.in_ok-skip_value.ensures.moved, c.in_ok-named.ensures.moved, c.items.invariant.cursor) refl;
+      fit = rw (c.in_ok-next_item.ensures.moved, c.in_ok-skip_value.ensures.moved, c.in_ok-named.ensures.moved, c.items.invariant.cursor) next;
+      seen = rw (c.in_ok-next_item.ensures.moved, c.in_ok-skip_value.ensures.moved, c.in_ok-named.ensures.moved, c.items.invariant.cursor) now;
       within = λ v e. elim (after.either v e) [
-        | inl same ↦ rw (c.in_ok-next_item.ensures.cursor, c.in_ok-skip_value.ensures.cursor, same) c.offset-value.ensures.inside
-        | inr before ↦ rw (c.in_ok-next_item.ensures.cursor, c.in_ok-skip_value.ensures.cursor, c.in_ok-named.ensures.cursor) (c.items.invariant.within v before)
+        | inl same ↦ rw (c.in_ok-next_item.ensures.moved, c.in_ok-skip_value.ensures.moved, same) c.offset-value.ensures.inside
+        | inr before ↦ rw (c.in_ok-next_item.ensures.moved, c.in_ok-skip_value.ensures.moved, c.in_ok-named.ensures.moved) (c.items.invariant.within v before)
       ];
     }

@@ -26,8 +26,8 @@ items-init c =
     let bracket = rw c.kind_of-kind.ensures at (sym byte ∙ (c.if-byte_at-opening.false ∙ c.opening.ensures)) in
     let entered = rw c.kind_of-kind.ensures at (c.if-not-enter.ensures.item refl) in
     record {
-      cursor = c.enter.ensures.cursor;
-      none = rw c.enter.ensures.cursor (first_unnamed (node_of c.args.node.now) (first_item bracket entered.value_start entered.item refl));
+      cursor = c.enter.ensures.moved;
+      none = rw c.enter.ensures.moved (first_unnamed (node_of c.args.node.now) (first_item bracket entered.value_start entered.item refl));
     }
 
 pub returns-in_err-is_named-clause-err : goal.returns-in_err-is_named-clause-err
@@ -47,7 +47,7 @@ returns-in_err-skip_value-clause-err c =
     let p = err_from_is_err_and c.from_residual-in_err-skip_value.result c.from_residual-in_err-skip_value.ensures.1 in
     let none = rw c.items.invariant.cursor at c.items.invariant.none in
     let item = rw c.items.invariant.cursor at c.in_ok-is_named.ensures.item in
-    let e = rw (c.in_ok-is_named.ensures.cursor, c.items.invariant.cursor, c.requires.reads) at c.in_err-skip_value.ensures.err in
+    let e = rw (c.in_ok-is_named.ensures.moved, c.items.invariant.cursor, c.requires.reads) at c.in_err-skip_value.ensures.err in
     rw (p.1, p.2) (stop_weaker c.in_err-skip_value.field-0.0 (λ s f. none_leads none (not_named item.1 (item.3 c.if-branch.false)) (past_value none.fit item.1 f)) e)
 
 pub returns-in_err-next_item-clause-err : goal.returns-in_err-next_item-clause-err
@@ -55,16 +55,16 @@ returns-in_err-next_item-clause-err c =
     let p = err_from_is_err_and c.from_residual-in_err-next_item.result c.from_residual-in_err-next_item.ensures.1 in
     let none = rw c.items.invariant.cursor at c.items.invariant.none in
     let item = rw c.items.invariant.cursor at c.in_ok-is_named.ensures.item in
-    let value = rw (c.in_ok-is_named.ensures.cursor, c.items.invariant.cursor, c.requires.reads) at c.in_ok-skip_value.ensures.ok.value in
-    let e = rw (c.in_ok-skip_value.ensures.cursor, c.in_ok-is_named.ensures.cursor, c.items.invariant.cursor) at c.in_err-next_item.ensures.err in
+    let value = rw (c.in_ok-is_named.ensures.moved, c.items.invariant.cursor, c.requires.reads) at c.in_ok-skip_value.ensures.ok.value in
+    let e = rw (c.in_ok-skip_value.ensures.moved, c.in_ok-is_named.ensures.moved, c.items.invariant.cursor) at c.in_err-next_item.ensures.err in
     rw (p.1, p.2) (none_leads none (not_named item.1 (item.3 c.if-branch.false)) (past_byte none.fit item.1 value e.0.0))
 
 pub returns-then-not-branch-clause-no : goal.returns-then-not-branch-clause-no
 returns-then-not-branch-clause-no c = λ e.
     let none = rw c.items.invariant.cursor at c.items.invariant.none in
     let item = rw c.items.invariant.cursor at c.in_ok-is_named.ensures.item in
-    let value = rw (c.in_ok-is_named.ensures.cursor, c.items.invariant.cursor, c.requires.reads) at c.in_ok-skip_value.ensures.ok.value in
-    let end = rw (c.in_ok-skip_value.ensures.cursor, c.in_ok-is_named.ensures.cursor, c.items.invariant.cursor) at (c.in_ok-next_item.ensures.end c.if-not-branch.true) in
+    let value = rw (c.in_ok-is_named.ensures.moved, c.items.invariant.cursor, c.requires.reads) at c.in_ok-skip_value.ensures.ok.value in
+    let end = rw (c.in_ok-skip_value.ensures.moved, c.in_ok-is_named.ensures.moved, c.items.invariant.cursor) at (c.in_ok-next_item.ensures.end c.if-not-branch.true) in
     none_leads none (not_named item.1 (item.3 c.if-branch.false)) (past_byte none.fit item.1 value (λ comma. closing_no_comma c.kind_of-kind.result (sym end.0 ∙ comma)))
 
 pub overflow_add-passed : goal.overflow_add-passed
@@ -78,20 +78,20 @@ pub items-smaller : goal.items-smaller
 items-smaller c =
     let later = head-later c.in_ok-is_named.ensures.item.1.head in
     let next = separated_later _ _ (c.in_ok-next_item.ensures.item c.if-not-branch.false) in
-    let named = ap (λ p. length p.text) c.in_ok-is_named.ensures.cursor in
-    let skipped = ap (λ p. length p.text) c.in_ok-skip_value.ensures.cursor in
-    let long = ap (λ p. length p.text) c.in_ok-next_item.ensures.cursor in
+    let named = ap (λ p. length p.text) c.in_ok-is_named.ensures.moved in
+    let skipped = ap (λ p. length p.text) c.in_ok-skip_value.ensures.moved in
+    let long = ap (λ p. length p.text) c.in_ok-next_item.ensures.moved in
     omega (arith, later, c.in_ok-skip_value.ensures.ok.later, next.0, next.1, named, skipped, long)
 
 pub items-preserved : goal.items-preserved
 items-preserved c =
     let none = rw c.items.invariant.cursor at c.items.invariant.none in
     let item = rw c.items.invariant.cursor at c.in_ok-is_named.ensures.item in
-    let value = rw (c.in_ok-is_named.ensures.cursor, c.items.invariant.cursor, c.requires.reads) at c.in_ok-skip_value.ensures.ok.value in
-    let comma = rw (c.in_ok-skip_value.ensures.cursor, c.in_ok-is_named.ensures.cursor, c.items.invariant.cursor) at (c.in_ok-next_item.ensures.item c.if-not-branch.false) in
+    let value = rw (c.in_ok-is_named.ensures.moved, c.items.invariant.cursor, c.requires.reads) at c.in_ok-skip_value.ensures.ok.value in
+    let comma = rw (c.in_ok-skip_value.ensures.moved, c.in_ok-is_named.ensures.moved, c.items.invariant.cursor) at (c.in_ok-next_item.ensures.item c.if-not-branch.false) in
     let next = next_item none.fit item.1.head value comma.0 comma.1 refl in
     record {
-      cursor = rw (c.in_ok-next_item.ensures.cursor, c.in_ok-skip_value.ensures.cursor, c.in_ok-is_named.ensures.cursor, c.items.invariant.cursor) refl;
-      none = rw (c.in_ok-next_item.ensures.cursor, c.in_ok-skip_value.ensures.cursor, c.in_ok-is_named.ensures.cursor, c.items.invariant.cursor)
+      cursor = rw (c.in_ok-next_item.ensures.moved, c.in_ok-skip_value.ensures.moved, c.in_ok-is_named.ensures.moved, c.items.invariant.cursor) refl;
+      none = rw (c.in_ok-next_item.ensures.moved, c.in_ok-skip_value.ensures.moved, c.in_ok-is_named.ensures.moved, c.items.invariant.cursor)
           (one_more_unnamed none item.1 (item.3 c.if-branch.false) next refl);
     }

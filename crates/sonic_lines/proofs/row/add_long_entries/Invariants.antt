@@ -5,4 +5,4 @@ use Rattle.sonic_lines.proofs.row.add_long_entries.Given as goal
 
 -- the entries of the slots before are appended
 abbrev pub invariant-loop-number : goal.invariant-loop-number
-invariant-loop-number l = l.out.items ≡ l.fn.out.items ++ entries_text l.line (pairs_of (take l.number l.room))
+invariant-loop-number l = l.out.items ≡ l.fn.out.items ++ entries_text l.line (pairs_of (take l.number l.buffers))

@@ -12,12 +12,12 @@ IfErr_then (Err e) f h = f e h
 pub returns-clause-ok : goal.returns-clause-ok
 returns-clause-ok c =
     let text = c.from_utf8_unchecked-text in
-    rw (← text.ensures) (on_ok_weaker c.fill_room.result (λ a. text_answer text.utf8 a) c.fill_room.ensures.ok)
+    rw (← text.ensures) (on_ok_weaker c.fill_buffers.result (λ a. text_answer text.utf8 a) c.fill_buffers.ensures.ok)
 
 pub returns-clause-parts : goal.returns-clause-parts
-returns-clause-parts c = rw (← c.from_utf8_unchecked-text.ensures) c.fill_room.ensures.parts
+returns-clause-parts c = rw (← c.from_utf8_unchecked-text.ensures) c.fill_buffers.ensures.parts
 
 pub returns-clause-err : goal.returns-clause-err
 returns-clause-err c =
     let text = c.from_utf8_unchecked-text in
-    rw (← text.ensures) (IfErr_then c.fill_room.result (λ fault a. stop_weaker fault (λ s x. text_answer text.utf8 x) a) c.fill_room.ensures.err)
+    rw (← text.ensures) (IfErr_then c.fill_buffers.result (λ fault a. stop_weaker fault (λ s x. text_answer text.utf8 x) a) c.fill_buffers.ensures.err)

@@ -7,10 +7,10 @@ use Rattle.sonic_lines.proofs.short.put_entries.Given as goal
 -- the entries from a slot on are put
 abbrev pub invariant-loop-number : goal.invariant-loop-number
 invariant-loop-number l = record {
-  number : l.number ≤ length l.room;
+  number : l.number ≤ length l.buffers;
   some : 0 < l.at;
   within : l.at ≤ 128;
-  text : drop l.at l.short ≡ entries_text l.line (pairs_of (drop l.number l.room)) ++ codes "\n";
+  text : drop l.at l.short ≡ entries_text l.line (pairs_of (drop l.number l.buffers)) ++ codes "\n";
 }
 
 abbrev pub decreases-loop-number : goal.decreases-loop-number

@@ -1,5 +1,5 @@
 use Rattle.std.proofs.Common.{◌≡◌, ◌-◌, ◌<◌, ◌≤◌, length, take}
-use Rattle.sonic_blocks.specs.Internal.Carried.{AreCarried}
+use Rattle.sonic_blocks.specs.Carried.{AreCarried}
 use Rattle.sonic_min.specs.Internal.Kept.{kept}
 use Rattle.sonic_min.proofs.small.kept_over.Given as goal
 

@@ -18,7 +18,7 @@ pass_block-requires-clause-marks c =
     let inside = c.get_string_bits-inside in
     let block : IsBlock c.args.text.now 0 c.loop-place.place c.loop-place.in_escape c.loop-place.in_string c.block_at-block.result.backslash c.block_at-block.result.quote inside.result =
     record { carried = c.loop-place.invariant.carried; backslashes = are.backslash; quotes = are.quote; small = omega arith; bits = inside.ensures.bits } in
-    block_marks c.args.text.now c.block_at-block.result.points block are.points
+    block_marks c.args.text.now c.block_at-block.result.structurals block are.structurals
 
 pub loop-place-preserved : goal.loop-place-preserved
 loop-place-preserved c =

@@ -1,5 +1,5 @@
 use Rattle.std.proofs.Common.{◌-◌, length}
-use Rattle.sonic_blocks.specs.Internal.Carried.{AreCarried}
+use Rattle.sonic_blocks.specs.Carried.{AreCarried}
 use Rattle.sonic_min.specs.Internal.Lines.{IsLaidTo}
 use Rattle.sonic_min.specs.Internal.Marks.{HasNoMark}
 use Rattle.sonic_min.proofs.wide.lay_out.Given as goal

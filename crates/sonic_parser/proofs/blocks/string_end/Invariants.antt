@@ -1,6 +1,6 @@
 use Rattle.std.proofs.Common.{◌≡◌, ℕ, ◌-◌, ◌≤◌, true}
 use Rattle.sonic_blocks.specs.Outside.{is_inside_at}
-use Rattle.sonic_blocks.specs.Internal.Carried.{AreCarried}
+use Rattle.sonic_blocks.specs.Carried.{AreCarried}
 use Rattle.sonic_parser.specs.Internal.Unchecked.{IsInsideString}
 use Rattle.sonic_parser.proofs.blocks.string_end.Given as goal
 

@@ -1,6 +1,6 @@
 use Rattle.std.proofs.Common.{◌≡◌, ◌+◌, ◌∙◌, take, arith, refl, sym}
 use Rattle.std.proofs.lemmas.List.{take_more_set, length-set}
-use Rattle.sonic_parser.specs.declared.quick.Ahead.TheVariants.{Inside, Value}
+use Rattle.sonic_parser.specs.declared.quick.Peek.TheVariants.{Inside, Value}
 use Rattle.sonic_parser.specs.Parts.{IsValueEnd}
 use Rattle.sonic_parser.proofs.SkippingLemmas.{item_inside, item_ended, next_expected, top_of_first}
 use Rattle.sonic_parser.proofs.quick.pass_items.Goals as goal
@@ -34,10 +34,10 @@ items-preserved-in-items c =
           (opened.reached c.args.lossy root (rw (take_more_set c.items.kinds c.items.depth c.in-Inside.inner (omega (arith, i.room, c.if-depth-kinds.true))) (item_inside (i.reached root before).1 i.top c.in-Some.ensures c.in-Inside.ensures)));
     }
 
-pub items-preserved-in-Next : goal.items-preserved-in-Next
-items-preserved-in-Next c =
+pub items-preserved-in-AfterItem : goal.items-preserved-in-AfterItem
+items-preserved-in-AfterItem c =
     let i = c.items.invariant in
-    let ahead = c.in-Next.ensures in
+    let ahead = c.in-AfterItem.ensures in
     let after = ahead.2 c.items.kind in
     record {
       within = after.1;
@@ -48,9 +48,9 @@ items-preserved-in-Next c =
       reached = λ root before. next_expected c.items.kind (item_ended (i.reached root before).1 i.top c.in-Some.ensures ahead.1) after;
     }
 
-pub items-smaller-in-Next : goal.items-smaller-in-Next
-items-smaller-in-Next c =
-    let ahead = c.in-Next.ensures in
+pub items-smaller-in-AfterItem : goal.items-smaller-in-AfterItem
+items-smaller-in-AfterItem c =
+    let ahead = c.in-AfterItem.ensures in
     let after = ahead.2 c.items.kind in
     omega (arith, after.0, after.1, ahead.1.0, c.in-Some.ensures.later)
 

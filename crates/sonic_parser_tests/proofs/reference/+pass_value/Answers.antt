@@ -14,7 +14,7 @@ returns-then-not-enter-clause-value t c =
 pub items-init : goal.items-init
 items-init t c =
     let entered = c.if-not-enter.ensures.item refl in
-    record { cursor = c.if-not-enter.ensures.cursor; expected = first_expected c.in-Some.kind c.in-Some.ensures entered.value_start entered.item }
+    record { cursor = c.if-not-enter.ensures.moved; expected = first_expected c.in-Some.kind c.in-Some.ensures entered.value_start entered.item }
 
 pub returns-in_err-pass_head-clause-err : goal.returns-in_err-pass_head-clause-err
 returns-in_err-pass_head-clause-err t c =
@@ -26,7 +26,7 @@ pub pass_value-requires : goal.pass_value-requires
 pass_value-requires t c =
     let head = rw c.items.invariant.cursor at c.in_ok-pass_head.ensures.head in
     let later = value_later c.items.invariant.expected head in
-    let named = ap (λ p. length p.text) c.in_ok-pass_head.ensures.cursor in
+    let named = ap (λ p. length p.text) c.in_ok-pass_head.ensures.moved in
     let gone = ap (λ p. length p.text) c.items.invariant.cursor in
     (omega (arith, later, c.items.invariant.expected.within, named, gone), tt)
 
@@ -34,15 +34,15 @@ pub returns-in_err-pass_value-clause-err : goal.returns-in_err-pass_value-clause
 returns-in_err-pass_value-clause-err t c =
     let p = err_from_is_err_and c.from_residual-in_err-pass_value.result c.from_residual-in_err-pass_value.ensures.1 in
     let head = rw c.items.invariant.cursor at c.in_ok-pass_head.ensures.head in
-    let e = rw (c.in_ok-pass_head.ensures.cursor, c.items.invariant.cursor) at c.in_err-pass_value.ensures.err in
+    let e = rw (c.in_ok-pass_head.ensures.moved, c.items.invariant.cursor) at c.in_err-pass_value.ensures.err in
     rw (p.1, p.2) (stop_weaker c.in_err-pass_value.field-0.0 (λ s f. value_breaks c.items.invariant.expected head f) e)
 
 pub returns-in_err-next_item-clause-err : goal.returns-in_err-next_item-clause-err
 returns-in_err-next_item-clause-err t c =
     let p = err_from_is_err_and c.from_residual-in_err-next_item.result c.from_residual-in_err-next_item.ensures.1 in
     let head = rw c.items.invariant.cursor at c.in_ok-pass_head.ensures.head in
-    let value = rw (c.in_ok-pass_head.ensures.cursor, c.items.invariant.cursor) at c.in_ok-pass_value.ensures.value in
-    let e = rw (c.in_ok-pass_value.ensures.cursor, c.in_ok-pass_head.ensures.cursor, c.items.invariant.cursor) at c.in_err-next_item.ensures.err in
+    let value = rw (c.in_ok-pass_head.ensures.moved, c.items.invariant.cursor) at c.in_ok-pass_value.ensures.value in
+    let e = rw (c.in_ok-pass_value.ensures.moved, c.in_ok-pass_head.ensures.moved, c.items.invariant.cursor) at c.in_err-next_item.ensures.err in
     rw (p.1, p.2) (separator_breaks c.items.invariant.expected head value e)
 
 pub returns-then-not-branch-clause-later : goal.returns-then-not-branch-clause-later
@@ -56,28 +56,28 @@ returns-then-not-branch-clause-later t c =
 pub returns-then-not-branch-clause-value : goal.returns-then-not-branch-clause-value
 returns-then-not-branch-clause-value t c =
     let head = rw c.items.invariant.cursor at c.in_ok-pass_head.ensures.head in
-    let value = rw (c.in_ok-pass_head.ensures.cursor, c.items.invariant.cursor) at c.in_ok-pass_value.ensures.value in
-    let end = rw (c.in_ok-pass_value.ensures.cursor, c.in_ok-pass_head.ensures.cursor, c.items.invariant.cursor) at (c.in_ok-next_item.ensures.end c.if-not-branch.true) in
+    let value = rw (c.in_ok-pass_head.ensures.moved, c.items.invariant.cursor) at c.in_ok-pass_value.ensures.value in
+    let end = rw (c.in_ok-pass_value.ensures.moved, c.in_ok-pass_head.ensures.moved, c.items.invariant.cursor) at (c.in_ok-next_item.ensures.end c.if-not-branch.true) in
     bracket_ends c.items.invariant.expected head value end
 
 pub items-smaller : goal.items-smaller
 items-smaller t c =
     let head = rw c.items.invariant.cursor at c.in_ok-pass_head.ensures.head in
-    let value = rw (c.in_ok-pass_head.ensures.cursor, c.items.invariant.cursor) at c.in_ok-pass_value.ensures.value in
-    let comma = rw (c.in_ok-pass_value.ensures.cursor, c.in_ok-pass_head.ensures.cursor, c.items.invariant.cursor) at (c.in_ok-next_item.ensures.item c.if-not-branch.false) in
+    let value = rw (c.in_ok-pass_head.ensures.moved, c.items.invariant.cursor) at c.in_ok-pass_value.ensures.value in
+    let comma = rw (c.in_ok-pass_value.ensures.moved, c.in_ok-pass_head.ensures.moved, c.items.invariant.cursor) at (c.in_ok-next_item.ensures.item c.if-not-branch.false) in
     let next = next_later head value comma in
     let gone = ap (λ p. length p.text) c.items.invariant.cursor in
-    let named = ap (λ p. length p.text) c.in_ok-pass_head.ensures.cursor in
-    let passed = ap (λ p. length p.text) c.in_ok-pass_value.ensures.cursor in
-    let moved = ap (λ p. length p.text) c.in_ok-next_item.ensures.cursor in
+    let named = ap (λ p. length p.text) c.in_ok-pass_head.ensures.moved in
+    let passed = ap (λ p. length p.text) c.in_ok-pass_value.ensures.moved in
+    let moved = ap (λ p. length p.text) c.in_ok-next_item.ensures.moved in
     omega (arith, next.0, next.1, gone, named, passed, moved)
 
 pub items-preserved : goal.items-preserved
 items-preserved t c =
     let head = rw c.items.invariant.cursor at c.in_ok-pass_head.ensures.head in
-    let value = rw (c.in_ok-pass_head.ensures.cursor, c.items.invariant.cursor) at c.in_ok-pass_value.ensures.value in
-    let comma = rw (c.in_ok-pass_value.ensures.cursor, c.in_ok-pass_head.ensures.cursor, c.items.invariant.cursor) at (c.in_ok-next_item.ensures.item c.if-not-branch.false) in
+    let value = rw (c.in_ok-pass_head.ensures.moved, c.items.invariant.cursor) at c.in_ok-pass_value.ensures.value in
+    let comma = rw (c.in_ok-pass_value.ensures.moved, c.in_ok-pass_head.ensures.moved, c.items.invariant.cursor) at (c.in_ok-next_item.ensures.item c.if-not-branch.false) in
     record {
-      cursor = rw (c.in_ok-next_item.ensures.cursor, c.in_ok-pass_value.ensures.cursor, c.in_ok-pass_head.ensures.cursor, c.items.invariant.cursor) refl;
+      cursor = rw (c.in_ok-next_item.ensures.moved, c.in_ok-pass_value.ensures.moved, c.in_ok-pass_head.ensures.moved, c.items.invariant.cursor) refl;
       expected = next_expected c.items.invariant.expected head value comma;
     }

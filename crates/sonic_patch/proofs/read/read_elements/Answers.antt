@@ -5,13 +5,13 @@ use Rattle.sonic_patch.proofs.ElementLemmas.{none_first, element_first, all_firs
 use Rattle.sonic_patch.proofs.RefusalLemmas.{refuses_weaker}
 use Rattle.sonic_patch.proofs.read.read_elements.Goals as goal
 use Rattle.sonic_patch.specs.Internal.Elements.{IsFaultIn, IsFaultOf}
-use Rattle.sonic_lazy.specs.Iterators.{Iterating}
+use Rattle.sonic_lazy.specs.Iterators.{IteratorState}
 use Rattle.sonic_lazy.specs.LazyValues.{raw_bytes}
 use Rattle.sonic_patch.specs.Views.{operation_of}
 
 pub elements-init : goal.elements-init
 elements-init c =
-    let zero = ap (λ (it : Iterating). it.given) c.requires.fresh in
+    let zero = ap (λ (it : IteratorState). it.given) c.requires.fresh in
     record {
       going = rw c.requires.fresh refl;
       first = rw (zero, c.new-operations.ensures.items) none_first;

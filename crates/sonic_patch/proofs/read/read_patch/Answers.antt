@@ -2,7 +2,7 @@ use Rattle.std.proofs.Common.{◌≡◌, ◌∙◌, ap}
 use Rattle.std.proofs.lemmas.Result.{IfErr-weaker}
 use Rattle.sonic_find.specs.Documents.{IsDocumentValue}
 use Rattle.sonic_lazy.proofs.WholeLemmas.{false_not_true}
-use Rattle.sonic_lazy.specs.Iterators.{Iterating}
+use Rattle.sonic_lazy.specs.Iterators.{IteratorState}
 use Rattle.sonic_lazy.specs.LazyValues.{raw_bytes}
 use Rattle.sonic_patch.proofs.ElementLemmas.{elements_array}
 use Rattle.sonic_patch.proofs.RefusalLemmas.{fault_no_patch, json_reason}
@@ -11,7 +11,7 @@ use Rattle.sonic_patch.proofs.read.read_patch.Goals as goal
 
 pub returns-in-Some-clause-err : goal.returns-in-Some-clause-err
 returns-in-Some-clause-err c =
-    let text : c.in-Some.elements.text ≡ raw_bytes c.in-Ok.value = ap (λ (it : Iterating). it.text) c.in-Some.ensures.elements in
+    let text : c.in-Some.elements.text ≡ raw_bytes c.in-Ok.value = ap (λ (it : IteratorState). it.text) c.in-Some.ensures.elements in
     let value : IsDocumentValue c.args.json.now c.in-Some.elements.text = rw text c.in-Ok.ensures.ok in
     IfErr-weaker c.read_elements.result _ _ (λ e h. fault_no_patch e value h) c.read_elements.ensures.err
 

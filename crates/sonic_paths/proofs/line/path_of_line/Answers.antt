@@ -10,7 +10,7 @@ returns-in_default-2-clause-none c =
 
 pub returns-clause-none : goal.returns-clause-none
 returns-clause-none c =
-    let text = ap (λ p. p.text) c.in_ok-path.ensures.cursor in
+    let text = ap (λ p. p.text) c.in_ok-path.ensures.moved in
     let read = rw c.in-Some.is at c.in_ok-path.ensures.path in
     let array = rw (c.skip_space_peek.ensures.moved, c.new-parser.ensures.text, c.new-parser.ensures.place, c.from.ensures.text, c.from.ensures.place, c.in-Ok.ensures.cases.0) at read.1 in
     let more = rw (text, c.skip_space_peek.ensures.moved, c.new-parser.ensures.text, c.from.ensures.text, c.in-Ok.ensures.cases.0) at c.in-Some-skip_space_peek.ensures.byte.0 in

@@ -33,7 +33,7 @@ returns-in-None-clause-ok c =
 pub returns-in-None-2-clause-err : goal.returns-in-None-2-clause-err
 returns-in-None-2-clause-err c =
     let f = c.in_ok-number.ensures.ok in
-    let n = c.low_bytes-n in
+    let n = c.low_surrogate_bytes-n in
     let l : n.result < 6 = elim (cases_lt n.result 6) [
       | inl l ↦ l
       | inr m ↦

@@ -6,8 +6,8 @@ use Rattle.sonic_text.proofs.unescape.unicode_at.Goals as goal
 pub hex4_at-requires : goal.hex4_at-requires
 hex4_at-requires c = omega (arith, hex4_within c.requires.1.2)
 
-pub low_at-requires : goal.low_at-requires
-low_at-requires c = omega (arith, hex4_within c.requires.1.2)
+pub low_surrogate_at-requires : goal.low_surrogate_at-requires
+low_surrogate_at-requires c = omega (arith, hex4_within c.requires.1.2)
 
 pub returns-then-unit-gt56319-clause-one : goal.returns-then-unit-gt56319-clause-one
 returns-then-unit-gt56319-clause-one c = λ m n q b e u.

@@ -32,7 +32,7 @@ returns-in_default-clause-ok c =
     let key = rw c.deref.ensures.value at c.in_ok-index.ensures.ok in
     let none = rw c.in_default.is at key.place in
     let value = rw headed at c.in_ok-skip_value.ensures.ok in
-    IfOk-weaker c.leave.result _ _ (λ begun f schema i expected. f schema i (expected_skipped expected key.head none value)) (rw passed at c.leave.ensures.ok)
+    IfOk-weaker c.leave.result _ _ (λ begun f schema i expected. f c.args.depth_left schema i (expected_skipped expected key.head none value)) (rw passed at c.leave.ensures.ok)
 
 pub returns-in_default-clause-later : goal.returns-in_default-clause-later
 returns-in_default-clause-later c =
@@ -46,7 +46,7 @@ returns-in_default-clause-err c =
     let key = rw c.deref.ensures.value at c.in_ok-index.ensures.ok in
     let none = rw c.in_default.is at key.place in
     let value = rw headed at c.in_ok-skip_value.ensures.ok in
-    IfErr-weaker c.leave.result _ _ (λ fault h. stop_weaker fault (λ stop f schema i expected. f schema i (expected_skipped expected key.head none value)) h) (rw passed at c.leave.ensures.err)
+    IfErr-weaker c.leave.result _ _ (λ fault h. stop_weaker fault (λ stop f schema i expected. f c.args.depth_left schema i (expected_skipped expected key.head none value)) h) (rw passed at c.leave.ensures.err)
 
 -- or the last with its key
 pub take-level-requires : goal.take-level-requires
@@ -74,7 +74,7 @@ returns-in-Filled-clause-ok c =
     let passed : c.begin.new.reader.source ≡ c.args.reader.now.source = same_source c.in_ok-value.ensures.moved ∙ headed in
     let read = rw (headed, c.in-Filled.is) at c.in_ok-value.ensures.ok in
     let put = c.put.ensures key.key _ _ taken in
-    IfOk-weaker c.leave-in-Filled.result _ _ (λ begun f schema i expected. f schema i (expected_filled expected key.head taken read put)) (rw passed at c.leave-in-Filled.ensures.ok)
+    IfOk-weaker c.leave-in-Filled.result _ _ (λ begun f schema i expected. f c.args.depth_left schema i (expected_filled expected key.head taken read put)) (rw passed at c.leave-in-Filled.ensures.ok)
 
 pub returns-in-Filled-clause-later : goal.returns-in-Filled-clause-later
 returns-in-Filled-clause-later c =
@@ -91,7 +91,7 @@ returns-in-Filled-clause-err c =
     let passed : c.begin.new.reader.source ≡ c.args.reader.now.source = same_source c.in_ok-value.ensures.moved ∙ headed in
     let read = rw (headed, c.in-Filled.is) at c.in_ok-value.ensures.ok in
     let put = c.put.ensures key.key _ _ taken in
-    IfErr-weaker c.leave-in-Filled.result _ _ (λ fault h. stop_weaker fault (λ stop f schema i expected. f schema i (expected_filled expected key.head taken read put)) h) (rw passed at c.leave-in-Filled.ensures.err)
+    IfErr-weaker c.leave-in-Filled.result _ _ (λ fault h. stop_weaker fault (λ stop f schema i expected. f c.args.depth_left schema i (expected_filled expected key.head taken read put)) h) (rw passed at c.leave-in-Filled.ensures.err)
 
 pub returns-in_ok-push-in-Open-clause-ok : goal.returns-in_ok-push-in-Open-clause-ok
 returns-in_ok-push-in-Open-clause-ok c = λ schema i expected.

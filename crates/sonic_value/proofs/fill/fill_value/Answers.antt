@@ -11,7 +11,7 @@ members-init c =
     let reader = c.args.reader.now in
     record {
       kept = c.in_ok-begun.ensures.moved;
-      filling = begun_filling reader.source c.args.room (tree c.args.schema) reader.place c.begin.new.reader.place c.in_ok-begun.begun c.new-opened.ensures.items c.in_ok-begun.ensures.ok;
+      filling = begun_filling reader.source c.args.depth_left (tree c.args.schema) reader.place c.begin.new.reader.place c.in_ok-begun.begun c.new-opened.ensures.items c.in_ok-begun.ensures.ok;
     }
 
 pub returns-in_err-begun-in-Open-clause-err : goal.returns-in_err-begun-in-Open-clause-err

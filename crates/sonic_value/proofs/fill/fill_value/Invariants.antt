@@ -7,7 +7,7 @@ use Rattle.sonic_value.specs.Views.{tree}
 abbrev pub invariant-members : goal.invariant-members
 invariant-members l = record {
   kept : l.reader ≡ record { source = l.fn.reader.source; place = l.reader.place };
-  filling : IsFilling l.fn.reader.source l.fn.room (tree l.fn.schema) l.fn.reader.place l.opened.items l.begun l.reader.place;
+  filling : IsFilling l.fn.reader.source l.fn.depth_left (tree l.fn.schema) l.fn.reader.place l.opened.items l.begun l.reader.place;
 }
 
 abbrev pub decreases-members : goal.decreases-members

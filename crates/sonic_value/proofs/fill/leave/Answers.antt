@@ -13,13 +13,13 @@ returns-in_err-next_item-clause-err c =
     let p = err_from_is_err_and c.from_residual.result c.from_residual.ensures.1 in
     let source : c.levels.reader.source ≡ c.args.reader.now.source = same_source c.levels.invariant.kept in
     let fault = rw source at c.in_err-next_item.ensures.err in
-    rw (p.1, p.2) (λ schema i m. ended_stops (c.levels.invariant.ended schema i m) _ fault)
+    rw (p.1, p.2) (λ depth_left schema i m. ended_stops (c.levels.invariant.ended depth_left schema i m) _ fault)
 
 pub returns-then-branch-clause-ok : goal.returns-then-branch-clause-ok
-returns-then-branch-clause-ok c = λ schema i m.
+returns-then-branch-clause-ok c = λ depth_left schema i m.
     let source : c.levels.reader.source ≡ c.args.reader.now.source = same_source c.levels.invariant.kept in
     let comma = rw source at (c.in_ok-next_item.ensures.item c.if-branch.true) in
-    ended_goes_on (c.levels.invariant.ended schema i m) comma
+    ended_goes_on (c.levels.invariant.ended depth_left schema i m) comma
 
 pub levels-preserved : goal.levels-preserved
 levels-preserved c =
@@ -29,13 +29,13 @@ levels-preserved c =
     record {
       kept = rw source at c.in_ok-next_item.ensures.moved;
       later = omega (arith, c.levels.invariant.later, end.1, after_space_later c.args.reader.now.source.text c.levels.reader.place);
-      ended = λ schema i m. ended_level (c.levels.invariant.ended schema i m) (Object c.levels.members) (tree_object c.levels.members) items end c.put-members.ensures;
+      ended = λ depth_left schema i m. ended_level (c.levels.invariant.ended depth_left schema i m) (Object c.levels.members) (tree_object c.levels.members) items end c.put-members.ensures;
     }
 
 pub returns-in-None-clause-ok : goal.returns-in-None-clause-ok
-returns-in-None-clause-ok c = λ schema i m.
+returns-in-None-clause-ok c = λ depth_left schema i m.
     let source : c.levels.reader.source ≡ c.args.reader.now.source = same_source c.levels.invariant.kept in
     let end = rw source at (c.in_ok-next_item.ensures.end c.if-branch.false) in
     let cases = rw c.in-None.is at c.pop.ensures.cases in
     let none : length c.levels.opened.items ≡ 0 = omega (arith, c.levels.opened.ok.0, cases.0) in
-    rw (tree_object c.levels.members) (ended_whole (c.levels.invariant.ended schema i m) (nil_from_length c.levels.opened.items none) end)
+    rw (tree_object c.levels.members) (ended_whole (c.levels.invariant.ended depth_left schema i m) (nil_from_length c.levels.opened.items none) end)

@@ -9,8 +9,8 @@ abbrev pub invariant-levels : goal.invariant-levels
 invariant-levels l = record {
   kept : l.reader ≡ record { source = l.fn.reader.source; place = l.reader.place };
   later : l.fn.reader.place ≤ l.reader.place;
-  ended : (schema : Tree) (i : ℕ) → IsMemberEnded l.fn.reader.source l.fn.room schema i l.fn.opened.items (items_of l.fn.members.items) l.fn.reader.place
-      → IsMemberEnded l.fn.reader.source l.fn.room schema i l.opened.items (items_of l.members.items) l.reader.place;
+  ended : (depth_left : ℕ) (schema : Tree) (i : ℕ) → IsMemberEnded l.fn.reader.source depth_left schema i l.fn.opened.items (items_of l.fn.members.items) l.fn.reader.place
+      → IsMemberEnded l.fn.reader.source depth_left schema i l.opened.items (items_of l.members.items) l.reader.place;
 }
 
 abbrev pub decreases-levels : goal.decreases-levels

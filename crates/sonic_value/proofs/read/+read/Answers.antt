@@ -12,7 +12,7 @@ use Rattle.sonic_value.proofs.read.+read.Goals as goal
 pub read_array-loop-more-init : goal.read_array-loop-more-init
 read_array-loop-more-init t c = record {
   kept = c.enter-more.ensures.moved;
-  read = rw c.new-elements.ensures.items (container_begins c.args.reader.now.source Array c.args.room c.args.reader.now.place c.enter-more.result c.requires c.enter-more.ensures.item c.enter-more.ensures.empty);
+  read = rw c.new-elements.ensures.items (container_begins c.args.reader.now.source Array c.args.depth_left c.args.reader.now.place c.enter-more.result c.requires c.enter-more.ensures.item c.enter-more.ensures.empty);
 }
 
 pub read_array-loop-more-preserved : goal.read_array-loop-more-preserved
@@ -49,7 +49,7 @@ read_array-returns-in_err-more-clause-err t c =
 pub read_object-loop-more-init : goal.read_object-loop-more-init
 read_object-loop-more-init t c = record {
   kept = c.enter-more.ensures.moved;
-  read = rw c.new-members.ensures.items (container_begins c.args.reader.now.source Object c.args.room c.args.reader.now.place c.enter-more.result c.requires c.enter-more.ensures.item c.enter-more.ensures.empty);
+  read = rw c.new-members.ensures.items (container_begins c.args.reader.now.source Object c.args.depth_left c.args.reader.now.place c.enter-more.result c.requires c.enter-more.ensures.item c.enter-more.ensures.empty);
 }
 
 pub read_object-loop-more-preserved : goal.read_object-loop-more-preserved
@@ -90,21 +90,21 @@ read_object-returns-in_err-more-clause-err t c =
     rw (p.1, p.2) (separator_stops c.loop-more.invariant.kept read c.in_ok-key.ensures.moved c.in_ok-key.ensures.ok c.in_ok-read_value.ensures.moved c.in_ok-read_value.ensures.ok c.in_err-more.ensures.err)
 
 pub read_value-returns-in_default-clause-ok : goal.read_value-returns-in_default-clause-ok
-read_value-returns-in_default-clause-ok t c = IfOk-weaker c.scalar.result _ _ (λ made read. read c.args.room) c.scalar.ensures.ok
+read_value-returns-in_default-clause-ok t c = IfOk-weaker c.scalar.result _ _ (λ made read. read c.args.depth_left) c.scalar.ensures.ok
 
 pub read_value-returns-in_default-clause-err : goal.read_value-returns-in_default-clause-err
-read_value-returns-in_default-clause-err t c = IfErr-weaker c.scalar.result _ _ (λ fault h. stop_weaker fault (λ s f. f c.args.room) h) c.scalar.ensures.err
+read_value-returns-in_default-clause-err t c = IfErr-weaker c.scalar.result _ _ (λ fault h. stop_weaker fault (λ s f. f c.args.depth_left) h) c.scalar.ensures.err
 
 pub read_value-returns-in-Array-clause-err : goal.read_value-returns-in-Array-clause-err
 read_value-returns-in-Array-clause-err t c =
-    let room : c.args.room - 1 + 1 ≡ c.args.room = omega arith in
-    rw room at c.read_array.ensures.err
+    let depth_left : c.args.depth_left - 1 + 1 ≡ c.args.depth_left = omega arith in
+    rw depth_left at c.read_array.ensures.err
 
 pub read_value-returns-in-Object-clause-err : goal.read_value-returns-in-Object-clause-err
 read_value-returns-in-Object-clause-err t c =
-    let room : c.args.room - 1 + 1 ≡ c.args.room = omega arith in
-    rw room at c.read_object.ensures.err
+    let depth_left : c.args.depth_left - 1 + 1 ≡ c.args.depth_left = omega arith in
+    rw depth_left at c.read_object.ensures.err
 
-pub read_value-returns-then-room-eq0-clause-err : goal.read_value-returns-then-room-eq0-clause-err
-read_value-returns-then-room-eq0-clause-err t c =
-    rw (c.if-room-eq0.true, c.place-place.ensures.place) (too_deep (too_deep_here c.in-Some.kind c.in-Some.ensures.some) refl)
+pub read_value-returns-then-depth_left-eq0-clause-err : goal.read_value-returns-then-depth_left-eq0-clause-err
+read_value-returns-then-depth_left-eq0-clause-err t c =
+    rw (c.if-depth_left-eq0.true, c.place-place.ensures.place) (too_deep (too_deep_here c.in-Some.kind c.in-Some.ensures.some) refl)

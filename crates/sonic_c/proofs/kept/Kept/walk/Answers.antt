@@ -12,20 +12,20 @@ use Rattle.sonic_c.proofs.kept.Kept.walk.Goals as goal
 pub returns-then-is_empty-clause-call : goal.returns-then-is_empty-clause-call
 returns-then-is_empty-clause-call c = let none = eqb-true _ 0 (sym c.if-is_empty.ensures) in list_of_none c.requires none refl refl
 
-pub fill_from_room-requires : goal.fill_from_room-requires
-fill_from_room-requires c =
-    sym (length-map c.find_many_by.new.room (option_map pair_of)) ∙ answer_long c.in-Ok.ensures.ok ∙ (ap (λ (list : PathList). length list.paths) c.self.view_is ∙ c.requires)
+pub fill_from_buffers-requires : goal.fill_from_buffers-requires
+fill_from_buffers-requires c =
+    sym (length-map c.find_many_by.new.buffers (option_map pair_of)) ∙ answer_long c.in-Ok.ensures.ok ∙ (ap (λ (list : PathList). length list.paths) c.self.view_is ∙ c.requires)
 
 pub returns-clause-call : goal.returns-clause-call
 returns-clause-call c =
     let long = ap (λ (list : PathList). length list.paths) c.self.view_is ∙ c.requires in
-    let room = c.find_many_by.new.room in
+    let buffers = c.find_many_by.new.buffers in
     subst
     (λ (list : PathList).
     IsListCall c.args.json.now list (record { spans = c.args.spans.now; error = c.args.error.now })
     (record { spans = c.match-find_many_by.spans; error = c.match-find_many_by.error }) c.match-find_many_by.result)
     c.self.view_is
     (elim c.match-find_many_by.branch [
-      | in-Ok w ↦ rw (w.spans-is, w.error-is, w.result-is) (list_found (pairs_of room) w.in-Ok.ensures.ok refl (w.fill_from_room.ensures ∙ slots_shown room) refl)
+      | in-Ok w ↦ rw (w.spans-is, w.error-is, w.result-is) (list_found (pairs_of buffers) w.in-Ok.ensures.ok refl (w.fill_from_buffers.ensures ∙ slots_shown buffers) refl)
       | in-Err w ↦ rw (w.spans-is, w.error-is, w.result-is) (list_refused w.in-Err.reason long w.in-Err.ensures.err w.in-Err.ensures.complete w.tell.ensures refl)
     ])

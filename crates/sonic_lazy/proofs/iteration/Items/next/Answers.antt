@@ -17,7 +17,7 @@ invariant_of-self c =
     let f = rw c.in-Ok-Some.field-0-is at c.in-Ok-Some.ensures.found in
     let count = found_count f in
     let utf8 = looked_at c.self.inside.is_bytes c.in-Ok-Some.ensures.utf8 c.self.invariant.utf8 in
-    let within : c.self.inside.given + 1 ≤ length c.self.inside.steps.text = omega arith in
+    let within : c.self.inside.given + 1 ≤ length c.self.inside.cursor.text = omega arith in
     rw c.in-Ok-Some.ensures.moved record {
       raw = c.self.invariant.raw;
       text = c.self.invariant.text;
@@ -32,7 +32,7 @@ returns-in-Ok-Some-clause-found c =
     let f = rw c.in-Ok-Some.field-0-is at c.in-Ok-Some.ensures.found in
     let count = found_count f in
     let utf8 = looked_at c.self.inside.is_bytes c.in-Ok-Some.ensures.utf8 c.self.invariant.utf8 in
-    let part = found_part c.self.inside.steps.checks utf8 (λ e. (c.self.invariant.sure e).0) f in
+    let part = found_part c.self.inside.cursor.checks utf8 (λ e. (c.self.invariant.sure e).0) f in
     rw (← c.self.view_is, c.in-Ok-Some.ensures.moved) record { going = c.if-self.false; utf8 = c.in-Ok-Some.ensures.utf8; shown = part; within = omega arith; moved = refl }
 
 pub returns-in-Ok-None-clause-none : goal.returns-in-Ok-None-clause-none

@@ -1,12 +1,12 @@
 use Rattle.std.proofs.Common.{ap, refl}
-use Rattle.sonic_lazy.specs.Iterators.{Iterating}
+use Rattle.sonic_lazy.specs.Iterators.{IteratorState}
 use Rattle.sonic_owned.proofs.Folds.{elements-roll}
 use Rattle.sonic_owned.proofs.OpenLemmas.{none_first, element_first, all_first}
 use Rattle.sonic_owned.proofs.value.load.open_elements.Goals as goal
 
 pub elements-init : goal.elements-init
 elements-init c =
-    let zero = ap (λ (it : Iterating). it.given) c.requires in
+    let zero = ap (λ (it : IteratorState). it.given) c.requires in
     record { going = rw c.requires refl; first = rw (zero, c.new-elements.ensures.items) none_first }
 
 pub elements-preserved : goal.elements-preserved

@@ -1,12 +1,12 @@
 use Rattle.std.proofs.Common.{ap, refl, ◌∙◌}
-use Rattle.sonic_lazy.specs.Iterators.{Iterating}
+use Rattle.sonic_lazy.specs.Iterators.{IteratorState}
 use Rattle.sonic_owned.proofs.Folds.{members-roll}
 use Rattle.sonic_owned.proofs.OpenLemmas.{none_first, member_first, all_first}
 use Rattle.sonic_owned.proofs.value.load.open_members.Goals as goal
 
 pub members-init : goal.members-init
 members-init c =
-    let zero = ap (λ (it : Iterating). it.given) c.requires in
+    let zero = ap (λ (it : IteratorState). it.given) c.requires in
     record { going = rw c.requires refl; first = rw (zero, c.new-members.ensures.items) none_first }
 
 pub members-preserved-in_ok-push : goal.members-preserved-in_ok-push

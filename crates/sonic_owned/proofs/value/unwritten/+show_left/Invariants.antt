@@ -2,7 +2,8 @@
 use Rattle.std.proofs.Common.{◌≤◌, ◌+◌}
 use Rattle.std.specs.Fmt.{IsPlainFormatter}
 use Rattle.sonic_owned.specs.Internal.Bulks.{members_bulk}
-use Rattle.sonic_owned.specs.Internal.Unwritten.{all_bulk, all_left, items_left, left_text, IsWrittenUpTo}
+use Rattle.sonic_owned.specs.Internal.Unwritten.{all_bulk, all_left, items_left, left_text}
+use Rattle.sonic_owned.specs.Writing.{IsWrittenUpTo}
 use Rattle.sonic_owned.proofs.value.unwritten.+show_left.Given as goal
 
 abbrev pub decreases-show_left : goal.decreases-show_left

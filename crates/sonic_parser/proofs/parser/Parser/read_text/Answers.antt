@@ -4,7 +4,7 @@ use Rattle.sonic_parser.specs.Texts.{IsTextRead}
 use Rattle.sonic_parser.proofs.parser.Parser.read_text.Goals as goal
 
 pub returns-in-Err-clause-err : goal.returns-in-Err-clause-err
-returns-in-Err-clause-err c = inl record { stop = c.in-Err.stop; fault = c.in-Err.ensures.err; error = c.stop.ensures.error; cursor = c.stop.ensures.cursor }
+returns-in-Err-clause-err c = inl record { stop = c.in-Err.stop; fault = c.in-Err.ensures.err; error = c.stop.ensures.error; cursor = c.stop.ensures.moved }
 
 pub returns-then-string-clause-there : goal.returns-then-string-clause-there
 returns-then-string-clause-there c =
@@ -13,13 +13,13 @@ returns-then-string-clause-there c =
     let passed = c.pass_string.ensures in
     let read : IsTextRead c.args.self.now c.pass_string.new.self c.text_in.result.now = record {
       bytes = ahead.bytes;
-      string = rw passed.cursor ahead.string;
+      string = rw passed.moved ahead.string;
       text = rw (c.text_in.ensures, c.text-text.ensures, c.offset-start.ensures.place) (there_text ahead.string ahead.within there);
-      utf8 = λ _. rw passed.cursor there.0;
+      utf8 = λ _. rw passed.moved there.0;
       next_invalid = passed.next_invalid;
       cursor = passed.kept;
     } in
-    (read, rw passed.cursor there)
+    (read, rw passed.moved there)
 
 pub returns-in-Err-write_text-clause-err : goal.returns-in-Err-write_text-clause-err
 returns-in-Err-write_text-clause-err c =

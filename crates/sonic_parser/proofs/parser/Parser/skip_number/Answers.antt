@@ -5,5 +5,5 @@ returns-in-Err-clause-err c = record {
   stop = c.in-Err.stop;
   fault = rw (← c.self.view_is) (rw (← c.as_u8_slice-text.ensures.text, ← c.index-start.ensures.place) c.in-Err.ensures.err);
   error = c.stop.ensures.error;
-  cursor = c.stop.ensures.cursor;
+  cursor = c.stop.ensures.moved;
 }

@@ -12,5 +12,5 @@ returns-in-Err-At-clause-honest c =
     let fault : IsFault parser.lossy parser.text (value_start parser) c.in-Err-At.stop =
     rw c.skip_space_peek.ensures.moved at (rw c.in-Err-At.field-0-is at c.in-Err-At.ensures.err) in
     let error : IsErrorAt c.stop.result c.in-Err-At.stop.code parser.text c.in-Err-At.stop.place =
-    rw (c.in-Err-At.ensures.cursor, c.skip_space_peek.ensures.moved) at c.stop.ensures.error in
+    rw (c.in-Err-At.ensures.moved, c.skip_space_peek.ensures.moved) at c.stop.ensures.error in
     honest_of_fault within fault error

@@ -15,7 +15,7 @@ pub returns-then-branch-clause-next : goal.returns-then-branch-clause-next
 returns-then-branch-clause-next c = λ rest r.
     let some : 0 < length c.args.self.now.inner.opened = omega (arith, c.if-depth-eq0.false, c.depth.ensures) in
     let ended : RemainsAfterItem c.args.self.now.inner rest = rw c.if-not-self.false at r.1 in
-    let cursor = c.in_ok-next.ensures.cursor in
+    let cursor = c.in_ok-next.ensures.moved in
     let step : IsNextOrClosed c.kind-kind.result c.args.self.now.inner c.next.new.self true = rw c.if-branch.true at c.in_ok-next.ensures.ok in
     let item = item_next c.kind-kind.result some ended cursor step in
     c.in_ok-item-2.ensures.event (ap (λ w. w.lossy) cursor ∙ r.0) rest item
@@ -24,7 +24,7 @@ pub returns-clause-next : goal.returns-clause-next
 returns-clause-next c = λ rest r.
     let some : 0 < length c.args.self.now.inner.opened = omega (arith, c.if-depth-eq0.false, c.depth.ensures) in
     let ended : RemainsAfterItem c.args.self.now.inner rest = rw c.if-not-self.false at r.1 in
-    let cursor = c.in_ok-next.ensures.cursor in
+    let cursor = c.in_ok-next.ensures.moved in
     let step : IsNextOrClosed c.kind-kind.result c.args.self.now.inner c.next.new.self false = rw c.if-branch.false at c.in_ok-next.ensures.ok in
     let left = container_left some c.kind-kind.ensures ended cursor step in
     let lossy : c.next.new.self.lossy ≡ strict = ap (λ w. w.lossy) cursor ∙ r.0 in

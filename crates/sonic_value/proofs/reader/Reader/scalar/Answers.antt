@@ -1,7 +1,7 @@
 use Rattle.std.proofs.Common.{◌≡◌, ap}
 use Rattle.std.proofs.lemmas.Result.{err_from_is_err_and}
 use Rattle.sonic_parser.proofs.FaultLemmas.{stop_weaker}
-use Rattle.sonic_parser.specs.Parsers.{Parsing}
+use Rattle.sonic_parser.specs.Parsers.{ParserState}
 use Rattle.sonic_text.specs.Strings.{strict}
 use Rattle.sonic_text.specs.Values.{IsValue}
 use Rattle.sonic_value.proofs.ScalarLemmas.{scalar_read, scalar_unread}
@@ -19,14 +19,14 @@ returns-in_err-value-clause-err c =
 pub scalar_value-requires : goal.scalar_value-requires
 scalar_value-requires c =
     let passed = c.in_ok-value.ensures.ok in
-    let text : c.skip_value.new.self.text ≡ c.self.inside.parser.text = ap (λ (p : Parsing). p.text) c.in_ok-value.ensures.cursor in
+    let text : c.skip_value.new.self.text ≡ c.self.inside.parser.text = ap (λ (p : ParserState). p.text) c.in_ok-value.ensures.moved in
     let begins : BeginsNoContainer c.self.inside.parser.text c.self.inside.parser.place = rw (← c.self.view_is) at c.requires in
     let value : IsValue strict c.self.inside.parser.text c.self.inside.parser.place c.skip_value.new.self.place = rw c.self.invariant.0 at passed.value in
     rw text (scalar_span passed.start passed.end value begins passed.escaped)
 
 pub returns-clause-ok : goal.returns-clause-ok
 returns-clause-ok c =
-    let text : c.skip_value.new.self.text ≡ c.self.inside.parser.text = ap (λ (p : Parsing). p.text) c.in_ok-value.ensures.cursor in
+    let text : c.skip_value.new.self.text ≡ c.self.inside.parser.text = ap (λ (p : ParserState). p.text) c.in_ok-value.ensures.moved in
     let begins : BeginsNoContainer c.self.inside.parser.text c.self.inside.parser.place = rw (← c.self.view_is) at c.requires in
     let kept = rw (text, c.in_ok-value.ensures.ok.start, c.in_ok-value.ensures.ok.end) at c.in_ok-scalar_value.ensures in
     rw (← c.self.view_is) (scalar_read begins kept)

@@ -1,7 +1,7 @@
 -- What is written, and what is left of the container in hand and of those around it.
 use Rattle.std.proofs.Common.{◌≤◌}
 use Rattle.std.specs.Fmt.{IsPlainFormatter}
-use Rattle.sonic_owned.specs.Internal.Unwritten.{IsWrittenUpTo}
+use Rattle.sonic_owned.specs.Writing.{IsWrittenUpTo}
 use Rattle.sonic_value.specs.Internal.OpenTexts.{all_shown, all_shown_size, shown_size, shown_text}
 use Rattle.sonic_value.proofs.value.show.+show_level.Given as goal
 

@@ -1,7 +1,7 @@
 -- What is written is what was left of the array before what is left of it.
 use Rattle.std.proofs.Common.{◌≤◌, ◌-◌, length}
 use Rattle.std.specs.Fmt.{IsPlainFormatter}
-use Rattle.sonic_owned.specs.Internal.Unwritten.{IsWrittenUpTo}
+use Rattle.sonic_owned.specs.Writing.{IsWrittenUpTo}
 use Rattle.sonic_value.specs.Internal.OpenTexts.{array_size, array_text}
 use Rattle.sonic_value.proofs.value.show.show_elements.Given as goal
 

@@ -2,7 +2,8 @@
 use Rattle.std.proofs.Common.{◌≤◌}
 use Rattle.std.specs.Fmt.{IsPlainFormatter}
 use Rattle.sonic_owned.specs.Internal.Bulks.{members_bulk}
-use Rattle.sonic_owned.specs.Internal.Unwritten.{items_left, left_text, IsWrittenUpTo}
+use Rattle.sonic_owned.specs.Internal.Unwritten.{items_left, left_text}
+use Rattle.sonic_owned.specs.Writing.{IsWrittenUpTo}
 use Rattle.sonic_owned.proofs.value.unwritten.Unwritten.next_level.Given as goal
 
 abbrev pub invariant-items : goal.invariant-items
