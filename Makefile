@@ -16,33 +16,33 @@ OUT = out
 # The command goes with its page where `rt run` or the gate has made it.
 TOOL = crates/sonic_tool/out/sonic_tool
 
-VERSION := $(shell sed -n 's/^.define SONIC_VERSION "\(.*\)"$$/\1/p' include/sonic.h)
-SONAME := libsonic.so.$(firstword $(subst ., ,$(VERSION)))
+VERSION := $(shell sed -n 's/^.define JIHLUKA_VERSION "\(.*\)"$$/\1/p' include/jihluka.h)
+SONAME := libjihluka.so.$(firstword $(subst ., ,$(VERSION)))
 # Each call of the header has a page, which is that of all.
-CALLS := ${shell sed -n 's/^[a-z].*[ *]\(sonic_[a-z0-9_]*\)(.*/\1/p' include/sonic.h}
+CALLS := ${shell sed -n 's/^[a-z].*[ *]\(jihluka_[a-z0-9_]*\)(.*/\1/p' include/jihluka.h}
 PAGES = $(CALLS:%=man3/%.3)
 
 all:
 	examples/build "$(OUT)"
 
-$(OUT)/libsonic.a:
+$(OUT)/libjihluka.a:
 	examples/build "$(OUT)"
 
-install: $(OUT)/libsonic.a
+install: $(OUT)/libjihluka.a
 	install -d "$(DESTDIR)$(INCLUDEDIR)" "$(DESTDIR)$(LIBDIR)/pkgconfig" "$(DESTDIR)$(MANDIR)/man1" "$(DESTDIR)$(MANDIR)/man3"
-	install -m 644 "$(OUT)/sonic.h" "$(DESTDIR)$(INCLUDEDIR)"
-	install -m 644 "$(OUT)/libsonic.a" "$(OUT)/$(SONAME)" "$(DESTDIR)$(LIBDIR)"
-	ln -sf $(SONAME) "$(DESTDIR)$(LIBDIR)/libsonic.so"
-	sed 's|@PREFIX@|$(PREFIX)|; s|@LIBDIR@|$(LIBDIR)|; s|@INCLUDEDIR@|$(INCLUDEDIR)|; s|@VERSION@|$(VERSION)|' include/sonic.pc.in > "$(DESTDIR)$(LIBDIR)/pkgconfig/sonic.pc"
-	chmod 644 "$(DESTDIR)$(LIBDIR)/pkgconfig/sonic.pc"
+	install -m 644 "$(OUT)/jihluka.h" "$(DESTDIR)$(INCLUDEDIR)"
+	install -m 644 "$(OUT)/libjihluka.a" "$(OUT)/$(SONAME)" "$(DESTDIR)$(LIBDIR)"
+	ln -sf $(SONAME) "$(DESTDIR)$(LIBDIR)/libjihluka.so"
+	sed 's|@PREFIX@|$(PREFIX)|; s|@LIBDIR@|$(LIBDIR)|; s|@INCLUDEDIR@|$(INCLUDEDIR)|; s|@VERSION@|$(VERSION)|' include/jihluka.pc.in > "$(DESTDIR)$(LIBDIR)/pkgconfig/jihluka.pc"
+	chmod 644 "$(DESTDIR)$(LIBDIR)/pkgconfig/jihluka.pc"
 	install -m 644 docs/sonic_tool.1 "$(DESTDIR)$(MANDIR)/man1"
-	install -m 644 docs/sonic.3 "$(DESTDIR)$(MANDIR)/man3"
-	cd "$(DESTDIR)$(MANDIR)" && for page in $(PAGES); do echo ".so man3/sonic.3" > $$page && chmod 644 $$page; done
+	install -m 644 docs/jihluka.3 "$(DESTDIR)$(MANDIR)/man3"
+	cd "$(DESTDIR)$(MANDIR)" && for page in $(PAGES); do echo ".so man3/jihluka.3" > $$page && chmod 644 $$page; done
 	if [ -x "$(TOOL)" ]; then install -d "$(DESTDIR)$(BINDIR)" && install -m 755 "$(TOOL)" "$(DESTDIR)$(BINDIR)"; fi
 
 uninstall:
-	rm -f "$(DESTDIR)$(INCLUDEDIR)/sonic.h" "$(DESTDIR)$(LIBDIR)/libsonic.a" "$(DESTDIR)$(LIBDIR)/$(SONAME)" "$(DESTDIR)$(LIBDIR)/libsonic.so"
-	rm -f "$(DESTDIR)$(LIBDIR)/pkgconfig/sonic.pc" "$(DESTDIR)$(BINDIR)/sonic_tool"
-	rm -f "$(DESTDIR)$(MANDIR)/man1/sonic_tool.1" "$(DESTDIR)$(MANDIR)/man3/sonic.3" $(PAGES:%="$(DESTDIR)$(MANDIR)/%")
+	rm -f "$(DESTDIR)$(INCLUDEDIR)/jihluka.h" "$(DESTDIR)$(LIBDIR)/libjihluka.a" "$(DESTDIR)$(LIBDIR)/$(SONAME)" "$(DESTDIR)$(LIBDIR)/libjihluka.so"
+	rm -f "$(DESTDIR)$(LIBDIR)/pkgconfig/jihluka.pc" "$(DESTDIR)$(BINDIR)/sonic_tool"
+	rm -f "$(DESTDIR)$(MANDIR)/man1/sonic_tool.1" "$(DESTDIR)$(MANDIR)/man3/jihluka.3" $(PAGES:%="$(DESTDIR)$(MANDIR)/%")
 
 .PHONY: all install uninstall

@@ -15,7 +15,7 @@
 #include <vector>
 
 #ifndef ONLY_SIMDJSON
-#include "sonic.h"
+#include "jihluka.h"
 #endif
 #ifdef YYJSON
 #include "yyjson.h"
@@ -102,8 +102,8 @@ int main(int count, char **files) {
     size_t size = document.text.size();
     const std::string &path = document.paths[0];
 #ifndef ONLY_SIMDJSON
-    sonic_error error = {0, 0, 0, 0};
-    std::vector<sonic_span> spans(document.paths.size());
+    jihluka_error error = {0, 0, 0, 0};
+    std::vector<jihluka_span> spans(document.paths.size());
     std::vector<char> copy(size, 1);
 
     measure(name, size, "memcpy", [&] {
@@ -111,15 +111,15 @@ int main(int count, char **files) {
       asm volatile("" : : "r"(copy.data()) : "memory");
       return size;
     });
-    measure(name, size, "sonic_validate", [&] { return size_t(sonic_validate(json, size, &error) == SONIC_OK); });
-    auto one = [&](uint32_t (*call)(const uint8_t *, size_t, const uint8_t *, size_t, sonic_span *, sonic_error *)) {
-      sonic_span span = {0, 0};
-      return call(json, size, bytes(path), path.size(), &span, &error) == SONIC_OK ? span.end - span.start : 0;
+    measure(name, size, "jihluka_validate", [&] { return size_t(jihluka_validate(json, size, &error) == JIHLUKA_OK); });
+    auto one = [&](uint32_t (*call)(const uint8_t *, size_t, const uint8_t *, size_t, jihluka_span *, jihluka_error *)) {
+      jihluka_span span = {0, 0};
+      return call(json, size, bytes(path), path.size(), &span, &error) == JIHLUKA_OK ? span.end - span.start : 0;
     };
-    measure(name, size, "sonic_get", [&] { return one(sonic_get); });
-    measure(name, size, "sonic_get_unchecked", [&] { return one(sonic_get_unchecked); });
-    measure(name, size, "sonic_get_many", [&] {
-      return size_t(sonic_get_many(json, size, bytes(document.lines), document.lines.size(), spans.data(), spans.size(), &error) == SONIC_OK);
+    measure(name, size, "jihluka_get", [&] { return one(jihluka_get); });
+    measure(name, size, "jihluka_get_unchecked", [&] { return one(jihluka_get_unchecked); });
+    measure(name, size, "jihluka_get_many", [&] {
+      return size_t(jihluka_get_many(json, size, bytes(document.lines), document.lines.size(), spans.data(), spans.size(), &error) == JIHLUKA_OK);
     });
 #endif
 

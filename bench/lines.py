@@ -96,7 +96,7 @@ def blocks(program, folder, size):
     count = make(file, size, STREAMS[0][3])
     print(f"\n{os.path.getsize(file) / 10**9:.2f} GB of records, {count:,} lines")
     for processors in sorted({1, os.cpu_count()}):
-        environment = {**os.environ, "SONIC": program}
+        environment = {**os.environ, "PROGRAM": program}
         begun = time.monotonic()
         words = ["taskset", "-c", f"0-{processors - 1}", CLUSTER, paths, file]
         subprocess.run(words, env=environment, stdout=subprocess.DEVNULL, check=True)

@@ -13,7 +13,7 @@
 #include <string_view>
 #include <vector>
 
-#include "sonic.h"
+#include "jihluka.h"
 #ifdef YYJSON
 #include "yyjson.h"
 #endif
@@ -93,43 +93,43 @@ int main(int count, char **words) {
     for (const std::string &text : texts) padded.emplace_back(text);
     const size_t documents = texts.size();
 #ifndef ONLY_SIMDJSON
-    sonic_error error = {0, 0, 0, 0};
-    sonic_span spans[3] = {{0, 0}, {0, 0}, {0, 0}};
+    jihluka_error error = {0, 0, 0, 0};
+    jihluka_span spans[3] = {{0, 0}, {0, 0}, {0, 0}};
     auto sizes = [&] { return spans[0].end - spans[0].start + spans[1].end - spans[1].start + spans[2].end - spans[2].start; };
-    using Call = uint32_t (*)(const uint8_t *, size_t, const uint8_t *, size_t, sonic_span *, sonic_error *);
+    using Call = uint32_t (*)(const uint8_t *, size_t, const uint8_t *, size_t, jihluka_span *, jihluka_error *);
     auto each = [&](Call call, size_t i) {
       for (size_t path = 0; path < 3; path++) {
-        if (call(bytes(texts[i]), texts[i].size(), bytes(PATHS[path]), std::string_view(PATHS[path]).size(), &spans[path], &error) != SONIC_OK) return size_t(0);
+        if (call(bytes(texts[i]), texts[i].size(), bytes(PATHS[path]), std::string_view(PATHS[path]).size(), &spans[path], &error) != JIHLUKA_OK) return size_t(0);
       }
       return sizes();
     };
-    using Many = uint32_t (*)(const uint8_t *, size_t, const uint8_t *, size_t, sonic_span *, size_t, sonic_error *);
+    using Many = uint32_t (*)(const uint8_t *, size_t, const uint8_t *, size_t, jihluka_span *, size_t, jihluka_error *);
     auto many = [&](Many call, size_t i) {
-      if (call(bytes(texts[i]), texts[i].size(), bytes(LINES), sizeof LINES - 1, spans, 3, &error) != SONIC_OK) return size_t(0);
+      if (call(bytes(texts[i]), texts[i].size(), bytes(LINES), sizeof LINES - 1, spans, 3, &error) != JIHLUKA_OK) return size_t(0);
       return sizes();
     };
-    measure(length, documents, "sonic_validate", [&](size_t i) { return size_t(sonic_validate(bytes(texts[i]), texts[i].size(), &error) == SONIC_OK); });
-    measure(length, documents, "sonic_get, three times", [&](size_t i) { return each(sonic_get, i); });
-    measure(length, documents, "sonic_get_unchecked, three times", [&](size_t i) { return each(sonic_get_unchecked, i); });
-    measure(length, documents, "sonic_get_many", [&](size_t i) { return many(sonic_get_many, i); });
-    measure(length, documents, "sonic_get_many_unchecked", [&](size_t i) { return many(sonic_get_many_unchecked, i); });
+    measure(length, documents, "jihluka_validate", [&](size_t i) { return size_t(jihluka_validate(bytes(texts[i]), texts[i].size(), &error) == JIHLUKA_OK); });
+    measure(length, documents, "jihluka_get, three times", [&](size_t i) { return each(jihluka_get, i); });
+    measure(length, documents, "jihluka_get_unchecked, three times", [&](size_t i) { return each(jihluka_get_unchecked, i); });
+    measure(length, documents, "jihluka_get_many", [&](size_t i) { return many(jihluka_get_many, i); });
+    measure(length, documents, "jihluka_get_many_unchecked", [&](size_t i) { return many(jihluka_get_many_unchecked, i); });
     // How much of it is the reading of the paths.
-    measure(length, documents, "sonic_get_many, of no document", [&](size_t) {
-      return size_t(sonic_get_many(nullptr, 0, bytes(LINES), sizeof LINES - 1, spans, 3, &error) == SONIC_DOCUMENT_ERROR);
+    measure(length, documents, "jihluka_get_many, of no document", [&](size_t) {
+      return size_t(jihluka_get_many(nullptr, 0, bytes(LINES), sizeof LINES - 1, spans, 3, &error) == JIHLUKA_DOCUMENT_ERROR);
     });
-    sonic_paths paths = SONIC_NO_PATHS;
-    if (sonic_paths_new(bytes(LINES), sizeof LINES - 1, SONIC_KEYS_FIRST, &paths, &error) != SONIC_OK) return 1;
-    using With = uint32_t (*)(const uint8_t *, size_t, sonic_paths *, sonic_span *, size_t, sonic_error *);
+    jihluka_paths paths = JIHLUKA_NO_PATHS;
+    if (jihluka_paths_new(bytes(LINES), sizeof LINES - 1, JIHLUKA_KEYS_FIRST, &paths, &error) != JIHLUKA_OK) return 1;
+    using With = uint32_t (*)(const uint8_t *, size_t, jihluka_paths *, jihluka_span *, size_t, jihluka_error *);
     auto with = [&](With call, size_t i) {
-      if (call(bytes(texts[i]), texts[i].size(), &paths, spans, 3, &error) != SONIC_OK) return size_t(0);
+      if (call(bytes(texts[i]), texts[i].size(), &paths, spans, 3, &error) != JIHLUKA_OK) return size_t(0);
       return sizes();
     };
-    measure(length, documents, "sonic_get_many_with", [&](size_t i) { return with(sonic_get_many_with, i); });
-    measure(length, documents, "sonic_get_many_with_unchecked", [&](size_t i) { return with(sonic_get_many_with_unchecked, i); });
-    measure(length, documents, "sonic_get_many_with, of no document", [&](size_t) {
-      return size_t(sonic_get_many_with(nullptr, 0, &paths, spans, 3, &error) == SONIC_DOCUMENT_ERROR);
+    measure(length, documents, "jihluka_get_many_with", [&](size_t i) { return with(jihluka_get_many_with, i); });
+    measure(length, documents, "jihluka_get_many_with_unchecked", [&](size_t i) { return with(jihluka_get_many_with_unchecked, i); });
+    measure(length, documents, "jihluka_get_many_with, of no document", [&](size_t) {
+      return size_t(jihluka_get_many_with(nullptr, 0, &paths, spans, 3, &error) == JIHLUKA_DOCUMENT_ERROR);
     });
-    sonic_paths_free(&paths);
+    jihluka_paths_free(&paths);
 #ifdef YYJSON
     measure(length, documents, "yyjson, read and three pointers", [&](size_t i) { return yyjson_three(texts[i]); });
 #endif

@@ -1,5 +1,5 @@
 """Builds the package: its files, and beside them the shared object that examples/build made, from the folder
-that SONIC_OUT names, or out/ of the repository. Where there is none, the package takes the installed one.
+that JIHLUKA_OUT names, or out/ of the repository. Where there is none, the package takes the installed one.
 
 It reads pyproject.toml by lines, as older Pythons have no reader of it."""
 import base64
@@ -11,7 +11,7 @@ import tarfile
 import zipfile
 
 HERE = os.path.dirname(os.path.abspath(__file__))
-LIBRARY = "libsonic.so.0"
+LIBRARY = "libjihluka.so.0"
 
 
 def _read(name):
@@ -31,11 +31,11 @@ def _metadata():
 
 
 def _library():
-    folder = os.environ.get("SONIC_OUT") or os.path.join(HERE, "..", "..", "out")
+    folder = os.environ.get("JIHLUKA_OUT") or os.path.join(HERE, "..", "..", "out")
     path = os.path.join(folder, LIBRARY)
     if os.path.exists(path):
         return path
-    if "SONIC_OUT" in os.environ:
+    if "JIHLUKA_OUT" in os.environ:
         raise FileNotFoundError(path)
     return None
 
@@ -43,17 +43,17 @@ def _library():
 def build_wheel(wheel_directory, config_settings=None, metadata_directory=None):
     library = _library()
     tag = "py3-none-linux_x86_64" if library else "py3-none-any"
-    files = {f"sonic/{name}": _read(f"src/sonic/{name}") for name in sorted(os.listdir(os.path.join(HERE, "src/sonic"))) if "." in name}
+    files = {f"jihluka/{name}": _read(f"src/jihluka/{name}") for name in sorted(os.listdir(os.path.join(HERE, "src/jihluka"))) if "." in name}
     if library:
         with open(library, "rb") as it:
-            files[f"sonic/{LIBRARY}"] = it.read()
-    info = f"sonic-{_field('version')}.dist-info"
+            files[f"jihluka/{LIBRARY}"] = it.read()
+    info = f"jihluka-{_field('version')}.dist-info"
     files[f"{info}/METADATA"] = _metadata()
-    files[f"{info}/WHEEL"] = f"Wheel-Version: 1.0\nGenerator: sonic\nRoot-Is-Purelib: {str(not library).lower()}\nTag: {tag}\n".encode()
+    files[f"{info}/WHEEL"] = f"Wheel-Version: 1.0\nGenerator: jihluka\nRoot-Is-Purelib: {str(not library).lower()}\nTag: {tag}\n".encode()
     sums = {name: base64.urlsafe_b64encode(hashlib.sha256(text).digest()).rstrip(b"=").decode() for name, text in files.items()}
     rows = [f"{name},sha256={sums[name]},{len(text)}" for name, text in files.items()]
     files[f"{info}/RECORD"] = ("\n".join(rows) + f"\n{info}/RECORD,,\n").encode()
-    wheel = f"sonic-{_field('version')}-{tag}.whl"
+    wheel = f"jihluka-{_field('version')}-{tag}.whl"
     with zipfile.ZipFile(os.path.join(wheel_directory, wheel), "w", zipfile.ZIP_DEFLATED) as it:
         for name, text in files.items():
             it.writestr(name, text)
@@ -61,9 +61,9 @@ def build_wheel(wheel_directory, config_settings=None, metadata_directory=None):
 
 
 def build_sdist(sdist_directory, config_settings=None):
-    top = f"sonic-{_field('version')}"
+    top = f"jihluka-{_field('version')}"
     with tarfile.open(os.path.join(sdist_directory, f"{top}.tar.gz"), "w:gz", format=tarfile.PAX_FORMAT) as it:
-        for name in ("README.md", "backend.py", "pyproject.toml", "src/sonic"):
+        for name in ("README.md", "backend.py", "pyproject.toml", "src/jihluka"):
             it.add(os.path.join(HERE, name), f"{top}/{name}", filter=lambda file: None if "__pycache__" in file.name else file)
         info, text = tarfile.TarInfo(f"{top}/PKG-INFO"), _metadata()
         info.size = len(text)

@@ -1,7 +1,7 @@
 /* A gateway that checks fields of a request's body before it lets the request pass, and what the calls
    tell of input that is broken. It prints a line for each case, which `run` compares with `expected`. */
 #define _DEFAULT_SOURCE
-#include "sonic.h"
+#include "jihluka.h"
 
 #include <stdio.h>
 #include <string.h>
@@ -10,7 +10,7 @@
 
 static const uint8_t *bytes(const char *text) { return (const uint8_t *)text; }
 
-static void print_span(const char *json, sonic_span span) {
+static void print_span(const char *json, jihluka_span span) {
   if (span.end == 0) {
     printf(" -");
   } else {
@@ -19,9 +19,9 @@ static void print_span(const char *json, sonic_span span) {
 }
 
 /* Code 0 has no words. */
-static void print_error(uint32_t status, sonic_error error) {
+static void print_error(uint32_t status, jihluka_error error) {
   uint8_t room[128] = {0};
-  size_t length = sonic_code_text(error.code, room, sizeof room);
+  size_t length = jihluka_code_text(error.code, room, sizeof room);
   printf(" status %u code %u at %zu:%zu (%zu)", (unsigned)status, (unsigned)error.code, error.line, error.column,
          error.offset);
   if (length > sizeof room) length = sizeof room;
@@ -30,21 +30,21 @@ static void print_error(uint32_t status, sonic_error error) {
 
 /* The words of some codes, in a room that is smaller than most. */
 static void show_words(void) {
-  const uint32_t codes[] = {SONIC_CODE_INVALID_NUMBER, SONIC_CODE_MISMATCH + 10 * 5 + 0, 99};
+  const uint32_t codes[] = {JIHLUKA_CODE_INVALID_NUMBER, JIHLUKA_CODE_MISMATCH + 10 * 5 + 0, 99};
   for (size_t i = 0; i < sizeof codes / sizeof codes[0]; i++) {
     char room[] = "....................";
-    size_t length = sonic_code_text(codes[i], (uint8_t *)room, sizeof room - 1);
+    size_t length = jihluka_code_text(codes[i], (uint8_t *)room, sizeof room - 1);
     printf("code_text %u: %zu %s\n", (unsigned)codes[i], length, room);
   }
 }
 
 /* One field, looked up in a body that may be broken anywhere after it. */
 static void show_field(const char *json, const char *path) {
-  sonic_span span = {0, 0};
-  sonic_error error = {0, 0, 0, 0};
-  uint32_t status = sonic_get(bytes(json), strlen(json), bytes(path), strlen(path), &span, &error);
+  jihluka_span span = {0, 0};
+  jihluka_error error = {0, 0, 0, 0};
+  uint32_t status = jihluka_get(bytes(json), strlen(json), bytes(path), strlen(path), &span, &error);
   printf("get");
-  if (status == SONIC_OK) {
+  if (status == JIHLUKA_OK) {
     print_span(json, span);
   } else {
     print_error(status, error);
@@ -54,27 +54,27 @@ static void show_field(const char *json, const char *path) {
 
 /* Three fields by one walk. */
 static void show_fields(const char *json, const char *paths) {
-  sonic_span spans[3] = {{9, 9}, {9, 9}, {9, 9}};
-  sonic_error error = {0, 0, 0, 0};
-  uint32_t status = sonic_get_many(bytes(json), strlen(json), bytes(paths), strlen(paths), spans, 3, &error);
+  jihluka_span spans[3] = {{9, 9}, {9, 9}, {9, 9}};
+  jihluka_error error = {0, 0, 0, 0};
+  uint32_t status = jihluka_get_many(bytes(json), strlen(json), bytes(paths), strlen(paths), spans, 3, &error);
   printf("get_many");
-  for (int i = 0; status == SONIC_OK && i < 3; i++) print_span(json, spans[i]);
-  if (status != SONIC_OK) print_error(status, error);
+  for (int i = 0; status == JIHLUKA_OK && i < 3; i++) print_span(json, spans[i]);
+  if (status != JIHLUKA_OK) print_error(status, error);
   printf("\n");
 }
 
 /* A body that is judged once, and then looked into without a second look at what is passed. */
 static void show_judged(const char *json, const char *paths) {
-  sonic_span spans[3] = {{9, 9}, {9, 9}, {9, 9}}, one = {0, 0};
-  sonic_error error = {0, 0, 0, 0};
-  uint32_t status = sonic_validate(bytes(json), strlen(json), &error);
+  jihluka_span spans[3] = {{9, 9}, {9, 9}, {9, 9}}, one = {0, 0};
+  jihluka_error error = {0, 0, 0, 0};
+  uint32_t status = jihluka_validate(bytes(json), strlen(json), &error);
   printf("validate");
-  if (status == SONIC_OK)
-    status = sonic_get_many_unchecked(bytes(json), strlen(json), bytes(paths), strlen(paths), spans, 3, &error);
-  for (int i = 0; status == SONIC_OK && i < 3; i++) print_span(json, spans[i]);
-  if (status == SONIC_OK)
-    status = sonic_get_unchecked(bytes(json), strlen(json), bytes("[\"iss\"]"), 7, &one, &error);
-  if (status == SONIC_OK) {
+  if (status == JIHLUKA_OK)
+    status = jihluka_get_many_unchecked(bytes(json), strlen(json), bytes(paths), strlen(paths), spans, 3, &error);
+  for (int i = 0; status == JIHLUKA_OK && i < 3; i++) print_span(json, spans[i]);
+  if (status == JIHLUKA_OK)
+    status = jihluka_get_unchecked(bytes(json), strlen(json), bytes("[\"iss\"]"), 7, &one, &error);
+  if (status == JIHLUKA_OK) {
     print_span(json, one);
   } else {
     print_error(status, error);
@@ -92,13 +92,13 @@ static void show_at_a_guard_page(const char *json) {
   }
   uint8_t *text = pages + page - length;
   memcpy(text, json, length);
-  sonic_span span = {0, 0};
-  sonic_error error = {0, 0, 0, 0};
-  uint32_t status = sonic_get(text, length, bytes("[1]"), 3, &span, &error);
-  if (status == SONIC_OK) status = sonic_validate(text, length, &error);
-  if (status == SONIC_OK) status = sonic_get_unchecked(text, length, bytes("[1]"), 3, &span, &error);
+  jihluka_span span = {0, 0};
+  jihluka_error error = {0, 0, 0, 0};
+  uint32_t status = jihluka_get(text, length, bytes("[1]"), 3, &span, &error);
+  if (status == JIHLUKA_OK) status = jihluka_validate(text, length, &error);
+  if (status == JIHLUKA_OK) status = jihluka_get_unchecked(text, length, bytes("[1]"), 3, &span, &error);
   printf("at a guard page");
-  if (status == SONIC_OK) {
+  if (status == JIHLUKA_OK) {
     print_span((const char *)text, span);
   } else {
     print_error(status, error);

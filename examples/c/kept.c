@@ -1,7 +1,7 @@
 /* A gateway that asks many requests for the same fields: the paths are read once, and each thread keeps a list of
    its own. Beside it what the rules for equal keys find, and what a list goes through: it is refused, kept anew,
    given back twice. It prints a line for each case, which `run` compares with `expected_kept`. */
-#include "sonic.h"
+#include "jihluka.h"
 
 #include <pthread.h>
 #include <stdio.h>
@@ -21,10 +21,10 @@ static char *copy(const char *text) {
   return block;
 }
 
-static void keep(sonic_paths *paths, const char *lines, uint32_t rule) {
-  sonic_error error = {0, 0, 0, 0};
+static void keep(jihluka_paths *paths, const char *lines, uint32_t rule) {
+  jihluka_error error = {0, 0, 0, 0};
   char *given = copy(lines);
-  uint32_t status = sonic_paths_new(bytes(given), strlen(lines), rule, paths, &error);
+  uint32_t status = jihluka_paths_new(bytes(given), strlen(lines), rule, paths, &error);
   /* The lines are not needed any more. */
   free(given);
   printf("keep %u: status %u, line %zu, %zu paths\n", (unsigned)rule, (unsigned)status, error.line, paths->count);
@@ -32,19 +32,19 @@ static void keep(sonic_paths *paths, const char *lines, uint32_t rule) {
 
 /* What one request comes to, by the call that looks at all it passes, and where that finds a document, by the
    one that doesn't. */
-static void ask(sonic_paths *paths, const char *json) {
-  sonic_span spans[3] = {{9, 9}, {9, 9}, {9, 9}}, again[3];
-  sonic_error error = {0, 0, 0, 0};
+static void ask(jihluka_paths *paths, const char *json) {
+  jihluka_span spans[3] = {{9, 9}, {9, 9}, {9, 9}}, again[3];
+  jihluka_error error = {0, 0, 0, 0};
   char *text = copy(json);
-  uint32_t status = sonic_get_many_with(bytes(text), strlen(json), paths, spans, paths->count, &error);
+  uint32_t status = jihluka_get_many_with(bytes(text), strlen(json), paths, spans, paths->count, &error);
   printf("ask: status %u", (unsigned)status);
-  for (size_t i = 0; status == SONIC_OK && i < paths->count; i++) {
+  for (size_t i = 0; status == JIHLUKA_OK && i < paths->count; i++) {
     printf(spans[i].end > 0 ? " %.*s" : " -", (int)(spans[i].end - spans[i].start), text + spans[i].start);
   }
-  if (status != SONIC_OK) printf(" code %u at %zu:%zu (%zu)", (unsigned)error.code, error.line, error.column, error.offset);
-  if (sonic_validate(bytes(text), strlen(json), &error) == SONIC_OK) {
+  if (status != JIHLUKA_OK) printf(" code %u at %zu:%zu (%zu)", (unsigned)error.code, error.line, error.column, error.offset);
+  if (jihluka_validate(bytes(text), strlen(json), &error) == JIHLUKA_OK) {
     memcpy(again, spans, sizeof again);
-    uint32_t same = sonic_get_many_with_unchecked(bytes(text), strlen(json), paths, again, paths->count, &error);
+    uint32_t same = jihluka_get_many_with_unchecked(bytes(text), strlen(json), paths, again, paths->count, &error);
     if (same != status || memcmp(again, spans, sizeof again) != 0) printf(" WRONG");
   }
   printf("\n");
@@ -61,31 +61,31 @@ static size_t request(char *room, size_t size, unsigned number) {
   return (size_t)length;
 }
 
-/* One thread asks all requests, and counts where the answer is another than that of `sonic_get_many`. */
+/* One thread asks all requests, and counts where the answer is another than that of `jihluka_get_many`. */
 static void *serve(void *given) {
   size_t *wrong = given;
-  sonic_paths paths = SONIC_NO_PATHS;
-  sonic_error error = {0, 0, 0, 0};
-  if (sonic_paths_new(bytes(LINES), strlen(LINES), SONIC_KEYS_FIRST, &paths, &error) != SONIC_OK) return NULL;
+  jihluka_paths paths = JIHLUKA_NO_PATHS;
+  jihluka_error error = {0, 0, 0, 0};
+  if (jihluka_paths_new(bytes(LINES), strlen(LINES), JIHLUKA_KEYS_FIRST, &paths, &error) != JIHLUKA_OK) return NULL;
   for (unsigned i = 0; i < REQUESTS; i++) {
     char room[160];
-    sonic_span spans[3] = {{0, 0}, {0, 0}, {0, 0}}, want[3] = {{0, 0}, {0, 0}, {0, 0}};
-    sonic_error one = {0, 0, 0, 0}, other = {0, 0, 0, 0};
+    jihluka_span spans[3] = {{0, 0}, {0, 0}, {0, 0}}, want[3] = {{0, 0}, {0, 0}, {0, 0}};
+    jihluka_error one = {0, 0, 0, 0}, other = {0, 0, 0, 0};
     size_t length = request(room, sizeof room, i);
-    uint32_t status = sonic_get_many_with(bytes(room), length, &paths, spans, 3, &one);
-    uint32_t wanted = sonic_get_many(bytes(room), length, bytes(LINES), strlen(LINES), want, 3, &other);
+    uint32_t status = jihluka_get_many_with(bytes(room), length, &paths, spans, 3, &one);
+    uint32_t wanted = jihluka_get_many(bytes(room), length, bytes(LINES), strlen(LINES), want, 3, &other);
     *wrong += status != wanted || memcmp(spans, want, sizeof spans) != 0 || one.code != other.code || one.offset != other.offset;
   }
-  sonic_paths_free(&paths);
+  jihluka_paths_free(&paths);
   return NULL;
 }
 
 int main(void) {
-  sonic_paths paths = SONIC_NO_PATHS;
-  sonic_span span = {9, 9};
-  sonic_error error = {0, 0, 0, 0};
+  jihluka_paths paths = JIHLUKA_NO_PATHS;
+  jihluka_span span = {9, 9};
+  jihluka_error error = {0, 0, 0, 0};
 
-  keep(&paths, LINES, SONIC_KEYS_FIRST);
+  keep(&paths, LINES, JIHLUKA_KEYS_FIRST);
   ask(&paths, "{\"total\":7,\"user\":{\"level\":3},\"id\":\"x\"}");
   ask(&paths, "{\"user\":{\"level\":[]}}");
   ask(&paths, "{\"user\":5}");
@@ -96,29 +96,29 @@ int main(void) {
   /* Which of equal keys counts. */
   const char *twice = "{\"id\":1,\"id\":2,\"user\":{\"level\":3,\"l\\u0065vel\":4},\"total\":0}";
   ask(&paths, twice);
-  keep(&paths, LINES, SONIC_KEYS_LAST);
+  keep(&paths, LINES, JIHLUKA_KEYS_LAST);
   ask(&paths, twice);
-  keep(&paths, LINES, SONIC_KEYS_REFUSE);
+  keep(&paths, LINES, JIHLUKA_KEYS_REFUSE);
   ask(&paths, twice);
   ask(&paths, "{\"id\":1}");
 
   /* What is refused leaves what was kept. */
-  keep(&paths, "[\"id\"]\n[1]\n", SONIC_KEYS_FIRST);
+  keep(&paths, "[\"id\"]\n[1]\n", JIHLUKA_KEYS_FIRST);
   keep(&paths, "[]", 3);
   ask(&paths, twice);
-  uint32_t status = sonic_get_many_with(bytes("{}"), 2, &paths, &span, 1, &error);
+  uint32_t status = jihluka_get_many_with(bytes("{}"), 2, &paths, &span, 1, &error);
   printf("one span: status %u, %zu paths\n", (unsigned)status, error.line);
 
   /* Given back twice, and kept in again. */
-  sonic_paths_free(&paths);
-  sonic_paths_free(&paths);
+  jihluka_paths_free(&paths);
+  jihluka_paths_free(&paths);
   printf("freed: %zu paths\n", paths.count);
   ask(&paths, "[");
-  keep(&paths, "[0]\n[0]", SONIC_KEYS_FIRST);
+  keep(&paths, "[0]\n[0]", JIHLUKA_KEYS_FIRST);
   ask(&paths, "[[1,2]]");
-  keep(&paths, "", SONIC_KEYS_LAST);
+  keep(&paths, "", JIHLUKA_KEYS_LAST);
   ask(&paths, "[");
-  sonic_paths_free(&paths);
+  jihluka_paths_free(&paths);
 
   pthread_t threads[THREADS];
   size_t wrong[THREADS] = {0}, sum = 0;

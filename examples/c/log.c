@@ -1,7 +1,7 @@
 /* What is seen of a log that comes in pieces: the rows of its lines, by paths; and, of a line that is of
    interest, the value at a place and what is around it, by an index of all values. It prints them, which `run`
    compares with `expected_log`. */
-#include "sonic.h"
+#include "jihluka.h"
 
 #include <stdio.h>
 #include <stdlib.h>
@@ -38,9 +38,9 @@ static void show_rows(stream *from, size_t length) {
   static const char paths[] = "[\"at\"]\n[\"who\"]\n";
   uint8_t room[256];
   size_t wanted = 0;
-  sonic_error error = {0, 0, 0, 0};
-  uint32_t status = sonic_rows(bytes(from->held), length, bytes(paths), strlen(paths), from->lines, room, sizeof room, &wanted, &error);
-  check(status == SONIC_OK && wanted <= sizeof room, "rows");
+  jihluka_error error = {0, 0, 0, 0};
+  uint32_t status = jihluka_rows(bytes(from->held), length, bytes(paths), strlen(paths), from->lines, room, sizeof room, &wanted, &error);
+  check(status == JIHLUKA_OK && wanted <= sizeof room, "rows");
   printf("%.*s", (int)wanted, (const char *)room);
   for (size_t i = 0; i < length; i++) from->lines += from->held[i] == '\n';
   from->length -= length;
@@ -65,22 +65,22 @@ static void show_log(size_t piece) {
 
 /* All values of a document, as far as there is room for them. */
 static void show_values(const char *json, size_t room) {
-  sonic_entry entries[8];
+  jihluka_entry entries[8];
   memset(entries, 0xA5, sizeof entries);
   size_t wanted = 0;
-  sonic_error error = {93, 94, 95, 96};
-  uint32_t status = sonic_index(bytes(json), strlen(json), room == 0 ? NULL : entries, room, &wanted, &error);
-  if (status != SONIC_OK) {
+  jihluka_error error = {93, 94, 95, 96};
+  uint32_t status = jihluka_index(bytes(json), strlen(json), room == 0 ? NULL : entries, room, &wanted, &error);
+  if (status != JIHLUKA_OK) {
     printf("no index: status %u, code %u at %zu\n", (unsigned)status, (unsigned)error.code, error.offset);
     check(wanted == 0, "the number after a refusal");
     return;
   }
   printf("%zu of %zu values of %s\n", wanted < room ? wanted : room, wanted, json);
   for (size_t i = 0; i < wanted && i < room; i++) {
-    const sonic_entry *one = &entries[i];
+    const jihluka_entry *one = &entries[i];
     printf("  %zu: %s %.*s in %zu", i, types[one->type], (int)(one->value.end - one->value.start), json + one->value.start, one->parent);
-    if (i > 0 && entries[one->parent].type == SONIC_OBJECT) printf(" by %.*s", (int)(one->key.end - one->key.start), json + one->key.start);
-    if (i > 0 && entries[one->parent].type == SONIC_ARRAY) printf(" at %zu", one->position);
+    if (i > 0 && entries[one->parent].type == JIHLUKA_OBJECT) printf(" by %.*s", (int)(one->key.end - one->key.start), json + one->key.start);
+    if (i > 0 && entries[one->parent].type == JIHLUKA_ARRAY) printf(" at %zu", one->position);
     printf("\n");
   }
   for (size_t i = wanted < room ? wanted : room; i < sizeof entries / sizeof entries[0]; i++) {
@@ -91,10 +91,10 @@ static void show_values(const char *json, size_t room) {
 /* The innermost value at a place of a document, and those around it: the last one that begins at it or before, or one around that. */
 static void show_place(const char *json, size_t place) {
   size_t wanted = 0, again = 0;
-  sonic_error error = {0, 0, 0, 0};
-  if (sonic_index(bytes(json), strlen(json), NULL, 0, &wanted, &error) != SONIC_OK) exit(2);
-  sonic_entry *entries = calloc(wanted, sizeof *entries);
-  if (entries == NULL || sonic_index(bytes(json), strlen(json), entries, wanted, &again, &error) != SONIC_OK) exit(2);
+  jihluka_error error = {0, 0, 0, 0};
+  if (jihluka_index(bytes(json), strlen(json), NULL, 0, &wanted, &error) != JIHLUKA_OK) exit(2);
+  jihluka_entry *entries = calloc(wanted, sizeof *entries);
+  if (entries == NULL || jihluka_index(bytes(json), strlen(json), entries, wanted, &again, &error) != JIHLUKA_OK) exit(2);
   check(again == wanted, "the number of values");
   size_t at = wanted - 1;
   while (at > 0 && entries[at].value.start > place) at--;
@@ -111,14 +111,14 @@ static void show_place(const char *json, size_t place) {
 static void show_many(void) {
   enum { COUNT = 100000 };
   char *json = malloc(2 * COUNT + 1);
-  sonic_entry *entries = calloc(COUNT, sizeof *entries);
+  jihluka_entry *entries = calloc(COUNT, sizeof *entries);
   if (json == NULL || entries == NULL) exit(2);
   memset(json, '[', COUNT);
   memset(json + COUNT, ']', COUNT);
   size_t wanted = 0;
-  sonic_error error = {0, 0, 0, 0};
-  uint32_t status = sonic_index((const uint8_t *)json, 2 * COUNT, entries, COUNT, &wanted, &error);
-  check(status == SONIC_OK && wanted == COUNT, "many values");
+  jihluka_error error = {0, 0, 0, 0};
+  uint32_t status = jihluka_index((const uint8_t *)json, 2 * COUNT, entries, COUNT, &wanted, &error);
+  check(status == JIHLUKA_OK && wanted == COUNT, "many values");
   for (size_t i = 0; i < COUNT; i++) {
     check(entries[i].value.start == i && entries[i].value.end == 2 * COUNT - i && entries[i].parent == (i == 0 ? 0 : i - 1), "an array");
   }

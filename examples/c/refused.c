@@ -2,7 +2,7 @@
    it was, and gives back all that it took. Where an allocation only serves speed, the call may do
    without, and answers as ever. It prints a line for each call, which `run` compares with
    `expected_refused`; `run` also links the allocator's calls to those here. */
-#include "sonic.h"
+#include "jihluka.h"
 
 #include <stdio.h>
 #include <string.h>
@@ -44,13 +44,13 @@ void __wrap_free(void *block) {
 
 /* What a call may write to. */
 typedef struct cells {
-  sonic_span spans[3];
-  sonic_error error;
+  jihluka_span spans[3];
+  jihluka_error error;
   uint8_t room[64];
   size_t wanted;
-  sonic_items items;
-  sonic_item item;
-  sonic_entry entries[4];
+  jihluka_items items;
+  jihluka_item item;
+  jihluka_entry entries[4];
 } cells;
 
 static int same(const cells *a, const cells *b) {
@@ -82,109 +82,109 @@ static const uint8_t *bytes(const char *text) { return (const uint8_t *)text; }
 
 typedef size_t call(cells *told);
 
-static size_t validate(cells *told) { return sonic_validate(bytes(json), strlen(json), &told->error); }
+static size_t validate(cells *told) { return jihluka_validate(bytes(json), strlen(json), &told->error); }
 
-static size_t validate_cut(cells *told) { return sonic_validate(bytes(json), strlen(json) - 1, &told->error); }
+static size_t validate_cut(cells *told) { return jihluka_validate(bytes(json), strlen(json) - 1, &told->error); }
 
-static size_t validate_deep(cells *told) { return sonic_validate(bytes(deep()), strlen(deep()), &told->error); }
+static size_t validate_deep(cells *told) { return jihluka_validate(bytes(deep()), strlen(deep()), &told->error); }
 
-static size_t validate_deep_cut(cells *told) { return sonic_validate(bytes(deep()), strlen(deep()) - 1, &told->error); }
+static size_t validate_deep_cut(cells *told) { return jihluka_validate(bytes(deep()), strlen(deep()) - 1, &told->error); }
 
-static size_t validate_broken(cells *told) { return sonic_validate(bytes("[[tru]]"), 7, &told->error); }
+static size_t validate_broken(cells *told) { return jihluka_validate(bytes("[[tru]]"), 7, &told->error); }
 
 static size_t get(cells *told) {
-  return sonic_get(bytes(json), strlen(json), bytes(path), strlen(path), told->spans, &told->error);
+  return jihluka_get(bytes(json), strlen(json), bytes(path), strlen(path), told->spans, &told->error);
 }
 
 static size_t get_cut(cells *told) {
-  return sonic_get(bytes(json), 40, bytes(path), strlen(path), told->spans, &told->error);
+  return jihluka_get(bytes(json), 40, bytes(path), strlen(path), told->spans, &told->error);
 }
 
 static size_t get_unchecked(cells *told) {
-  return sonic_get_unchecked(bytes(json), strlen(json), bytes(path), strlen(path), told->spans, &told->error);
+  return jihluka_get_unchecked(bytes(json), strlen(json), bytes(path), strlen(path), told->spans, &told->error);
 }
 
 static size_t get_many(cells *told) {
-  return sonic_get_many(bytes(json), strlen(json), bytes(paths), strlen(paths), told->spans, 3, &told->error);
+  return jihluka_get_many(bytes(json), strlen(json), bytes(paths), strlen(paths), told->spans, 3, &told->error);
 }
 
 static size_t get_many_cut(cells *told) {
-  return sonic_get_many(bytes(json), 40, bytes(paths), strlen(paths), told->spans, 3, &told->error);
+  return jihluka_get_many(bytes(json), 40, bytes(paths), strlen(paths), told->spans, 3, &told->error);
 }
 
 static size_t get_many_for_two(cells *told) {
-  return sonic_get_many(bytes(json), strlen(json), bytes(paths), strlen(paths), told->spans, 2, &told->error);
+  return jihluka_get_many(bytes(json), strlen(json), bytes(paths), strlen(paths), told->spans, 2, &told->error);
 }
 
 static size_t get_many_unchecked(cells *told) {
-  return sonic_get_many_unchecked(bytes(json), strlen(json), bytes(paths), strlen(paths), told->spans, 3,
-                                  &told->error);
+  return jihluka_get_many_unchecked(bytes(json), strlen(json), bytes(paths), strlen(paths), told->spans, 3,
+                                    &told->error);
 }
 
 /* Paths are kept, asked for in a text of some length and given back. */
 static size_t keep_and_ask(cells *told, uint32_t rule, size_t length) {
-  sonic_paths kept = SONIC_NO_PATHS;
-  size_t status = sonic_paths_new(bytes(paths), strlen(paths), rule, &kept, &told->error);
-  if (status == SONIC_OK) status = sonic_get_many_with(bytes(json), length, &kept, told->spans, 3, &told->error);
-  sonic_paths_free(&kept);
+  jihluka_paths kept = JIHLUKA_NO_PATHS;
+  size_t status = jihluka_paths_new(bytes(paths), strlen(paths), rule, &kept, &told->error);
+  if (status == JIHLUKA_OK) status = jihluka_get_many_with(bytes(json), length, &kept, told->spans, 3, &told->error);
+  jihluka_paths_free(&kept);
   return status;
 }
 
-static size_t get_many_with(cells *told) { return keep_and_ask(told, SONIC_KEYS_FIRST, strlen(json)); }
+static size_t get_many_with(cells *told) { return keep_and_ask(told, JIHLUKA_KEYS_FIRST, strlen(json)); }
 
-static size_t get_many_with_cut(cells *told) { return keep_and_ask(told, SONIC_KEYS_FIRST, 40); }
+static size_t get_many_with_cut(cells *told) { return keep_and_ask(told, JIHLUKA_KEYS_FIRST, 40); }
 
-static size_t get_many_with_last(cells *told) { return keep_and_ask(told, SONIC_KEYS_LAST, strlen(json)); }
+static size_t get_many_with_last(cells *told) { return keep_and_ask(told, JIHLUKA_KEYS_LAST, strlen(json)); }
 
 /* What was kept is kept on where other paths find no memory, and then asked without a second look. */
 static size_t keep_again(cells *told) {
-  sonic_paths kept = SONIC_NO_PATHS;
-  size_t status = sonic_paths_new(bytes(paths), strlen(paths), SONIC_KEYS_REFUSE, &kept, &told->error);
-  if (status == SONIC_OK) status = sonic_paths_new(bytes(paths), strlen(paths), SONIC_KEYS_FIRST, &kept, &told->error);
-  if (status == SONIC_OK) status = sonic_get_many_with_unchecked(bytes(json), strlen(json), &kept, told->spans, 3, &told->error);
-  sonic_paths_free(&kept);
+  jihluka_paths kept = JIHLUKA_NO_PATHS;
+  size_t status = jihluka_paths_new(bytes(paths), strlen(paths), JIHLUKA_KEYS_REFUSE, &kept, &told->error);
+  if (status == JIHLUKA_OK) status = jihluka_paths_new(bytes(paths), strlen(paths), JIHLUKA_KEYS_FIRST, &kept, &told->error);
+  if (status == JIHLUKA_OK) status = jihluka_get_many_with_unchecked(bytes(json), strlen(json), &kept, told->spans, 3, &told->error);
+  jihluka_paths_free(&kept);
   return status;
 }
 
-static size_t code_text(cells *told) { return sonic_code_text(SONIC_CODE_MISMATCH, told->room, sizeof told->room); }
+static size_t code_text(cells *told) { return jihluka_code_text(JIHLUKA_CODE_MISMATCH, told->room, sizeof told->room); }
 
 static size_t string_text(cells *told) {
-  return sonic_string_text(bytes("\"a\\n\\u00e9\""), 11, told->room, sizeof told->room, &told->wanted, &told->error);
+  return jihluka_string_text(bytes("\"a\\n\\u00e9\""), 11, told->room, sizeof told->room, &told->wanted, &told->error);
 }
 
 static size_t plain_text(cells *told) {
-  return sonic_string_text(bytes("\"abc\""), 5, told->room, sizeof told->room, &told->wanted, &told->error);
+  return jihluka_string_text(bytes("\"abc\""), 5, told->room, sizeof told->room, &told->wanted, &told->error);
 }
 
-static size_t count(cells *told) { return sonic_count(bytes(json), strlen(json), &told->wanted, &told->error); }
+static size_t count(cells *told) { return jihluka_count(bytes(json), strlen(json), &told->wanted, &told->error); }
 
-static size_t count_cut(cells *told) { return sonic_count(bytes(json), strlen(json) - 1, &told->wanted, &told->error); }
+static size_t count_cut(cells *told) { return jihluka_count(bytes(json), strlen(json) - 1, &told->wanted, &told->error); }
 
-static size_t count_deep(cells *told) { return sonic_count(bytes(deep()), strlen(deep()), &told->wanted, &told->error); }
+static size_t count_deep(cells *told) { return jihluka_count(bytes(deep()), strlen(deep()), &told->wanted, &told->error); }
 
 static size_t items_next(cells *told) {
-  return sonic_items_next(bytes(json), strlen(json), &told->items, &told->item, &told->error);
+  return jihluka_items_next(bytes(json), strlen(json), &told->items, &told->item, &told->error);
 }
 
 static size_t minify(cells *told) {
-  return sonic_minify(bytes(json), strlen(json), told->room, sizeof told->room, &told->wanted, &told->error);
+  return jihluka_minify(bytes(json), strlen(json), told->room, sizeof told->room, &told->wanted, &told->error);
 }
 
 static size_t minify_cut(cells *told) {
-  return sonic_minify(bytes(json), strlen(json) - 1, told->room, sizeof told->room, &told->wanted, &told->error);
+  return jihluka_minify(bytes(json), strlen(json) - 1, told->room, sizeof told->room, &told->wanted, &told->error);
 }
 
 static size_t minify_deep(cells *told) {
-  return sonic_minify(bytes(deep()), strlen(deep()), told->room, sizeof told->room, &told->wanted, &told->error);
+  return jihluka_minify(bytes(deep()), strlen(deep()), told->room, sizeof told->room, &told->wanted, &told->error);
 }
 
 static size_t indent(cells *told) {
-  return sonic_indent(bytes(json), strlen(json), 2, told->room, sizeof told->room, &told->wanted, &told->error);
+  return jihluka_indent(bytes(json), strlen(json), 2, told->room, sizeof told->room, &told->wanted, &told->error);
 }
 
 static size_t patch_by(cells *told, const char *patch) {
-  return sonic_patch(bytes(json), strlen(json), bytes(patch), strlen(patch), told->room, sizeof told->room, &told->wanted,
-                     &told->error);
+  return jihluka_patch(bytes(json), strlen(json), bytes(patch), strlen(patch), told->room, sizeof told->room, &told->wanted,
+                       &told->error);
 }
 
 static size_t patch(cells *told) {
@@ -201,8 +201,8 @@ static size_t patch_that_fails(cells *told) {
 static size_t patch_cut(cells *told) { return patch_by(told, "[{\"op\":\"remove\",\"path\":\"/\\u0061\"},{"); }
 
 static size_t edit_by(cells *told, const char *edits) {
-  return sonic_edit(bytes(json), strlen(json), bytes(edits), strlen(edits), told->room, sizeof told->room, &told->wanted,
-                    &told->error);
+  return jihluka_edit(bytes(json), strlen(json), bytes(edits), strlen(edits), told->room, sizeof told->room, &told->wanted,
+                      &told->error);
 }
 
 static size_t edit(cells *told) {
@@ -213,17 +213,17 @@ static size_t edit_that_fails(cells *told) { return edit_by(told, "[\"take\",[\"
 
 static size_t fill(cells *told) {
   const char *schema = "{\"l\\u0069st\": 0, \"end\": {\"a\": 1}, \"more\": [\"y\\n\", 2.5]}";
-  return sonic_fill(bytes(json), strlen(json), bytes(schema), strlen(schema), told->room, sizeof told->room, &told->wanted,
-                    &told->error);
+  return jihluka_fill(bytes(json), strlen(json), bytes(schema), strlen(schema), told->room, sizeof told->room, &told->wanted,
+                      &told->error);
 }
 
 static size_t fill_from_cut(cells *told) {
-  return sonic_fill(bytes(json), strlen(json) - 1, bytes("{\"list\":0}"), 10, told->room, sizeof told->room, &told->wanted,
-                    &told->error);
+  return jihluka_fill(bytes(json), strlen(json) - 1, bytes("{\"list\":0}"), 10, told->room, sizeof told->room, &told->wanted,
+                      &told->error);
 }
 
 static size_t index_of(cells *told, const char *text, size_t length) {
-  return sonic_index(bytes(text), length, told->entries, 4, &told->wanted, &told->error);
+  return jihluka_index(bytes(text), length, told->entries, 4, &told->wanted, &told->error);
 }
 
 static size_t index_all(cells *told) { return index_of(told, json, strlen(json)); }
@@ -242,8 +242,8 @@ static size_t index_wide(cells *told) {
 static size_t rows(cells *told) {
   static const char lines[] = "{\"a\":[1,{\"b\":2}]}\n[\n\n{\"b\":3}";
   static const char two[] = "[\"a\",1,\"b\"]\n[\"b\"]\n";
-  return sonic_rows(bytes(lines), strlen(lines), bytes(two), strlen(two), 7, told->room, sizeof told->room, &told->wanted,
-                    &told->error);
+  return jihluka_rows(bytes(lines), strlen(lines), bytes(two), strlen(two), 7, told->room, sizeof told->room, &told->wanted,
+                      &told->error);
 }
 
 /* What a call is to answer and to leave, unrefused and refused. */
@@ -271,7 +271,7 @@ static int refuse_each(const char *name, call *one, size_t no_memory) {
   answers want;
   memset(&want.before, 0xA5, sizeof want.before);
   /* The cursor is one that has begun, which takes no memory. */
-  if (sonic_items_begin(bytes(json), strlen(json), &want.before.items, &want.before.error) != SONIC_OK) return 1;
+  if (jihluka_items_begin(bytes(json), strlen(json), &want.before.items, &want.before.error) != JIHLUKA_OK) return 1;
   memcpy(&want.after, &want.before, sizeof want.after);
   refused = onwards = 0;
   want.plain = one(&want.after);
@@ -289,43 +289,43 @@ static int refuse_each(const char *name, call *one, size_t no_memory) {
 }
 
 int main(void) {
-  int wrong = refuse_each("validate", validate, SONIC_NO_MEMORY);
-  wrong |= refuse_each("validate, cut", validate_cut, SONIC_NO_MEMORY);
-  wrong |= refuse_each("validate, broken", validate_broken, SONIC_NO_MEMORY);
-  wrong |= refuse_each("validate, deep", validate_deep, SONIC_NO_MEMORY);
-  wrong |= refuse_each("validate, deep and cut", validate_deep_cut, SONIC_NO_MEMORY);
-  wrong |= refuse_each("get", get, SONIC_NO_MEMORY);
-  wrong |= refuse_each("get, cut", get_cut, SONIC_NO_MEMORY);
-  wrong |= refuse_each("get_unchecked", get_unchecked, SONIC_NO_MEMORY);
-  wrong |= refuse_each("get_many", get_many, SONIC_NO_MEMORY);
-  wrong |= refuse_each("get_many, cut", get_many_cut, SONIC_NO_MEMORY);
-  wrong |= refuse_each("get_many, for two", get_many_for_two, SONIC_NO_MEMORY);
-  wrong |= refuse_each("get_many_unchecked", get_many_unchecked, SONIC_NO_MEMORY);
-  wrong |= refuse_each("get_many_with", get_many_with, SONIC_NO_MEMORY);
-  wrong |= refuse_each("get_many_with, cut", get_many_with_cut, SONIC_NO_MEMORY);
-  wrong |= refuse_each("get_many_with, the last key", get_many_with_last, SONIC_NO_MEMORY);
-  wrong |= refuse_each("get_many_with_unchecked, kept again", keep_again, SONIC_NO_MEMORY);
+  int wrong = refuse_each("validate", validate, JIHLUKA_NO_MEMORY);
+  wrong |= refuse_each("validate, cut", validate_cut, JIHLUKA_NO_MEMORY);
+  wrong |= refuse_each("validate, broken", validate_broken, JIHLUKA_NO_MEMORY);
+  wrong |= refuse_each("validate, deep", validate_deep, JIHLUKA_NO_MEMORY);
+  wrong |= refuse_each("validate, deep and cut", validate_deep_cut, JIHLUKA_NO_MEMORY);
+  wrong |= refuse_each("get", get, JIHLUKA_NO_MEMORY);
+  wrong |= refuse_each("get, cut", get_cut, JIHLUKA_NO_MEMORY);
+  wrong |= refuse_each("get_unchecked", get_unchecked, JIHLUKA_NO_MEMORY);
+  wrong |= refuse_each("get_many", get_many, JIHLUKA_NO_MEMORY);
+  wrong |= refuse_each("get_many, cut", get_many_cut, JIHLUKA_NO_MEMORY);
+  wrong |= refuse_each("get_many, for two", get_many_for_two, JIHLUKA_NO_MEMORY);
+  wrong |= refuse_each("get_many_unchecked", get_many_unchecked, JIHLUKA_NO_MEMORY);
+  wrong |= refuse_each("get_many_with", get_many_with, JIHLUKA_NO_MEMORY);
+  wrong |= refuse_each("get_many_with, cut", get_many_with_cut, JIHLUKA_NO_MEMORY);
+  wrong |= refuse_each("get_many_with, the last key", get_many_with_last, JIHLUKA_NO_MEMORY);
+  wrong |= refuse_each("get_many_with_unchecked, kept again", keep_again, JIHLUKA_NO_MEMORY);
   wrong |= refuse_each("code_text", code_text, 0);
-  wrong |= refuse_each("string_text", string_text, SONIC_NO_MEMORY);
-  wrong |= refuse_each("string_text, plain", plain_text, SONIC_NO_MEMORY);
-  wrong |= refuse_each("count", count, SONIC_NO_MEMORY);
-  wrong |= refuse_each("count, cut", count_cut, SONIC_NO_MEMORY);
-  wrong |= refuse_each("count, deep", count_deep, SONIC_NO_MEMORY);
-  wrong |= refuse_each("items_next", items_next, SONIC_NO_MEMORY);
-  wrong |= refuse_each("minify", minify, SONIC_NO_MEMORY);
-  wrong |= refuse_each("minify, cut", minify_cut, SONIC_NO_MEMORY);
-  wrong |= refuse_each("minify, deep", minify_deep, SONIC_NO_MEMORY);
-  wrong |= refuse_each("indent", indent, SONIC_NO_MEMORY);
-  wrong |= refuse_each("patch", patch, SONIC_NO_MEMORY);
-  wrong |= refuse_each("patch, that fails", patch_that_fails, SONIC_NO_MEMORY);
-  wrong |= refuse_each("patch, cut", patch_cut, SONIC_NO_MEMORY);
-  wrong |= refuse_each("edit", edit, SONIC_NO_MEMORY);
-  wrong |= refuse_each("edit, that fails", edit_that_fails, SONIC_NO_MEMORY);
-  wrong |= refuse_each("fill", fill, SONIC_NO_MEMORY);
-  wrong |= refuse_each("fill, from a cut text", fill_from_cut, SONIC_NO_MEMORY);
-  wrong |= refuse_each("index", index_all, SONIC_NO_MEMORY);
-  wrong |= refuse_each("index, cut", index_cut, SONIC_NO_MEMORY);
-  wrong |= refuse_each("index, wide", index_wide, SONIC_NO_MEMORY);
-  wrong |= refuse_each("rows", rows, SONIC_NO_MEMORY);
+  wrong |= refuse_each("string_text", string_text, JIHLUKA_NO_MEMORY);
+  wrong |= refuse_each("string_text, plain", plain_text, JIHLUKA_NO_MEMORY);
+  wrong |= refuse_each("count", count, JIHLUKA_NO_MEMORY);
+  wrong |= refuse_each("count, cut", count_cut, JIHLUKA_NO_MEMORY);
+  wrong |= refuse_each("count, deep", count_deep, JIHLUKA_NO_MEMORY);
+  wrong |= refuse_each("items_next", items_next, JIHLUKA_NO_MEMORY);
+  wrong |= refuse_each("minify", minify, JIHLUKA_NO_MEMORY);
+  wrong |= refuse_each("minify, cut", minify_cut, JIHLUKA_NO_MEMORY);
+  wrong |= refuse_each("minify, deep", minify_deep, JIHLUKA_NO_MEMORY);
+  wrong |= refuse_each("indent", indent, JIHLUKA_NO_MEMORY);
+  wrong |= refuse_each("patch", patch, JIHLUKA_NO_MEMORY);
+  wrong |= refuse_each("patch, that fails", patch_that_fails, JIHLUKA_NO_MEMORY);
+  wrong |= refuse_each("patch, cut", patch_cut, JIHLUKA_NO_MEMORY);
+  wrong |= refuse_each("edit", edit, JIHLUKA_NO_MEMORY);
+  wrong |= refuse_each("edit, that fails", edit_that_fails, JIHLUKA_NO_MEMORY);
+  wrong |= refuse_each("fill", fill, JIHLUKA_NO_MEMORY);
+  wrong |= refuse_each("fill, from a cut text", fill_from_cut, JIHLUKA_NO_MEMORY);
+  wrong |= refuse_each("index", index_all, JIHLUKA_NO_MEMORY);
+  wrong |= refuse_each("index, cut", index_cut, JIHLUKA_NO_MEMORY);
+  wrong |= refuse_each("index, wide", index_wide, JIHLUKA_NO_MEMORY);
+  wrong |= refuse_each("rows", rows, JIHLUKA_NO_MEMORY);
   return wrong;
 }

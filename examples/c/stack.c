@@ -1,7 +1,7 @@
 /* How little stack the calls need: each is made on a thread of 128 KiB, as musl gives it where nothing else is
    asked for, with paths of 255 nodes and pointers of 255 tokens, over a text that goes deeper. It prints what
    each came to, which `run` compares with `expected_stack`. */
-#include "sonic.h"
+#include "jihluka.h"
 
 #include <pthread.h>
 #include <stdio.h>
@@ -13,7 +13,7 @@ enum { STACK = 128 * 1024, NODES = 255, LEVELS = 1000, LONG = 1 << 17 };
 /* What is asked of a text, in memory that the thread doesn't hold itself. */
 static char arrays[LONG], objects[LONG], path[LONG], keys[LONG], paths[LONG], edit[LONG], patch[LONG], schema[LONG], data[LONG];
 static uint8_t room[LONG];
-static sonic_span spans[NODES];
+static jihluka_span spans[NODES];
 
 static const uint8_t *bytes(const char *text) { return (const uint8_t *)text; }
 
@@ -72,53 +72,53 @@ static void prepare(void) {
   repeat(data, "}", 1);
 }
 
-static sonic_error error;
+static jihluka_error error;
 static size_t wanted;
 
-static uint32_t validate(void) { return sonic_validate(bytes(arrays), strlen(arrays), &error); }
-static uint32_t get(void) { return sonic_get(bytes(objects), strlen(objects), bytes(keys), strlen(keys), spans, &error); }
+static uint32_t validate(void) { return jihluka_validate(bytes(arrays), strlen(arrays), &error); }
+static uint32_t get(void) { return jihluka_get(bytes(objects), strlen(objects), bytes(keys), strlen(keys), spans, &error); }
 static uint32_t get_unchecked(void) {
-  return sonic_get_unchecked(bytes(objects), strlen(objects), bytes(keys), strlen(keys), spans, &error);
+  return jihluka_get_unchecked(bytes(objects), strlen(objects), bytes(keys), strlen(keys), spans, &error);
 }
 static uint32_t get_many(void) {
-  return sonic_get_many(bytes(arrays), strlen(arrays), bytes(paths), strlen(paths), spans, NODES, &error);
+  return jihluka_get_many(bytes(arrays), strlen(arrays), bytes(paths), strlen(paths), spans, NODES, &error);
 }
 static uint32_t get_many_unchecked(void) {
-  return sonic_get_many_unchecked(bytes(arrays), strlen(arrays), bytes(paths), strlen(paths), spans, NODES, &error);
+  return jihluka_get_many_unchecked(bytes(arrays), strlen(arrays), bytes(paths), strlen(paths), spans, NODES, &error);
 }
 static uint32_t keep_and_ask(uint32_t rule, int judged) {
-  sonic_paths kept = SONIC_NO_PATHS;
-  uint32_t status = sonic_paths_new(bytes(paths), strlen(paths), rule, &kept, &error);
-  if (status == SONIC_OK && judged) status = sonic_get_many_with_unchecked(bytes(arrays), strlen(arrays), &kept, spans, NODES, &error);
-  if (status == SONIC_OK && !judged) status = sonic_get_many_with(bytes(arrays), strlen(arrays), &kept, spans, NODES, &error);
-  sonic_paths_free(&kept);
+  jihluka_paths kept = JIHLUKA_NO_PATHS;
+  uint32_t status = jihluka_paths_new(bytes(paths), strlen(paths), rule, &kept, &error);
+  if (status == JIHLUKA_OK && judged) status = jihluka_get_many_with_unchecked(bytes(arrays), strlen(arrays), &kept, spans, NODES, &error);
+  if (status == JIHLUKA_OK && !judged) status = jihluka_get_many_with(bytes(arrays), strlen(arrays), &kept, spans, NODES, &error);
+  jihluka_paths_free(&kept);
   return status;
 }
-static uint32_t get_many_with(void) { return keep_and_ask(SONIC_KEYS_LAST, 0); }
-static uint32_t get_many_with_unchecked(void) { return keep_and_ask(SONIC_KEYS_FIRST, 1); }
-static uint32_t count(void) { return sonic_count(bytes(arrays), strlen(arrays), &wanted, &error); }
+static uint32_t get_many_with(void) { return keep_and_ask(JIHLUKA_KEYS_LAST, 0); }
+static uint32_t get_many_with_unchecked(void) { return keep_and_ask(JIHLUKA_KEYS_FIRST, 1); }
+static uint32_t count(void) { return jihluka_count(bytes(arrays), strlen(arrays), &wanted, &error); }
 static uint32_t walk(void) {
-  sonic_items items = {0, 0};
-  sonic_item item = {{0, 0}, {0, 0}};
-  uint32_t status = sonic_items_begin(bytes(arrays), strlen(arrays), &items, &error);
-  for (wanted = 0; status == SONIC_OK; wanted++) status = sonic_items_next(bytes(arrays), strlen(arrays), &items, &item, &error);
+  jihluka_items items = {0, 0};
+  jihluka_item item = {{0, 0}, {0, 0}};
+  uint32_t status = jihluka_items_begin(bytes(arrays), strlen(arrays), &items, &error);
+  for (wanted = 0; status == JIHLUKA_OK; wanted++) status = jihluka_items_next(bytes(arrays), strlen(arrays), &items, &item, &error);
   return status;
 }
-static uint32_t minify(void) { return sonic_minify(bytes(arrays), strlen(arrays), room, sizeof room, &wanted, &error); }
-static uint32_t indent(void) { return sonic_indent(bytes(arrays), strlen(arrays), 1, room, sizeof room, &wanted, &error); }
+static uint32_t minify(void) { return jihluka_minify(bytes(arrays), strlen(arrays), room, sizeof room, &wanted, &error); }
+static uint32_t indent(void) { return jihluka_indent(bytes(arrays), strlen(arrays), 1, room, sizeof room, &wanted, &error); }
 static uint32_t make_edit(void) {
-  return sonic_edit(bytes(arrays), strlen(arrays), bytes(edit), strlen(edit), room, sizeof room, &wanted, &error);
+  return jihluka_edit(bytes(arrays), strlen(arrays), bytes(edit), strlen(edit), room, sizeof room, &wanted, &error);
 }
 static uint32_t make_patch(void) {
-  return sonic_patch(bytes(arrays), strlen(arrays), bytes(patch), strlen(patch), room, sizeof room, &wanted, &error);
+  return jihluka_patch(bytes(arrays), strlen(arrays), bytes(patch), strlen(patch), room, sizeof room, &wanted, &error);
 }
 static uint32_t fill(void) {
-  return sonic_fill(bytes(data), strlen(data), bytes(schema), strlen(schema), room, sizeof room, &wanted, &error);
+  return jihluka_fill(bytes(data), strlen(data), bytes(schema), strlen(schema), room, sizeof room, &wanted, &error);
 }
 
-static uint32_t all_values(void) { return sonic_index(bytes(arrays), strlen(arrays), NULL, 0, &wanted, &error); }
+static uint32_t all_values(void) { return jihluka_index(bytes(arrays), strlen(arrays), NULL, 0, &wanted, &error); }
 static uint32_t rows(void) {
-  return sonic_rows(bytes(arrays), strlen(arrays), bytes(paths), strlen(paths), 0, room, sizeof room, &wanted, &error);
+  return jihluka_rows(bytes(arrays), strlen(arrays), bytes(paths), strlen(paths), 0, room, sizeof room, &wanted, &error);
 }
 
 typedef struct {

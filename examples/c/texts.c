@@ -1,7 +1,7 @@
 /* What texts are made of a document: without white space, over lines, with a patch, with edits, and of a
    schema that is filled from it; and why none is made. It prints each text and each refusal, which `run`
    compares with `expected_texts`. */
-#include "sonic.h"
+#include "jihluka.h"
 
 #include <stdio.h>
 #include <stdlib.h>
@@ -11,36 +11,36 @@ static const uint8_t *bytes(const char *text) { return (const uint8_t *)text; }
 
 /* A call that makes a text, with what is to be made of the document, and how far its lines are indented. */
 typedef uint32_t call(const char *json, const char *change, size_t width, uint8_t *room, size_t room_length, size_t *wanted,
-                      sonic_error *error);
+                      jihluka_error *error);
 
 static uint32_t minify(const char *json, const char *change, size_t width, uint8_t *room, size_t room_length, size_t *wanted,
-                       sonic_error *error) {
+                       jihluka_error *error) {
   (void)change, (void)width;
-  return sonic_minify(bytes(json), strlen(json), room, room_length, wanted, error);
+  return jihluka_minify(bytes(json), strlen(json), room, room_length, wanted, error);
 }
 
 static uint32_t indent(const char *json, const char *change, size_t width, uint8_t *room, size_t room_length, size_t *wanted,
-                       sonic_error *error) {
+                       jihluka_error *error) {
   (void)change;
-  return sonic_indent(bytes(json), strlen(json), width, room, room_length, wanted, error);
+  return jihluka_indent(bytes(json), strlen(json), width, room, room_length, wanted, error);
 }
 
 static uint32_t patch(const char *json, const char *change, size_t width, uint8_t *room, size_t room_length, size_t *wanted,
-                      sonic_error *error) {
+                      jihluka_error *error) {
   (void)width;
-  return sonic_patch(bytes(json), strlen(json), bytes(change), strlen(change), room, room_length, wanted, error);
+  return jihluka_patch(bytes(json), strlen(json), bytes(change), strlen(change), room, room_length, wanted, error);
 }
 
 static uint32_t edit(const char *json, const char *change, size_t width, uint8_t *room, size_t room_length, size_t *wanted,
-                     sonic_error *error) {
+                     jihluka_error *error) {
   (void)width;
-  return sonic_edit(bytes(json), strlen(json), bytes(change), strlen(change), room, room_length, wanted, error);
+  return jihluka_edit(bytes(json), strlen(json), bytes(change), strlen(change), room, room_length, wanted, error);
 }
 
 static uint32_t fill(const char *json, const char *change, size_t width, uint8_t *room, size_t room_length, size_t *wanted,
-                     sonic_error *error) {
+                     jihluka_error *error) {
   (void)width;
-  return sonic_fill(bytes(json), strlen(json), bytes(change), strlen(change), room, room_length, wanted, error);
+  return jihluka_fill(bytes(json), strlen(json), bytes(change), strlen(change), room, room_length, wanted, error);
 }
 
 static int wrong;
@@ -56,9 +56,9 @@ static void show(const char *name, call *one, const char *json, const char *chan
   uint8_t room[LONG];
   memset(room, '.', sizeof room);
   size_t wanted = 0;
-  sonic_error error = {93, 94, 95, 96};
+  jihluka_error error = {93, 94, 95, 96};
   uint32_t status = one(json, change, width, room, sizeof room, &wanted, &error);
-  if (status != SONIC_OK) {
+  if (status != JIHLUKA_OK) {
     printf("%s: status %u, code %u, line %zu, column %zu, offset %zu\n", name, (unsigned)status, (unsigned)error.code, error.line,
            error.column, error.offset);
     check(wanted == 0 && room[0] == '.' && memcmp(room, room + 1, sizeof room - 1) == 0, "a room after a refusal");
@@ -73,7 +73,7 @@ static void show(const char *name, call *one, const char *json, const char *chan
     part[length] = '!';
     size_t again = 0;
     status = one(json, change, width, length == 0 ? NULL : part, length, &again, &error);
-    check(status == SONIC_OK && again == wanted && memcmp(part, room, length) == 0 && part[length] == '!', "a shorter room");
+    check(status == JIHLUKA_OK && again == wanted && memcmp(part, room, length) == 0 && part[length] == '!', "a shorter room");
     free(part);
   }
 }
@@ -125,9 +125,9 @@ static void show_many(void) {
   for (size_t i = 0; i < COUNT; i++) memcpy(json + 3 * i, i == 0 ? "[ 7" : ", 7", 3);
   json[3 * COUNT] = ']';
   size_t wanted = 0;
-  sonic_error error = {0, 0, 0, 0};
-  uint32_t status = sonic_minify((const uint8_t *)json, 3 * COUNT + 1, room, 3 * COUNT, &wanted, &error);
-  check(status == SONIC_OK && wanted == 2 * COUNT + 1 && memcmp(room, "[7,7", 4) == 0 && room[2 * COUNT] == ']', "many values");
+  jihluka_error error = {0, 0, 0, 0};
+  uint32_t status = jihluka_minify((const uint8_t *)json, 3 * COUNT + 1, room, 3 * COUNT, &wanted, &error);
+  check(status == JIHLUKA_OK && wanted == 2 * COUNT + 1 && memcmp(room, "[7,7", 4) == 0 && room[2 * COUNT] == ']', "many values");
   printf("many values: %zu bytes\n", wanted);
   free(room);
   free(json);

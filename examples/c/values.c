@@ -1,6 +1,6 @@
 /* What the values of an order are: types, integers, texts, and items one after the other, of orders that
    are broken too. It prints a line for each answer, which `run` compares with `expected_values`. */
-#include "sonic.h"
+#include "jihluka.h"
 
 #include <stdio.h>
 #include <stdlib.h>
@@ -10,25 +10,25 @@ static const uint8_t *bytes(const char *text) { return (const uint8_t *)text; }
 
 static const char *const types[] = {"null", "boolean", "number", "string", "object", "array"};
 
-static void print_status(const char *call, uint32_t status, const sonic_error *error) {
+static void print_status(const char *call, uint32_t status, const jihluka_error *error) {
   printf("%s: status %u", call, (unsigned)status);
-  if (status == SONIC_DOCUMENT_ERROR) printf(", code %u at %zu", (unsigned)error->code, error->offset);
+  if (status == JIHLUKA_DOCUMENT_ERROR) printf(", code %u at %zu", (unsigned)error->code, error->offset);
   printf("\n");
 }
 
 /* The text of a string in memory of its own size: the length first, then the text. */
 static void show_text(const uint8_t *json, size_t length) {
-  sonic_error error = {0, 0, 0, 0};
+  jihluka_error error = {0, 0, 0, 0};
   size_t wanted = 0, again = 0;
-  uint32_t status = sonic_string_text(json, length, NULL, 0, &wanted, &error);
-  if (status != SONIC_OK) {
+  uint32_t status = jihluka_string_text(json, length, NULL, 0, &wanted, &error);
+  if (status != JIHLUKA_OK) {
     print_status("string_text", status, &error);
     return;
   }
   uint8_t *room = malloc(wanted + 1);
   if (room == NULL) exit(2);
   room[wanted] = '!';
-  status = sonic_string_text(json, length, room, wanted, &again, &error);
+  status = jihluka_string_text(json, length, room, wanted, &again, &error);
   printf("string_text: %zu bytes", again);
   for (size_t i = 0; i <= wanted; i++) printf(room[i] >= 32 && room[i] < 127 ? " %c" : " %02x", room[i]);
   printf(", status %u\n", (unsigned)status);
@@ -36,20 +36,20 @@ static void show_text(const uint8_t *json, size_t length) {
 }
 
 static void show_integers(const char *json) {
-  sonic_error error = {0, 0, 0, 0};
+  jihluka_error error = {0, 0, 0, 0};
   uint64_t natural = 7;
   int64_t integer = 7;
-  uint32_t first = sonic_u64(bytes(json), strlen(json), &natural, &error);
-  uint32_t second = sonic_i64(bytes(json), strlen(json), &integer, &error);
+  uint32_t first = jihluka_u64(bytes(json), strlen(json), &natural, &error);
+  uint32_t second = jihluka_i64(bytes(json), strlen(json), &integer, &error);
   printf("%s: %llu (%u), %lld (%u)\n", json, (unsigned long long)natural, (unsigned)first, (long long)integer,
          (unsigned)second);
 }
 
 static void show_type(const char *json) {
-  sonic_error error = {0, 0, 0, 0};
+  jihluka_error error = {0, 0, 0, 0};
   uint32_t type = 9;
-  uint32_t status = sonic_type(bytes(json), strlen(json), &type, &error);
-  if (status == SONIC_OK) {
+  uint32_t status = jihluka_type(bytes(json), strlen(json), &type, &error);
+  if (status == JIHLUKA_OK) {
     printf("type: %s\n", types[type]);
   } else {
     print_status("type", status, &error);
@@ -57,10 +57,10 @@ static void show_type(const char *json) {
 }
 
 static void show_count(const char *json) {
-  sonic_error error = {0, 0, 0, 0};
+  jihluka_error error = {0, 0, 0, 0};
   size_t count = 99;
-  uint32_t status = sonic_count(bytes(json), strlen(json), &count, &error);
-  if (status == SONIC_OK) {
+  uint32_t status = jihluka_count(bytes(json), strlen(json), &count, &error);
+  if (status == JIHLUKA_OK) {
     printf("count: %zu\n", count);
   } else {
     print_status("count", status, &error);
@@ -69,26 +69,26 @@ static void show_count(const char *json) {
 
 /* Goes through all that is in a container, however deep, by a cursor for each level. */
 static void show_items(const uint8_t *json, size_t length, int depth) {
-  sonic_error error = {0, 0, 0, 0};
-  sonic_items items = {0, 0};
-  sonic_item item = {{0, 0}, {0, 0}};
-  uint32_t status = sonic_items_begin(json, length, &items, &error);
-  if (status != SONIC_OK) print_status("items_begin", status, &error);
-  if (status != SONIC_OK) return;
-  while ((status = sonic_items_next(json, length, &items, &item, &error)) == SONIC_OK) {
+  jihluka_error error = {0, 0, 0, 0};
+  jihluka_items items = {0, 0};
+  jihluka_item item = {{0, 0}, {0, 0}};
+  uint32_t status = jihluka_items_begin(json, length, &items, &error);
+  if (status != JIHLUKA_OK) print_status("items_begin", status, &error);
+  if (status != JIHLUKA_OK) return;
+  while ((status = jihluka_items_next(json, length, &items, &item, &error)) == JIHLUKA_OK) {
     uint32_t type = 9;
-    sonic_type(json + item.value.start, item.value.end - item.value.start, &type, &error);
+    jihluka_type(json + item.value.start, item.value.end - item.value.start, &type, &error);
     printf("%*s%.*s %.*s: %s\n", 2 * depth, "", (int)(item.key.end - item.key.start), (const char *)json + item.key.start,
            (int)(item.value.end - item.value.start), (const char *)json + item.value.start, types[type]);
-    if (type == SONIC_ARRAY || type == SONIC_OBJECT) {
+    if (type == JIHLUKA_ARRAY || type == JIHLUKA_OBJECT) {
       show_items(json + item.value.start, item.value.end - item.value.start, depth + 1);
     }
   }
   printf("%*s", 2 * depth, "");
   print_status("items_next", status, &error);
   /* It has ended for good. */
-  status = sonic_items_next(json, length, &items, &item, &error);
-  if (status != SONIC_END) print_status("WRONG", status, &error);
+  status = jihluka_items_next(json, length, &items, &item, &error);
+  if (status != JIHLUKA_END) print_status("WRONG", status, &error);
 }
 
 static void show(const char *json) { show_items(bytes(json), strlen(json), 0); }
@@ -102,10 +102,10 @@ static void show_stray(void) {
   unsigned told = 0;
   for (uint32_t state = 0; state < 6; state++) {
     for (size_t place = 0; place < 8; place++) {
-      sonic_items items = {place == 7 ? (size_t)-1 : place, state};
-      sonic_item item = {{0, 0}, {0, 0}};
-      sonic_error error = {0, 0, 0, 0};
-      told += sonic_items_next(json, sizeof text, &items, &item, &error) == SONIC_OK;
+      jihluka_items items = {place == 7 ? (size_t)-1 : place, state};
+      jihluka_item item = {{0, 0}, {0, 0}};
+      jihluka_error error = {0, 0, 0, 0};
+      told += jihluka_items_next(json, sizeof text, &items, &item, &error) == JIHLUKA_OK;
     }
   }
   printf("stray cursors: %s\n", told > 0 ? "some tell an item" : "WRONG");
@@ -119,13 +119,13 @@ static void show_many(void) {
   if (json == NULL) exit(2);
   for (size_t i = 0; i < COUNT; i++) json[2 * i] = i == 0 ? '[' : ',', json[2 * i + 1] = '7';
   json[2 * COUNT] = ']';
-  sonic_error error = {0, 0, 0, 0};
-  sonic_items items = {0, 0};
-  sonic_item item = {{0, 0}, {0, 0}};
+  jihluka_error error = {0, 0, 0, 0};
+  jihluka_items items = {0, 0};
+  jihluka_item item = {{0, 0}, {0, 0}};
   uint64_t sum = 0, value = 0;
-  uint32_t status = sonic_items_begin(bytes(json), 2 * COUNT + 1, &items, &error);
-  while (status == SONIC_OK && (status = sonic_items_next(bytes(json), 2 * COUNT + 1, &items, &item, &error)) == SONIC_OK) {
-    if (sonic_u64(bytes(json) + item.value.start, item.value.end - item.value.start, &value, &error) == SONIC_OK) sum += value;
+  uint32_t status = jihluka_items_begin(bytes(json), 2 * COUNT + 1, &items, &error);
+  while (status == JIHLUKA_OK && (status = jihluka_items_next(bytes(json), 2 * COUNT + 1, &items, &item, &error)) == JIHLUKA_OK) {
+    if (jihluka_u64(bytes(json) + item.value.start, item.value.end - item.value.start, &value, &error) == JIHLUKA_OK) sum += value;
   }
   printf("sum: %llu, status %u\n", (unsigned long long)sum, (unsigned)status);
   free(json);
@@ -134,11 +134,11 @@ static void show_many(void) {
 int main(void) {
   static const char order[] = " {\"id\": 4711, \"who\": \"Zo\\u00eb\\n\", \"paid\": true, \"rows\": [[\"nut\", -2], {}], \"x\": null} ";
   const size_t length = strlen(order);
-  sonic_error error = {0, 0, 0, 0};
-  sonic_span span = {0, 0};
+  jihluka_error error = {0, 0, 0, 0};
+  jihluka_span span = {0, 0};
   show(order);
   show_count(order);
-  if (sonic_get(bytes(order), length, bytes("[\"who\"]"), 7, &span, &error) != SONIC_OK) return 1;
+  if (jihluka_get(bytes(order), length, bytes("[\"who\"]"), 7, &span, &error) != JIHLUKA_OK) return 1;
   show_text(bytes(order) + span.start, span.end - span.start);
   show_text(bytes("\"\""), 2);
   show_text(bytes(" \"a\" "), 5);

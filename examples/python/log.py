@@ -2,7 +2,7 @@
 field, or has it in a value of another type."""
 import json
 
-import sonic
+import jihluka
 
 RECORDS = b"""{"ts": 1, "level": "info", "ms": 12.50}
 {"ts": 2, "ms": 7}
@@ -12,13 +12,13 @@ RECORDS = b"""{"ts": 1, "level": "info", "ms": 12.50}
 ["no record"]
 {"ts": 6, "le"""
 
-FIELDS = sonic.Paths([["level"], ["ms"]])
+FIELDS = jihluka.Paths([["level"], ["ms"]])
 
 for record in RECORDS.split(b"\n"):
     try:
-        level, ms = sonic.get_many(record, FIELDS)
+        level, ms = jihluka.get_many(record, FIELDS)
         print("record", level and json.loads(level), ms)
-    except sonic.BrokenText as error:
+    except jihluka.BrokenText as error:
         print("cut" if error.is_cut else "broken", error)
-    except sonic.SonicError as error:
+    except jihluka.JihlukaError as error:
         print("no record", error)

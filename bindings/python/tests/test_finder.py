@@ -10,9 +10,9 @@ import time
 import unittest
 from unittest import mock
 
-import sonic
-from sonic import _native
-from sonic import BrokenText, Code, Document, DocumentError, Finder, NotFound, PathError, Paths, Type, WrongType
+import jihluka
+from jihluka import _native
+from jihluka import BrokenText, Code, Document, DocumentError, Finder, NotFound, PathError, Paths, Type, WrongType
 from test_index import Writer, kinds
 
 RULES = ("first", "last", "refuse")
@@ -70,7 +70,7 @@ class Answers(unittest.TestCase):
         finder = Finder(FIELDS)
         for text in kinds(BODY):
             with self.subTest(type(text).__name__):
-                wanted = sonic.get_many(text, FIELDS)
+                wanted = jihluka.get_many(text, FIELDS)
                 for _ in range(2):
                     found = finder.get_many(text)
                     self.assertEqual((found, list(map(type, found))), (wanted, list(map(type, wanted))))
@@ -90,14 +90,14 @@ class Answers(unittest.TestCase):
             finder = Finder(paths)
             for _ in range(600):
                 text = chance.choice(texts)
-                wanted = told(sonic.get_many, text, paths)
+                wanted = told(jihluka.get_many, text, paths)
                 self.assertEqual(told(finder.get_many, chance.choice((bytes, bytearray, memoryview))(text)), wanted)
-                if not told(sonic.validate, text):
+                if not told(jihluka.validate, text):
                     document = Document(text)
                     self.assertEqual(told(document.get_many_with, finder), told(document.get_many, paths))
                     self.assertEqual(told(document.get_many_with, finder), wanted)
                 seen.add(wanted[0] if isinstance(wanted, tuple) else list)
-        self.assertEqual(seen, {list, BrokenText, NotFound, sonic.Mismatch})
+        self.assertEqual(seen, {list, BrokenText, NotFound, jihluka.Mismatch})
 
     def test_worked(self):
         for paths, text, *answers in WORKED:
@@ -105,7 +105,7 @@ class Answers(unittest.TestCase):
                 with self.subTest(text=text, paths=paths, keys=keys):
                     finder, calls = Finder(paths, keys), []
                     calls.append(lambda: finder.get_many(text))
-                    if not told(sonic.validate, text):
+                    if not told(jihluka.validate, text):
                         calls.append(lambda: Document(text).get_many_with(finder))
                     for call in calls:
                         if isinstance(wanted, list):
@@ -126,7 +126,7 @@ class Answers(unittest.TestCase):
                 continue
             for key in keys:
                 members = [it for it in document.entries if it[2] and it[3] == 0]
-                members = [it for it in members if sonic.as_str(text[slice(*it[2])]) == key]
+                members = [it for it in members if jihluka.as_str(text[slice(*it[2])]) == key]
                 values = [text[start:end] for start, end, *_ in members] or [None]
                 for finder, value in zip(finders[key], (values[0], values[-1], values[0])):
                     for call in (lambda: finder.get_many(text), lambda: Document(text).get_many_with(finder)):
@@ -165,7 +165,7 @@ class Answers(unittest.TestCase):
         finder, item = Finder(paths), "[" * 254 + "7" + "]" * 254
         for count in (300, 1, 300):
             text = f"[{','.join([item] * count)}]"
-            self.assertEqual(told(finder.get_many, text), told(sonic.get_many, text, paths))
+            self.assertEqual(told(finder.get_many, text), told(jihluka.get_many, text, paths))
         self.assertEqual(finder.get_many(text), ["7"] * 300)
 
 
@@ -199,8 +199,8 @@ class Refused(unittest.TestCase):
         self.assertEqual(finder.get_many("[1]"), ["1"])
 
     def test_no_finder(self):
-        document = sonic.Document(b"{}")
-        for other in (sonic.Paths([["a"]]), [["a"]], None):
+        document = jihluka.Document(b"{}")
+        for other in (jihluka.Paths([["a"]]), [["a"]], None):
             with self.assertRaisesRegex(TypeError, "a Finder is asked for, and not "):
                 document.get_many_with(other)
 
@@ -271,8 +271,8 @@ class Kept(unittest.TestCase):
         program = """if True:
             import atexit, threading
             atexit.register(lambda: print(finder.get_many('{"a": 7}')))
-            import sonic
-            finder = sonic.Finder([["a"]])
+            import jihluka
+            finder = jihluka.Finder([["a"]])
             def ask():
                 while True:
                     finder.get_many(b'{"a":1}')

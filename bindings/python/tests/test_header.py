@@ -1,12 +1,12 @@
-"""That the package says what sonic.h and its own page say."""
+"""That the package says what jihluka.h and its own page say."""
 import ctypes
 import doctest
 import os
 import re
 import unittest
 
-import sonic
-from sonic import _native
+import jihluka
+from jihluka import _native
 
 HERE = os.path.dirname(os.path.abspath(__file__))
 
@@ -16,7 +16,7 @@ def read(*names):
         return it.read()
 
 
-HEADER = read("..", "..", "..", "include", "sonic.h")
+HEADER = read("..", "..", "..", "include", "jihluka.h")
 PLAIN = re.sub(r"/\*.*?\*/", "", HEADER, flags=re.S)
 
 PLAIN_TYPES = {
@@ -26,12 +26,12 @@ PLAIN_TYPES = {
     "size_t": ctypes.c_size_t,
 }
 STRUCTS = {
-    "sonic_span": _native.Span,
-    "sonic_error": _native.Fault,
-    "sonic_paths": _native.Kept,
-    "sonic_items": _native.Items,
-    "sonic_item": _native.Item,
-    "sonic_entry": _native.Cell,
+    "jihluka_span": _native.Span,
+    "jihluka_error": _native.Fault,
+    "jihluka_paths": _native.Kept,
+    "jihluka_items": _native.Items,
+    "jihluka_item": _native.Item,
+    "jihluka_entry": _native.Cell,
 }
 TYPES = {
     **PLAIN_TYPES,
@@ -51,7 +51,7 @@ def type_of(declared):
 class Header(unittest.TestCase):
     def test_calls(self):
         found = {}
-        for result, name, arguments in re.findall(r"^(\w[\w *]*?)\b(sonic_\w+)\(([^)]*)\);", PLAIN, re.M):
+        for result, name, arguments in re.findall(r"^(\w[\w *]*?)\b(jihluka_\w+)\(([^)]*)\);", PLAIN, re.M):
             found[name] = (TYPES[result.strip()], [type_of(it) for it in arguments.split(",")])
         self.assertEqual(found, _native.CALLS)
 
@@ -62,15 +62,15 @@ class Header(unittest.TestCase):
         self.assertEqual(found, {name: kind._fields_ for name, kind in STRUCTS.items()})
 
     def test_numbers(self):
-        found = {name: int(number) for name, number in re.findall(r"SONIC_(\w+) = (\d+)", PLAIN)}
-        wanted = {f"CODE_{it.name}": int(it) for it in sonic.Code}
-        wanted.update({it.name: int(it) for it in sonic.Type})
+        found = {name: int(number) for name, number in re.findall(r"JIHLUKA_(\w+) = (\d+)", PLAIN)}
+        wanted = {f"CODE_{it.name}": int(it) for it in jihluka.Code}
+        wanted.update({it.name: int(it) for it in jihluka.Type})
         wanted.update({name: number for name, number in vars(_native).items() if name.isupper() and type(number) is int})
         self.assertEqual(found, wanted)
 
     def test_version(self):
-        version = re.search(r'SONIC_VERSION "(.*)"', HEADER).group(1)
-        self.assertEqual(sonic.__version__, version)
+        version = re.search(r'JIHLUKA_VERSION "(.*)"', HEADER).group(1)
+        self.assertEqual(jihluka.__version__, version)
         self.assertIn(f'\nversion = "{version}"\n', read("..", "pyproject.toml"))
 
 
@@ -84,7 +84,7 @@ class Page(unittest.TestCase):
         self.assertEqual("".join(told), "")
 
     def test_examples_of_calls(self):
-        calls = (sonic.index, sonic.minify, sonic.indent, sonic.patch, sonic.edit, sonic.fill, sonic.rows, sonic.Rows, sonic.Finder)
+        calls = (jihluka.index, jihluka.minify, jihluka.indent, jihluka.patch, jihluka.edit, jihluka.fill, jihluka.rows, jihluka.Rows, jihluka.Finder)
         for call in calls:
             test = doctest.DocTestParser().get_doctest(call.__doc__, {call.__name__: call}, call.__name__, None, 0)
             self.assertGreater(len(test.examples), 0)

@@ -11,9 +11,9 @@ import tracemalloc
 import unittest
 from unittest import mock
 
-import sonic
-from sonic import _index, _native
-from sonic import BrokenText, Code, Entry, Index, Type, index
+import jihluka
+from jihluka import _index, _native
+from jihluka import BrokenText, Code, Entry, Index, Type, index
 
 NULL, BOOLEAN, NUMBER, STRING, OBJECT, ARRAY = Type
 
@@ -169,7 +169,7 @@ class Values(unittest.TestCase):
         for text in (json.dumps(dict.fromkeys(keys)), json.dumps(dict.fromkeys(keys), ensure_ascii=False)):
             raw = text.encode()
             _, *found = index(raw)
-            self.assertEqual([sonic.as_str(raw[slice(*it.key)]) for it in found], keys)
+            self.assertEqual([jihluka.as_str(raw[slice(*it.key)]) for it in found], keys)
         self.assertEqual([it.key for it in index('{"a":0,"a":0,"\\u0061":0}')], [None, (1, 4), (7, 10), (13, 21)])
         many = "{" + ",".join(f'"{number % 500:03}":0' for number in range(1000)) + "}"
         self.assertEqual(list(index(many))[1:], [(8 * it + 7, 8 * it + 8, (8 * it + 1, 8 * it + 6), 0, None, NUMBER) for it in range(1000)])
@@ -196,7 +196,7 @@ class Values(unittest.TestCase):
     def test_broken(self):
         for text, code, offset in BROKEN:
             told = []
-            for call in (sonic.validate, index):
+            for call in (jihluka.validate, index):
                 with self.assertRaises(BrokenText) as it:
                     call(text)
                 told.append((it.exception.code, it.exception.line, it.exception.column, it.exception.offset))

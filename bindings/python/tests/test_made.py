@@ -6,9 +6,9 @@ import threading
 import unittest
 from unittest import mock
 
-import sonic
-from sonic import _native
-from sonic import BrokenText, Cause, Code, EditError, PatchError, SchemaError, SonicError, WidthError, edit, fill, indent, minify, patch
+import jihluka
+from jihluka import _native
+from jihluka import BrokenText, Cause, Code, EditError, JihlukaError, PatchError, SchemaError, WidthError, edit, fill, indent, minify, patch
 
 ORDER = ' { "id" : 7, "items" : [ {"sku": "Zo\\u00eb", "count": 2}, [] ],\n "note" : "ë" } '
 SMALL = '{"id":7,"items":[{"sku":"Zo\\u00eb","count":2},[]],"note":"ë"}'
@@ -95,7 +95,7 @@ class Made(unittest.TestCase):
             for width in (-1, 9, (1 << 32) + 2, (1 << 64) - 1, 1 << 64, (1 << 64) + 2, -(1 << 64)):
                 error = self.refused(WidthError, indent, text, width)
                 self.assertEqual((error.width, str(error)), (width, f"the width is {width}, and isn't from 0 to 8"))
-        self.assertNotIsInstance(error, SonicError)
+        self.assertNotIsInstance(error, JihlukaError)
         for width in ("2", 2.0, None):
             with self.assertRaises(TypeError):
                 indent("[1]", width)

@@ -6,8 +6,8 @@ import threading
 import unittest
 from unittest import mock
 
-from sonic import _native
-from sonic import NumberError, PathError, Paths, Rows, SonicError, rows
+from jihluka import _native
+from jihluka import JihlukaError, NumberError, PathError, Paths, Rows, rows
 
 FIELDS = [["id"], ["t", 0]]
 
@@ -119,7 +119,7 @@ class OfLines(unittest.TestCase):
                 self.assertEqual(error.before, before)
                 words = f"the number of lines before is {before}, and isn't from 0 to 2**64 - 2 less the bytes of the lines"
                 self.assertEqual(str(error), words)
-        self.assertNotIsInstance(error, SonicError)
+        self.assertNotIsInstance(error, JihlukaError)
         self.assertIsInstance(error, ValueError)
         for before in ("1", 1.0, None):
             with self.assertRaises(TypeError):

@@ -7,9 +7,9 @@ import tracemalloc
 import unittest
 from unittest import mock
 
-import sonic
-from sonic import _native
-from sonic import BrokenText, Code, NotInteger, Type, WrongType, as_int, as_str, count, elements, members, type_of
+import jihluka
+from jihluka import _native
+from jihluka import BrokenText, Code, NotInteger, Type, WrongType, as_int, as_str, count, elements, members, type_of
 
 ORDER = ' {"id": 4711, "wh\\u006f": "Zo\\u00eb\\n", "rows": [["nut", -2], {}], "id": null} '
 
@@ -168,7 +168,7 @@ class Items(unittest.TestCase):
     def test_no_memory(self):
         items = (elements("[1]"), members('{"a": 1}'))
         with mock.patch.object(_native, "call", return_value=_native.NO_MEMORY):
-            for call, text in ((sonic.validate, "1"), (count, "[]"), (as_str, '""'), (next, items[0]), (next, items[1])):
+            for call, text in ((jihluka.validate, "1"), (count, "[]"), (as_str, '""'), (next, items[0]), (next, items[1])):
                 with self.assertRaises(MemoryError):
                     call(text)
 
@@ -187,7 +187,7 @@ class Items(unittest.TestCase):
         wrong = []
 
         def look():
-            rows = sonic.get(text, ["rows"])
+            rows = jihluka.get(text, ["rows"])
             for wanted, row in enumerate(elements(rows)):
                 number, name = elements(row)
                 if (as_int(number), as_str(name)) != (wanted, "x\n"):

@@ -54,10 +54,10 @@ pub struct Fault {
 
 /// The number of what is wrong; `Display` has its words, and `Debug` its name where it has one.
 ///
-/// A value of another type than the path asks for is `MISMATCH + 10 * found + wanted`, as `sonic.h` says.
+/// A value of another type than the path asks for is `MISMATCH + 10 * found + wanted`, as `jihluka.h` says.
 ///
 /// ```
-/// use sonic::Code;
+/// use jihluka::Code;
 /// assert_eq!(format!("{:?} {:?}", Code::INVALID_UTF8, Code(131)), "INVALID_UTF8 Code(131)");
 /// ```
 #[derive(Clone, Copy, PartialEq, Eq, PartialOrd, Ord, Hash)]
@@ -88,7 +88,7 @@ pub enum Category {
 
 macro_rules! codes {
     ($($name:ident = $number:literal),* $(,)?) => {
-        #[allow(missing_docs)] // sonic.h tells what each says
+        #[allow(missing_docs)] // jihluka.h tells what each says
         impl Code {
             $(pub const $name: Code = Code($number);)*
 
@@ -126,7 +126,7 @@ impl Code {
     /// What kind of error this is.
     ///
     /// ```
-    /// use sonic::{Category, Code};
+    /// use jihluka::{Category, Code};
     /// assert_eq!(Code::GET_IN_EMPTY_ARRAY.category(), Category::NotFound);
     /// ```
     pub fn category(self) -> Category {
@@ -143,7 +143,7 @@ impl fmt::Display for Code {
     fn fmt(&self, f: &mut fmt::Formatter<'_>) -> fmt::Result {
         let mut room = [0; 128];
         // SAFETY: the room is this function's own, and initialised.
-        let length = unsafe { raw::sonic_code_text(self.0, room.as_mut_ptr(), room.len()) };
+        let length = unsafe { raw::jihluka_code_text(self.0, room.as_mut_ptr(), room.len()) };
         f.write_str(&String::from_utf8_lossy(&room[..length.min(room.len())]))
     }
 }

@@ -28,7 +28,7 @@ pub enum Keys {
 /// neither shared nor cloned. What it takes it gives back when it is dropped.
 ///
 /// ```
-/// use sonic::{path, Code, Finder, Keys, Paths};
+/// use jihluka::{path, Code, Finder, Keys, Paths};
 /// let fields = Paths::new([path!["level"], path!["ms"]])?;
 /// let mut finder = Finder::new(&fields, Keys::First)?;
 /// let mut sum = 0.0;
@@ -44,12 +44,12 @@ pub enum Keys {
 /// let mut alone = Finder::new(&fields, Keys::Refuse)?;
 /// let fault = alone.get_many(twice).unwrap_err().fault().unwrap();
 /// assert_eq!((fault.code, fault.offset), (Code::DUPLICATE_KEY, 10));
-/// # Ok::<(), sonic::Error>(())
+/// # Ok::<(), jihluka::Error>(())
 /// ```
 ///
 /// ```compile_fail,E0277
 /// fn shared_by_threads<T: Sync>() {}
-/// shared_by_threads::<sonic::Finder>();
+/// shared_by_threads::<jihluka::Finder>();
 /// ```
 pub struct Finder {
     kept: raw::Kept,
@@ -69,10 +69,10 @@ impl Finder {
     /// they were made.
     ///
     /// ```
-    /// use sonic::{path, Finder, Keys, Paths};
+    /// use jihluka::{path, Finder, Keys, Paths};
     /// let finder = Finder::new(&Paths::new([path!["id"]])?, Keys::default())?;
     /// assert_eq!((finder.len(), finder.keys()), (1, Keys::First));
-    /// # Ok::<(), sonic::Error>(())
+    /// # Ok::<(), jihluka::Error>(())
     /// ```
     pub fn new(paths: &Paths, keys: Keys) -> Result<Finder, Error> {
         let lines = &paths.lines;
@@ -84,7 +84,7 @@ impl Finder {
         let (mut kept, mut fault) = (raw::Kept::NONE, raw::Fault::default());
         // SAFETY: the lines are borrowed while the call runs, and the two cells are this function's own.
         let status = unsafe {
-            raw::sonic_paths_new(lines.as_ptr(), lines.len(), rule, &mut kept, &mut fault)
+            raw::jihluka_paths_new(lines.as_ptr(), lines.len(), rule, &mut kept, &mut fault)
         };
         judge(status, fault)?;
         Ok(Finder {
@@ -116,11 +116,11 @@ impl Finder {
     /// as it was.
     ///
     /// ```
-    /// use sonic::{path, Finder, Keys, Paths};
+    /// use jihluka::{path, Finder, Keys, Paths};
     /// let paths = Paths::new([path!["tags", 1], path!["exp"]])?;
     /// let mut finder = Finder::new(&paths, Keys::First)?;
     /// assert_eq!(finder.get_many(r#"{"user":"ada","tags":["a","b"]}"#)?, [Some(r#""b""#), None]);
-    /// # Ok::<(), sonic::Error>(())
+    /// # Ok::<(), jihluka::Error>(())
     /// ```
     pub fn get_many<'t, T: Text + ?Sized>(
         &mut self,
@@ -134,7 +134,7 @@ impl Finder {
     /// before.
     ///
     /// ```
-    /// use sonic::{as_u64, path, Finder, Keys, Paths};
+    /// use jihluka::{as_u64, path, Finder, Keys, Paths};
     /// let mut finder = Finder::new(&Paths::new([path!["in"], path!["out"]])?, Keys::First)?;
     /// let mut sum = 0;
     /// for record in [r#"{"in":3,"out":4}"#, r#"{"out":5}"#] {
@@ -143,13 +143,13 @@ impl Finder {
     ///     }
     /// }
     /// assert_eq!(sum, 12);
-    /// # Ok::<(), sonic::Error>(())
+    /// # Ok::<(), jihluka::Error>(())
     /// ```
     pub fn find<'f, 't, T: Text + ?Sized>(
         &'f mut self,
         json: &'t T,
     ) -> Result<Found<'f, 't, T>, Error> {
-        self.look_up(raw::sonic_get_many_with, json)
+        self.look_up(raw::jihluka_get_many_with, json)
     }
 
     fn look_up<'f, 't, T: Text + ?Sized>(
@@ -182,7 +182,7 @@ impl Finder {
 impl Drop for Finder {
     fn drop(&mut self) {
         // SAFETY: what is kept is as the last call left it, and no call comes after this one.
-        unsafe { raw::sonic_paths_free(&mut self.kept) }
+        unsafe { raw::jihluka_paths_free(&mut self.kept) }
     }
 }
 
@@ -200,11 +200,11 @@ impl<'t, T: Text + ?Sized> Valid<'t, T> {
     /// itself; by another rule they are followed together, as there.
     ///
     /// ```
-    /// use sonic::{path, validate, Finder, Keys, Paths};
+    /// use jihluka::{path, validate, Finder, Keys, Paths};
     /// let mut finder = Finder::new(&Paths::new([path!["user"]])?, Keys::First)?;
     /// let document = validate(r#"{"user":"ada"}"#)?;
     /// assert_eq!(document.get_many_with(&mut finder)?, [Some(r#""ada""#)]);
-    /// # Ok::<(), sonic::Error>(())
+    /// # Ok::<(), jihluka::Error>(())
     /// ```
     pub fn get_many_with(self, finder: &mut Finder) -> Result<Vec<Option<&'t T::Part>>, Error> {
         self.find_with(finder).map(Iterator::collect)
@@ -213,7 +213,7 @@ impl<'t, T: Text + ?Sized> Valid<'t, T> {
     /// As [`Finder::find`], of a text that is validated already, as [`get_many_with`](Valid::get_many_with). By [`Keys::First`] it
     /// takes no memory.
     pub fn find_with<'f>(self, finder: &'f mut Finder) -> Result<Found<'f, 't, T>, Error> {
-        finder.look_up(raw::sonic_get_many_with_unchecked, self.text())
+        finder.look_up(raw::jihluka_get_many_with_unchecked, self.text())
     }
 }
 

@@ -67,7 +67,7 @@ fn room(count: usize) -> Result<Vec<raw::Entry>, Error> {
 /// [`validate`](crate::validate) tells it, and an [`Error::NoMemory`] where it has 4 GiB or more.
 ///
 /// ```
-/// use sonic::{index, Label, Type};
+/// use jihluka::{index, Label, Type};
 /// let json = r#"{"user": "ada", "tags": ["a", "b"]}"#;
 /// let values = index(json)?;
 /// let texts: Vec<_> = values.iter().map(|it| &json[it.value.range()]).collect();
@@ -77,7 +77,7 @@ fn room(count: usize) -> Result<Vec<raw::Entry>, Error> {
 /// assert_eq!((last.kind, last.label), (Type::String, Label::At(1)));
 /// let tags = values[last.parent];
 /// assert!(matches!(tags.label, Label::Key(key) if &json[key.range()] == r#""tags""#));
-/// # Ok::<(), sonic::Error>(())
+/// # Ok::<(), jihluka::Error>(())
 /// ```
 pub fn index<T: Text + ?Sized>(json: &T) -> Result<Vec<Entry>, Error> {
     let text = json.bytes();
@@ -88,7 +88,7 @@ pub fn index<T: Text + ?Sized>(json: &T) -> Result<Vec<Entry>, Error> {
     // SAFETY: the slice is borrowed while the call runs, there are as many entries as is said, and they and the
     // two cells are this function's own.
     let status = unsafe {
-        raw::sonic_index(
+        raw::jihluka_index(
             text.as_ptr(),
             text.len(),
             entries.as_mut_ptr(),

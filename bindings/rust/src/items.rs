@@ -23,7 +23,7 @@ impl<'t, T: Text + ?Sized> Walk<'t, T> {
         if found != wanted {
             return Err(Error::WrongType(found));
         }
-        let items = tell(raw::sonic_items_begin, json)?;
+        let items = tell(raw::jihluka_items_begin, json)?;
         Ok(Walk { json, items })
     }
 
@@ -36,7 +36,7 @@ impl<'t, T: Text + ?Sized> Walk<'t, T> {
         // SAFETY: the slice is borrowed while the call runs, and the three cells are this value's and this
         // function's own.
         let status = unsafe {
-            raw::sonic_items_next(
+            raw::jihluka_items_next(
                 text.as_ptr(),
                 text.len(),
                 &mut self.items,
@@ -103,14 +103,14 @@ impl<T: Text + ?Sized> FusedIterator for Members<'_, T> {}
 /// again. It is an [`Error::WrongType`] where the value is no array.
 ///
 /// ```
-/// use sonic::{as_u64, elements};
+/// use jihluka::{as_u64, elements};
 /// let sum: u64 = elements("[1, 20]")?.map(|element| as_u64(element?)).sum::<Result<_, _>>()?;
 /// assert_eq!(sum, 21);
 /// let mut broken = elements(b"[1, }")?;
 /// assert_eq!(broken.next(), Some(Ok(&b"1"[..])));
 /// assert!(broken.next().unwrap().is_err());
 /// assert_eq!(broken.next(), None);
-/// # Ok::<(), sonic::Error>(())
+/// # Ok::<(), jihluka::Error>(())
 /// ```
 pub fn elements<T: Text + ?Sized>(json: &T) -> Result<Elements<'_, T>, Error> {
     Walk::new(json, Type::Array).map(Elements)
@@ -122,14 +122,14 @@ pub fn elements<T: Text + ?Sized>(json: &T) -> Result<Elements<'_, T>, Error> {
 /// The text is looked at as by [`elements`]. It is an [`Error::WrongType`] where the value is no object.
 ///
 /// ```
-/// use sonic::{as_str, members};
+/// use jihluka::{as_str, members};
 /// let mut seen = Vec::new();
 /// for member in members(r#"{"id": 4711, "na\u006de": "ada"}"#)? {
 ///     let (key, value) = member?;
 ///     seen.push((as_str(key)?, value));
 /// }
 /// assert_eq!(seen, [("id".into(), "4711"), ("name".into(), r#""ada""#)]);
-/// # Ok::<(), sonic::Error>(())
+/// # Ok::<(), jihluka::Error>(())
 /// ```
 pub fn members<T: Text + ?Sized>(json: &T) -> Result<Members<'_, T>, Error> {
     Walk::new(json, Type::Object).map(Members)

@@ -79,16 +79,16 @@ fn look_up_many<'t, T: Text + ?Sized>(
 /// It is an [`Error::Document`] where the path leads nowhere, or the text is broken before the value ends.
 ///
 /// ```
-/// use sonic::{get, path, Code};
+/// use jihluka::{get, path, Code};
 /// let json = r#"{"user":"ada","tags":["a","b"]}, and more"#;
 /// assert_eq!(get(json, &path!["tags", 1])?, r#""b""#);
 /// assert_eq!(get(json.as_bytes(), &path!["user"])?, br#""ada""#);
 /// let error = get(json, &path!["exp"]).unwrap_err();
 /// assert_eq!(error.fault().unwrap().code, Code::GET_UNKNOWN_KEY_IN_OBJECT);
-/// # Ok::<(), sonic::Error>(())
+/// # Ok::<(), jihluka::Error>(())
 /// ```
 pub fn get<'t, T: Text + ?Sized>(json: &'t T, path: &Path) -> Result<&'t T::Part, Error> {
-    look_up(raw::sonic_get, json, path)
+    look_up(raw::jihluka_get, json, path)
 }
 
 /// The texts of the values at the paths, in their order, and `None` for a key that is missing in an object
@@ -98,16 +98,16 @@ pub fn get<'t, T: Text + ?Sized>(json: &'t T, path: &Path) -> Result<&'t T::Part
 /// it is needed.
 ///
 /// ```
-/// use sonic::{get_many, path, Paths};
+/// use jihluka::{get_many, path, Paths};
 /// let paths = Paths::new([path!["tags", 1], path!["exp"]])?;
 /// assert_eq!(get_many(r#"{"user":"ada","tags":["a","b"]}"#, &paths)?, [Some(r#""b""#), None]);
-/// # Ok::<(), sonic::Error>(())
+/// # Ok::<(), jihluka::Error>(())
 /// ```
 pub fn get_many<'t, T: Text + ?Sized>(
     json: &'t T,
     paths: &Paths,
 ) -> Result<Vec<Option<&'t T::Part>>, Error> {
-    look_up_many(raw::sonic_get_many, json, paths)
+    look_up_many(raw::jihluka_get_many, json, paths)
 }
 
 /// A text that is one value in UTF-8 with nothing but white space round it: what [`validate`] gives.
@@ -126,17 +126,17 @@ impl<T: ?Sized> Copy for Valid<'_, T> {}
 /// Judges a text whole.
 ///
 /// ```
-/// use sonic::{path, validate, Category};
+/// use jihluka::{path, validate, Category};
 /// let document = validate(r#"{"user":"ada"}"#)?;
 /// assert_eq!(document.get(&path!["user"])?, r#""ada""#);
 /// let fault = validate("[1,").unwrap_err().fault().unwrap();
 /// assert_eq!((fault.code.category(), fault.line, fault.column), (Category::Eof, 1, 3));
-/// # Ok::<(), sonic::Error>(())
+/// # Ok::<(), jihluka::Error>(())
 /// ```
 pub fn validate<T: Text + ?Sized>(json: &T) -> Result<Valid<'_, T>, Error> {
     let (text, mut fault) = (json.bytes(), raw::Fault::default());
     // SAFETY: the slice is borrowed while the call runs, and the cell is this function's own.
-    let status = unsafe { raw::sonic_validate(text.as_ptr(), text.len(), &mut fault) };
+    let status = unsafe { raw::jihluka_validate(text.as_ptr(), text.len(), &mut fault) };
     judge(status, fault)?;
     Ok(Valid(json))
 }
@@ -149,11 +149,11 @@ impl<'t, T: Text + ?Sized> Valid<'t, T> {
 
     /// As [`get`], of a text that is validated already.
     pub fn get(self, path: &Path) -> Result<&'t T::Part, Error> {
-        look_up(raw::sonic_get_unchecked, self.0, path)
+        look_up(raw::jihluka_get_unchecked, self.0, path)
     }
 
     /// As [`get_many`], of a text that is validated already: each path is followed by itself.
     pub fn get_many(self, paths: &Paths) -> Result<Vec<Option<&'t T::Part>>, Error> {
-        look_up_many(raw::sonic_get_many_unchecked, self.0, paths)
+        look_up_many(raw::jihluka_get_many_unchecked, self.0, paths)
     }
 }

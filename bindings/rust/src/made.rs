@@ -65,15 +65,15 @@ fn changed<T: Text + ?Sized, C: Text + ?Sized>(
 /// It is an [`Error::Document`] where the text isn't one value in UTF-8 with nothing but white space round it.
 ///
 /// ```
-/// use sonic::minify;
+/// use jihluka::minify;
 /// assert_eq!(minify(r#"[ 1.0, {"a b" : null} ]"#)?, r#"[1.0,{"a b":null}]"#);
-/// # Ok::<(), sonic::Error>(())
+/// # Ok::<(), jihluka::Error>(())
 /// ```
 pub fn minify<T: Text + ?Sized>(json: &T) -> Result<String, Error> {
     let text = json.bytes();
     // SAFETY: as in `changed`.
     made(text.len(), |room, wanted, fault| unsafe {
-        raw::sonic_minify(
+        raw::jihluka_minify(
             text.as_ptr(),
             text.len(),
             room.as_mut_ptr(),
@@ -91,7 +91,7 @@ pub fn minify<T: Text + ?Sized>(json: &T) -> Result<String, Error> {
 /// It is an [`Error::BadWidth`] where the width is above 8, and an [`Error::Document`] as of [`minify`].
 ///
 /// ```
-/// use sonic::indent;
+/// use jihluka::indent;
 /// let wanted = r#"{
 ///   "a": [
 ///     1,
@@ -99,7 +99,7 @@ pub fn minify<T: Text + ?Sized>(json: &T) -> Result<String, Error> {
 ///   ]
 /// }"#;
 /// assert_eq!(indent(r#"{"a":[1,[]]}"#, 2)?, wanted);
-/// # Ok::<(), sonic::Error>(())
+/// # Ok::<(), jihluka::Error>(())
 /// ```
 pub fn indent<T: Text + ?Sized>(json: &T, width: usize) -> Result<String, Error> {
     let text = json.bytes();
@@ -107,7 +107,7 @@ pub fn indent<T: Text + ?Sized>(json: &T, width: usize) -> Result<String, Error>
         2 * text.len(),
         // SAFETY: as in `changed`.
         |room, wanted, fault| unsafe {
-            raw::sonic_indent(
+            raw::jihluka_indent(
                 text.as_ptr(),
                 text.len(),
                 width,
@@ -132,14 +132,14 @@ pub fn indent<T: Text + ?Sized>(json: &T, width: usize) -> Result<String, Error>
 /// [`minify`].
 ///
 /// ```
-/// use sonic::{patch, Error};
+/// use jihluka::{patch, Error};
 /// let json = r#"{"a": [1, 2]}"#;
 /// assert_eq!(patch(json, r#"[{"op": "add", "path": "/a/-", "value": 3}]"#)?, r#"{"a":[1,2,3]}"#);
 /// assert_eq!(patch(json, r#"[{"op": "remove", "path": "/b"}]"#), Err(Error::Missing(0)));
-/// # Ok::<(), sonic::Error>(())
+/// # Ok::<(), jihluka::Error>(())
 /// ```
 pub fn patch<T: Text + ?Sized, P: Text + ?Sized>(json: &T, patch: &P) -> Result<String, Error> {
-    changed(raw::sonic_patch, json, patch)
+    changed(raw::jihluka_patch, json, patch)
 }
 
 /// The document with edits, all of them or none, one on each line. What no edit changes keeps its text; the arrays
@@ -153,14 +153,14 @@ pub fn patch<T: Text + ?Sized, P: Text + ?Sized>(json: &T, patch: &P) -> Result<
 /// an [`Error::Document`] as of [`minify`].
 ///
 /// ```
-/// use sonic::{edit, path, Error};
+/// use jihluka::{edit, path, Error};
 /// let edits = format!("[\"push\", {}, \"b\"]\n[\"take\", {}]", path!["tags"], path!["id"]);
 /// assert_eq!(edit(r#"{"id": 7, "tags": ["a"]}"#, &edits)?, r#"{"id":null,"tags":["a","b"]}"#);
 /// assert_eq!(edit("[1]", r#"["push", [0], 2]"#), Err(Error::EditRefused(1)));
-/// # Ok::<(), sonic::Error>(())
+/// # Ok::<(), jihluka::Error>(())
 /// ```
 pub fn edit<T: Text + ?Sized, E: Text + ?Sized>(json: &T, edits: &E) -> Result<String, Error> {
-    changed(raw::sonic_edit, json, edits)
+    changed(raw::jihluka_edit, json, edits)
 }
 
 /// The schema, an object, filled from the value that begins the document, whatever follows it.
@@ -174,11 +174,11 @@ pub fn edit<T: Text + ?Sized, E: Text + ?Sized>(json: &T, edits: &E) -> Result<S
 /// document is broken before its value ends, or too deep.
 ///
 /// ```
-/// use sonic::fill;
+/// use jihluka::fill;
 /// let json = r#"{"id": 7, "note": null}"#;
 /// assert_eq!(fill(r#"{"id": 0, "currency": "EUR"}"#, json)?, r#"{"id":7,"currency":"EUR"}"#);
-/// # Ok::<(), sonic::Error>(())
+/// # Ok::<(), jihluka::Error>(())
 /// ```
 pub fn fill<S: Text + ?Sized, T: Text + ?Sized>(schema: &S, json: &T) -> Result<String, Error> {
-    changed(raw::sonic_fill, json, schema)
+    changed(raw::jihluka_fill, json, schema)
 }

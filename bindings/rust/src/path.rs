@@ -34,7 +34,7 @@ impl From<usize> for Node<'_> {
 /// byte. A look-up refuses one of more than 255 nodes.
 ///
 /// ```
-/// use sonic::{path, Path};
+/// use jihluka::{path, Path};
 /// assert_eq!(path!["tags", 1].to_string(), r#"["tags",1]"#);
 /// assert_eq!(r#"["tags",1]"#.parse(), Ok(path!["tags", 1]));
 /// let mut path = Path::new();
@@ -137,13 +137,13 @@ macro_rules! path {
 /// Paths that are looked up again and again, made ready and judged once.
 ///
 /// ```
-/// use sonic::{get_many, path, Paths};
+/// use jihluka::{get_many, path, Paths};
 /// let fields = Paths::new([path!["level"], path!["ms"]])?;
 /// for record in [r#"{"level":"info","ms":3}"#, r#"{"ms":4}"#] {
 ///     let found = get_many(record, &fields)?;
 ///     assert!(found[1].is_some());
 /// }
-/// # Ok::<(), sonic::Error>(())
+/// # Ok::<(), jihluka::Error>(())
 /// ```
 #[derive(Clone, Debug, PartialEq, Eq, Hash)]
 pub struct Paths {

@@ -1,4 +1,4 @@
-// The calls of libsonic.a, as sonic.h has them.
+// The calls of libjihluka.a, as jihluka.h has them.
 pub(crate) use crate::text::Span;
 use std::ffi::c_void;
 use std::ptr;
@@ -35,7 +35,7 @@ pub(crate) struct Entry {
     pub kind: u32,
 }
 
-/// `sonic_paths`.
+/// `jihluka_paths`.
 #[repr(C)]
 pub(crate) struct Kept {
     kept: *mut c_void,
@@ -87,7 +87,7 @@ macro_rules! pairs {
 
 pairs! {
     /// What the two calls for one path take.
-    Get: sonic_get, sonic_get_unchecked(
+    Get: jihluka_get, jihluka_get_unchecked(
         json: *const u8,
         json_length: usize,
         path: *const u8,
@@ -96,7 +96,7 @@ pairs! {
         error: *mut Fault,
     );
     /// What the two calls for many paths take.
-    GetMany: sonic_get_many, sonic_get_many_unchecked(
+    GetMany: jihluka_get_many, jihluka_get_many_unchecked(
         json: *const u8,
         json_length: usize,
         paths: *const u8,
@@ -106,7 +106,7 @@ pairs! {
         error: *mut Fault,
     );
     /// What the two calls for paths that are kept take.
-    GetManyWith: sonic_get_many_with, sonic_get_many_with_unchecked(
+    GetManyWith: jihluka_get_many_with, jihluka_get_many_with_unchecked(
         json: *const u8,
         json_length: usize,
         paths: *mut Kept,
@@ -134,11 +134,11 @@ macro_rules! tells {
 }
 
 tells! {
-    sonic_type(kind: u32);
-    sonic_u64(value: u64);
-    sonic_i64(value: i64);
-    sonic_count(count: usize);
-    sonic_items_begin(items: Items);
+    jihluka_type(kind: u32);
+    jihluka_u64(value: u64);
+    jihluka_i64(value: i64);
+    jihluka_count(count: usize);
+    jihluka_items_begin(items: Items);
 }
 
 /// Calls that write a text to a room, with what they take between the document, or the lines, and the room.
@@ -159,13 +159,13 @@ macro_rules! makes {
 }
 
 makes! {
-    sonic_string_text();
-    sonic_minify();
-    sonic_indent(width: usize);
-    sonic_patch(patch: *const u8, patch_length: usize);
-    sonic_edit(edits: *const u8, edits_length: usize);
-    sonic_fill(schema: *const u8, schema_length: usize);
-    sonic_rows(paths: *const u8, paths_length: usize, lines_before: u64);
+    jihluka_string_text();
+    jihluka_minify();
+    jihluka_indent(width: usize);
+    jihluka_patch(patch: *const u8, patch_length: usize);
+    jihluka_edit(edits: *const u8, edits_length: usize);
+    jihluka_fill(schema: *const u8, schema_length: usize);
+    jihluka_rows(paths: *const u8, paths_length: usize, lines_before: u64);
 }
 
 /// What a call takes that makes a text of a document and another text.
@@ -181,23 +181,23 @@ pub(crate) type Change = unsafe extern "C" fn(
 ) -> u32;
 
 extern "C" {
-    pub(crate) fn sonic_validate(json: *const u8, json_length: usize, error: *mut Fault) -> u32;
-    pub(crate) fn sonic_paths_new(
+    pub(crate) fn jihluka_validate(json: *const u8, json_length: usize, error: *mut Fault) -> u32;
+    pub(crate) fn jihluka_paths_new(
         lines: *const u8,
         lines_length: usize,
         rule: u32,
         paths: *mut Kept,
         error: *mut Fault,
     ) -> u32;
-    pub(crate) fn sonic_paths_free(paths: *mut Kept);
-    pub(crate) fn sonic_items_next(
+    pub(crate) fn jihluka_paths_free(paths: *mut Kept);
+    pub(crate) fn jihluka_items_next(
         json: *const u8,
         json_length: usize,
         items: *mut Items,
         item: *mut Item,
         error: *mut Fault,
     ) -> u32;
-    pub(crate) fn sonic_index(
+    pub(crate) fn jihluka_index(
         json: *const u8,
         json_length: usize,
         entries: *mut Entry,
@@ -205,5 +205,5 @@ extern "C" {
         wanted: *mut usize,
         error: *mut Fault,
     ) -> u32;
-    pub(crate) fn sonic_code_text(code: u32, room: *mut u8, room_length: usize) -> usize;
+    pub(crate) fn jihluka_code_text(code: u32, room: *mut u8, room_length: usize) -> usize;
 }

@@ -22,11 +22,11 @@ use crate::{raw, Paths, Text};
 /// So no error of a line is one of the call, which is an [`Error::BadNumber`] where too many lines come before.
 ///
 /// ```
-/// use sonic::{path, rows, Paths};
+/// use jihluka::{path, rows, Paths};
 /// let fields = Paths::new([path!["id"], path!["tags", 0]])?;
 /// let log = "{\"id\":7,\"tags\":[\"a\"]}\n{\"id\":8}\n\n{\"id\":tru}\n";
 /// assert_eq!(rows(log, &fields, 0)?, b"1 7\t3 \"a\"\n1 8\t-\n! 4 syntax InvalidLiteral 9\n");
-/// # Ok::<(), sonic::Error>(())
+/// # Ok::<(), jihluka::Error>(())
 /// ```
 pub fn rows<T: Text + ?Sized>(lines: &T, paths: &Paths, before: u64) -> Result<Vec<u8>, Error> {
     let (text, paths) = (lines.bytes(), &paths.lines);
@@ -37,7 +37,7 @@ pub fn rows<T: Text + ?Sized>(lines: &T, paths: &Paths, before: u64) -> Result<V
         // SAFETY: the slices are borrowed while the call runs, the room is as long as is said, and it and the two
         // cells are no one else's.
         |room, wanted, fault| unsafe {
-            raw::sonic_rows(
+            raw::jihluka_rows(
                 text.as_ptr(),
                 text.len(),
                 paths.as_ptr(),
@@ -58,13 +58,13 @@ pub fn rows<T: Text + ?Sized>(lines: &T, paths: &Paths, before: u64) -> Result<V
 /// may be tried again.
 ///
 /// ```
-/// use sonic::{path, Paths, Rows};
+/// use jihluka::{path, Paths, Rows};
 /// let mut stream = Rows::new(Paths::new([path!["id"]])?);
 /// assert_eq!(stream.feed(b"{\"id\":7}\n{\"id\"")?, b"1 7\n");
 /// assert_eq!(stream.feed(b":8")?, b"");
 /// assert_eq!(stream.feed(b"}\n{\n{\"id\":9}")?, b"1 8\n! 3 eof EofWhileParsing 0\n");
 /// assert_eq!((stream.lines(), stream.finish()?), (3, b"1 9\n".to_vec()));
-/// # Ok::<(), sonic::Error>(())
+/// # Ok::<(), jihluka::Error>(())
 /// ```
 #[derive(Clone, Debug)]
 pub struct Rows {

@@ -24,7 +24,7 @@ pub trait Text: sealed::Sealed {
 /// A part of a text, from the place `start` to before the place `end`, in bytes from 0.
 ///
 /// ```
-/// use sonic::Span;
+/// use jihluka::Span;
 /// let user = Span { start: 9, end: 14 };
 /// assert_eq!(&r#"{"user": "ada"}"#[user.range()], r#""ada""#);
 /// ```

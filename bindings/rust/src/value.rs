@@ -22,7 +22,7 @@ pub enum Type {
 }
 
 impl Type {
-    /// All of them, in the order of their numbers in `sonic.h`.
+    /// All of them, in the order of their numbers in `jihluka.h`.
     pub const ALL: [Type; 6] = [
         Type::Null,
         Type::Boolean,
@@ -73,13 +73,13 @@ pub(crate) fn tell<T: Text + ?Sized, V: Default>(call: raw::Tell<V>, json: &T) -
 /// It is an [`Error::Document`] where no value begins the text.
 ///
 /// ```
-/// use sonic::{type_of, Type};
+/// use jihluka::{type_of, Type};
 /// assert_eq!(type_of("12.50")?, Type::Number);
 /// assert_eq!(type_of(b" null")?, Type::Null);
-/// # Ok::<(), sonic::Error>(())
+/// # Ok::<(), jihluka::Error>(())
 /// ```
 pub fn type_of<T: Text + ?Sized>(json: &T) -> Result<Type, Error> {
-    let number = tell(raw::sonic_type, json)?;
+    let number = tell(raw::jihluka_type, json)?;
     Ok(Type::ALL[number as usize])
 }
 
@@ -91,24 +91,24 @@ pub fn type_of<T: Text + ?Sized>(json: &T) -> Result<Type, Error> {
 /// in UTF-8 with nothing but white space round it.
 ///
 /// ```
-/// use sonic::{as_u64, Error, Type};
+/// use jihluka::{as_u64, Error, Type};
 /// assert_eq!(as_u64("18446744073709551615"), Ok(u64::MAX));
 /// assert_eq!(as_u64("12.50"), Err(Error::NotInteger));
 /// assert_eq!(as_u64(r#""12""#), Err(Error::WrongType(Type::String)));
 /// ```
 pub fn as_u64<T: Text + ?Sized>(json: &T) -> Result<u64, Error> {
-    tell(raw::sonic_u64, json)
+    tell(raw::jihluka_u64, json)
 }
 
 /// As [`as_u64`], from -2<sup>63</sup> to 2<sup>63</sup> - 1; `-0` is 0.
 ///
 /// ```
-/// use sonic::{as_i64, Error};
+/// use jihluka::{as_i64, Error};
 /// assert_eq!(as_i64(b"-2"), Ok(-2));
 /// assert_eq!(as_i64("9223372036854775808"), Err(Error::NotInteger));
 /// ```
 pub fn as_i64<T: Text + ?Sized>(json: &T) -> Result<i64, Error> {
-    tell(raw::sonic_i64, json)
+    tell(raw::jihluka_i64, json)
 }
 
 /// The text of a string, with its escapes undone. It is borrowed, and no memory is taken, where the string has
@@ -118,11 +118,11 @@ pub fn as_i64<T: Text + ?Sized>(json: &T) -> Result<i64, Error> {
 /// one value in UTF-8 with nothing but white space round it.
 ///
 /// ```
-/// use sonic::as_str;
+/// use jihluka::as_str;
 /// use std::borrow::Cow;
 /// assert_eq!(as_str(r#""Zo\u00eb""#)?, "Zoë");
 /// assert!(matches!(as_str(b"\"ada\"")?, Cow::Borrowed("ada")));
-/// # Ok::<(), sonic::Error>(())
+/// # Ok::<(), jihluka::Error>(())
 /// ```
 pub fn as_str<T: Text + ?Sized>(json: &T) -> Result<Cow<'_, str>, Error> {
     let text = json.bytes();
@@ -137,7 +137,7 @@ pub fn as_str<T: Text + ?Sized>(json: &T) -> Result<Cow<'_, str>, Error> {
     // SAFETY: the slice is borrowed while the call runs, the room is as long as is said, and it and the two
     // cells are this function's own.
     let status = unsafe {
-        raw::sonic_string_text(
+        raw::jihluka_string_text(
             text.as_ptr(),
             text.len(),
             room.as_mut_ptr(),
@@ -164,10 +164,10 @@ pub fn as_str<T: Text + ?Sized>(json: &T) -> Result<Cow<'_, str>, Error> {
 /// one value in UTF-8 with nothing but white space round it.
 ///
 /// ```
-/// use sonic::count;
+/// use jihluka::count;
 /// assert_eq!(count("[[], {}]"), Ok(2));
 /// assert_eq!(count(r#"{"a": 1, "a": 2}"#), Ok(2));
 /// ```
 pub fn count<T: Text + ?Sized>(json: &T) -> Result<usize, Error> {
-    tell(raw::sonic_count, json)
+    tell(raw::jihluka_count, json)
 }

@@ -1,6 +1,6 @@
 //! What a finder tells. Expected values are worked out by hand, or are those of `get_many` and of `index`.
-use sonic::{as_str, get_many, index, path, validate};
-use sonic::{Code, Error, Fault, Finder, Found, Keys, Label, Path, Paths, Span};
+use jihluka::{as_str, get_many, index, path, validate};
+use jihluka::{Code, Error, Fault, Finder, Found, Keys, Label, Path, Paths, Span};
 
 const RULES: [Keys; 3] = [Keys::First, Keys::Last, Keys::Refuse];
 
@@ -167,7 +167,7 @@ fn as_get_many() {
 
 /// The keys and the values of the members of a root that have a key, by the index.
 fn members(text: &str, key: &str) -> Vec<(Span, Span)> {
-    let with_key = |it: &sonic::Entry| match it.label {
+    let with_key = |it: &jihluka::Entry| match it.label {
         Label::Key(at) if it.parent == 0 && as_str(&text[at.range()]).unwrap() == key => {
             Some((at, it.value))
         }

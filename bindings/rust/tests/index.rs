@@ -1,5 +1,5 @@
 //! What the crate tells of all values of a document. Expected values are worked out by hand.
-use sonic::{as_str, get, index, path, validate, Entry, Error, Label, Path, Span, Type};
+use jihluka::{as_str, get, index, path, validate, Entry, Error, Label, Path, Span, Type};
 use Label::{At, Root};
 use Type::{Array, Boolean, Null, Number, Object, String as Text};
 

@@ -1,5 +1,5 @@
-//! How long what the calls make is at most. `sonic.h` says so, for callers that choose a room by it.
-use sonic::{as_str, edit, fill, index, minify, patch, validate, Label, Span, Type};
+//! How long what the calls make is at most. `jihluka.h` says so, for callers that choose a room by it.
+use jihluka::{as_str, edit, fill, index, minify, patch, validate, Label, Span, Type};
 
 /// Documents with strings, keys and numbers of each kind.
 const DOCUMENTS: [&str; 12] = [

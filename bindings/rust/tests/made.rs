@@ -1,5 +1,5 @@
 //! What texts the crate makes of a document, and why it makes none. Expected values are worked out by hand.
-use sonic::{edit, fill, indent, minify, patch, validate, Category, Code, Error, Fault};
+use jihluka::{edit, fill, indent, minify, patch, validate, Category, Code, Error, Fault};
 
 const ORDER: &str = " { \"id\" : 7, \"items\" : [ {\"sku\": \"Zo\\u00eb\", \"count\": 2}, [] ],\n \"note\" : \"ë\" } ";
 const SMALL: &str = r#"{"id":7,"items":[{"sku":"Zo\u00eb","count":2},[]],"note":"ë"}"#;

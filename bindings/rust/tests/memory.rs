@@ -1,8 +1,8 @@
 //! That memory may run out in the library, and which calls take none.
-use sonic::{
+use jihluka::{
     as_i64, as_str, as_u64, count, edit, elements, fill, get, indent, index, members, minify,
 };
-use sonic::{patch, path, rows, type_of, validate, Error, Finder, Keys, Paths, Rows};
+use jihluka::{patch, path, rows, type_of, validate, Error, Finder, Keys, Paths, Rows};
 use std::cell::Cell;
 use std::ffi::c_void;
 

@@ -1,5 +1,5 @@
 //! The rows that the crate gives of lines, at once and in pieces. Expected values are worked out by hand.
-use sonic::{get_many, path, rows, Error, Path, Paths, Rows};
+use jihluka::{get_many, path, rows, Error, Path, Paths, Rows};
 
 /// The paths, the lines and their rows.
 type Example = (Paths, &'static [u8], &'static str);

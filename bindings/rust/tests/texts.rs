@@ -1,5 +1,5 @@
 //! What the crate does with each kind of text, path and error. Expected values are worked out by hand.
-use sonic::{get, get_many, path, validate, Category, Code, Error, Fault, Path, Paths, Type};
+use jihluka::{get, get_many, path, validate, Category, Code, Error, Fault, Path, Paths, Type};
 
 const BODY: &str = r#"{"iss": "https://id.example", "name": "Zoë", "roles": ["reader", "editor"]}"#;
 
@@ -80,7 +80,7 @@ fn each_kind_of_error() {
 #[test]
 fn paths_that_are_none() {
     let long = |count| {
-        std::iter::repeat(sonic::Node::Index(0))
+        std::iter::repeat(jihluka::Node::Index(0))
             .take(count)
             .collect::<Path>()
     };
@@ -172,12 +172,12 @@ fn by_threads() {
 
 #[test]
 fn the_header_says_the_same() {
-    let header = include_str!("../../../include/sonic.h");
+    let header = include_str!("../../../include/jihluka.h");
     let codes: Vec<(&str, u32)> = header
         .lines()
         .filter_map(|line| {
             line.trim()
-                .strip_prefix("SONIC_CODE_")?
+                .strip_prefix("JIHLUKA_CODE_")?
                 .trim_end_matches(',')
                 .split_once(" = ")
         })
@@ -191,7 +191,7 @@ fn the_header_says_the_same() {
             .collect::<Vec<_>>()
     );
     let has = |name: &str, number: u32| {
-        let line = format!("SONIC_{name} = {number}");
+        let line = format!("JIHLUKA_{name} = {number}");
         header
             .lines()
             .any(|it| it.trim().trim_end_matches(',') == line)
@@ -210,6 +210,6 @@ fn the_header_says_the_same() {
         .collect();
     assert_eq!(numbers.len(), 19);
     assert!(numbers.iter().all(|&(name, number)| has(name, number)));
-    let version = format!("#define SONIC_VERSION \"{}\"", env!("CARGO_PKG_VERSION"));
+    let version = format!("#define JIHLUKA_VERSION \"{}\"", env!("CARGO_PKG_VERSION"));
     assert!(header.lines().any(|line| line == version));
 }

@@ -1,5 +1,5 @@
 //! What the crate tells of one value, by its text. Expected values are worked out by hand.
-use sonic::{
+use jihluka::{
     as_i64, as_str, as_u64, count, elements, get, members, path, type_of, Code, Error, Type,
 };
 use std::borrow::Cow;

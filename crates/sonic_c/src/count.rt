@@ -28,7 +28,7 @@ use std::alloc::Global;
 /// than 64 containers are open at once inside an item, or one has a fault: a byte for each, by 64 to 65,536
 /// bytes at a time.
 #[unsafe(no_mangle)]
-pub extern "C" fn sonic_count(
+pub extern "C" fn jihluka_count(
     alloc: Global,
     json: &[u8],
     count: &mut usize,

@@ -14,10 +14,10 @@ const MAX_WIDTH: usize = 8;
 /// to the start of the room, and tells the length of the whole, in bytes.
 ///
 /// Scalars and keys keep their bytes, members their order and their repeats. What is no document is
-/// `DOCUMENT_ERROR`, as for `sonic_validate`. No text is longer than its document. Of `[ 1 , "a b" ]` it
-/// is `[1,"a b"]`. Memory is as many bytes as the document has, and those of `sonic_validate`.
+/// `DOCUMENT_ERROR`, as for `jihluka_validate`. No text is longer than its document. Of `[ 1 , "a b" ]` it
+/// is `[1,"a b"]`. Memory is as many bytes as the document has, and those of `jihluka_validate`.
 #[unsafe(no_mangle)]
-pub extern "C" fn sonic_minify(
+pub extern "C" fn jihluka_minify(
     alloc: Global,
     json: &[u8],
     room: &mut [u8],
@@ -33,7 +33,7 @@ pub extern "C" fn sonic_minify(
     }
 }
 
-/// The text of the document over lines, with so many blanks for each level of depth, as `sonic_minify`
+/// The text of the document over lines, with so many blanks for each level of depth, as `jihluka_minify`
 /// writes the one without white space.
 ///
 /// An opening bracket ends its line, a closing one has its own; an empty container is `[]` or `{}`, and
@@ -41,7 +41,7 @@ pub extern "C" fn sonic_minify(
 /// `[1,2]` with a width of 1 the lines are `[`, ` 1,`, ` 2` and `]`. The text may have many more bytes
 /// than the document; it is made in memory as a whole, also where the room is for its start alone.
 #[unsafe(no_mangle)]
-pub extern "C" fn sonic_indent(
+pub extern "C" fn jihluka_indent(
     alloc: Global,
     json: &[u8],
     width: usize,

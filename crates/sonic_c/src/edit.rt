@@ -20,7 +20,7 @@ use std::alloc::Global;
 /// `EDIT_REFUSED`. Lines and edits are counted from 1. Of `{"a":[1]}` and `["push",["a"],2]` it is
 /// `{"a":[1,2]}`.
 #[unsafe(no_mangle)]
-pub extern "C" fn sonic_edit(
+pub extern "C" fn jihluka_edit(
     alloc: Global,
     json: &[u8],
     edits: &[u8],

@@ -14,7 +14,7 @@ use sonic_text::Stop;
 #[repr(C)]
 #[derive(Clone, Copy)]
 pub struct Fault {
-    /// The number of the error's code, of which `sonic_code_text` tells the text, or 0 where the paths
+    /// The number of the error's code, of which `jihluka_code_text` tells the text, or 0 where the paths
     /// are wrong.
     pub code: u32,
     /// The line, from 1.

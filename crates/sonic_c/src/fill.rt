@@ -20,7 +20,7 @@ use std::alloc::Global;
 /// is no schema is `BAD_SCHEMA`, whatever the text is; a text that is broken before its value ends is
 /// `DOCUMENT_ERROR`. Of `{"b":2,"c":3}` and the schema `{"a":1,"b":0}` it is `{"a":1,"b":2}`.
 #[unsafe(no_mangle)]
-pub extern "C" fn sonic_fill(
+pub extern "C" fn jihluka_fill(
     alloc: Global,
     json: &[u8],
     schema: &[u8],

@@ -16,7 +16,7 @@ use std::alloc::Global;
 /// `path` is a JSON array of keys and indexes, at most 255. A path that leads nowhere is
 /// `DOCUMENT_ERROR`, as a broken text is, and the error says why.
 #[unsafe(no_mangle)]
-pub extern "C" fn sonic_get(
+pub extern "C" fn jihluka_get(
     alloc: Global,
     json: &[u8],
     path: &[u8],
@@ -42,9 +42,9 @@ pub extern "C" fn sonic_get(
 }
 
 /// Where the path leads in a text that is known to begin with a value in UTF-8, as one that
-/// `sonic_validate` took does: what `sonic_get` tells, without a second look at what it passes.
+/// `jihluka_validate` took does: what `jihluka_get` tells, without a second look at what it passes.
 #[unsafe(no_mangle)]
-pub extern "C" fn sonic_get_unchecked(
+pub extern "C" fn jihluka_get_unchecked(
     alloc: Global,
     json: &[u8],
     path: &[u8],

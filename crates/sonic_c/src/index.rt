@@ -22,18 +22,18 @@ pub struct Entry {
     pub parent: usize,
     /// How many elements come before an element in its array, and 0 of a member and of the root.
     pub position: usize,
-    /// The number of its type, as `sonic_type` tells it.
+    /// The number of its type, as `jihluka_type` tells it.
     pub kind: u32,
 }
 
 /// All values of the document, in the order of the places where they begin: writes as many of them as the
 /// caller has room for to the start of that, and tells how many there are.
 ///
-/// What is no document is `DOCUMENT_ERROR`, as for `sonic_validate`. Of `{"a":[1,{}]}` they are 4, of which
+/// What is no document is `DOCUMENT_ERROR`, as for `jihluka_validate`. Of `{"a":[1,{}]}` they are 4, of which
 /// the second is the array from 5 to 11, in the value 0, by the key from 1 to 4. Memory is 16 bytes for each
 /// value, and a text of 4 GiB and more is `NO_MEMORY`.
 #[unsafe(no_mangle)]
-pub extern "C" fn sonic_index(
+pub extern "C" fn jihluka_index(
     alloc: Global,
     json: &[u8],
     entries: &mut [Entry],

@@ -46,7 +46,7 @@ type Going = (Kind, bool);
 ///
 /// A value of another type is `WRONG_TYPE`. No memory is taken.
 #[unsafe(no_mangle)]
-pub extern "C" fn sonic_items_begin(json: &[u8], items: &mut Items, error: &mut Fault) -> u32
+pub extern "C" fn jihluka_items_begin(json: &[u8], items: &mut Items, error: &mut Fault) -> u32
     ensures { IsBeginCall json.now (record { items = items.old; error = error.old })
         (record { items = items.new; error = error.new }) result }
 {
@@ -73,7 +73,7 @@ pub extern "C" fn sonic_items_begin(json: &[u8], items: &mut Items, error: &mut 
 /// the item, or one has a fault: a byte for each, by 64 to 65,536 bytes at a time. Where it runs out, the
 /// cursor stays.
 #[unsafe(no_mangle)]
-pub extern "C" fn sonic_items_next(
+pub extern "C" fn jihluka_items_next(
     alloc: Global,
     json: &[u8],
     items: &mut Items,

@@ -28,10 +28,10 @@ fn rule_of(number: u32) -> Option<KeyRule>
 /// Keeps the paths that lines say, in place of those that were kept, for walks under a rule for equal
 /// keys: 0 for the first one, 1 for the last one, 2 for none, so that a second one is an error.
 ///
-/// The lines are those of `sonic_get_many`. Whatever is refused, what was kept before stays. A number of no
+/// The lines are those of `jihluka_get_many`. Whatever is refused, what was kept before stays. A number of no
 /// rule is told before a line that says no path.
 #[unsafe(no_mangle)]
-pub extern "C" fn sonic_paths_new(
+pub extern "C" fn jihluka_paths_new(
     alloc: Global,
     lines: &[u8],
     rule: u32,
@@ -66,7 +66,7 @@ fn keep_tree(alloc: Global, tree: PointerTree, rule: KeyRule, paths: &mut Paths)
 
 /// Gives the memory of paths back, and leaves none. What keeps no paths stays so.
 #[unsafe(no_mangle)]
-pub extern "C" fn sonic_paths_free(alloc: Global, paths: &mut Paths)
+pub extern "C" fn jihluka_paths_free(alloc: Global, paths: &mut Paths)
     ensures held { paths.new.held ≡ 0 }
     ensures list { paths.new.list ≡ no_list }
     ensures count { paths.new.count ≡ 0 }

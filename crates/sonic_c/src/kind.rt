@@ -17,7 +17,7 @@ use crate::status::OK;
 /// The first byte of the value says it, and nothing after that is looked at. With which no value
 /// begins is `DOCUMENT_ERROR`, as a text is that is empty or blank.
 #[unsafe(no_mangle)]
-pub extern "C" fn sonic_type(json: &[u8], kind: &mut u32, error: &mut Fault) -> u32
+pub extern "C" fn jihluka_type(json: &[u8], kind: &mut u32, error: &mut Fault) -> u32
     ensures call { IsTypeCall json.now (record { value = kind.old; error = error.old })
         (record { value = kind.new; error = error.new }) result }
     ensures means { (j : ℕ) (x : Tree) → Means json.now (after_space json.now 0) j x

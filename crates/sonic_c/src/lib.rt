@@ -1,7 +1,7 @@
-//! What is found in a JSON text, for callers in C and in whatever calls C: `include/sonic.h` says how.
+//! What is found in a JSON text, for callers in C and in whatever calls C: `include/jihluka.h` says how.
 //!
 //! No call keeps a pointer of the caller's. What lasts from call to call is in the caller's memory: a cursor,
-//! and paths that are kept, which alone own memory. `sonic_paths_free` gives that back.
+//! and paths that are kept, which alone own memory. `jihluka_paths_free` gives that back.
 #![tactic(auto)]
 
 // What begins a text, and why it is refused.

@@ -21,7 +21,7 @@ use std::alloc::Global;
 /// `paths` has a path on each line, a JSON array of keys and indexes, at most 255; no line among them
 /// is blank. There have to be as many spans as paths.
 #[unsafe(no_mangle)]
-pub extern "C" fn sonic_get_many(
+pub extern "C" fn jihluka_get_many(
     alloc: Global,
     json: &[u8],
     paths: &[u8],
@@ -39,9 +39,9 @@ pub extern "C" fn sonic_get_many(
 }
 
 /// Where the paths lead in a text that is known to begin with a value in UTF-8, as one that
-/// `sonic_validate` took does: what `sonic_get_many` tells, without a second look at what it passes.
+/// `jihluka_validate` took does: what `jihluka_get_many` tells, without a second look at what it passes.
 #[unsafe(no_mangle)]
-pub extern "C" fn sonic_get_many_unchecked(
+pub extern "C" fn jihluka_get_many_unchecked(
     alloc: Global,
     json: &[u8],
     paths: &[u8],

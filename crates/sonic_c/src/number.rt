@@ -16,7 +16,7 @@ use sonic_text::{number_end, whole_i64, whole_u64};
 /// A number that has a fraction, an exponent or a minus sign is `NO_INTEGER`, whatever its value is, as
 /// one is that 64 bits don't hold. A value of another type is `WRONG_TYPE`. No memory is taken.
 #[unsafe(no_mangle)]
-pub extern "C" fn sonic_u64(json: &[u8], value: &mut u64, error: &mut Fault) -> u32
+pub extern "C" fn jihluka_u64(json: &[u8], value: &mut u64, error: &mut Fault) -> u32
     ensures { IsU64Call json.now (record { value = value.old; error = error.old })
         (record { value = value.new; error = error.new }) result }
 {
@@ -34,9 +34,9 @@ pub extern "C" fn sonic_u64(json: &[u8], value: &mut u64, error: &mut Fault) -> 
 }
 
 /// The integer that the text is, with nothing but white space round it, where 64 bits hold it with a
-/// sign: what `sonic_u64` tells, with a minus sign too.
+/// sign: what `jihluka_u64` tells, with a minus sign too.
 #[unsafe(no_mangle)]
-pub extern "C" fn sonic_i64(json: &[u8], value: &mut i64, error: &mut Fault) -> u32
+pub extern "C" fn jihluka_i64(json: &[u8], value: &mut i64, error: &mut Fault) -> u32
     ensures { IsI64Call json.now (record { value = value.old; error = error.old })
         (record { value = value.new; error = error.new }) result }
 {

@@ -21,7 +21,7 @@ use std::alloc::Global;
 /// `DOCUMENT_ERROR`; and the first operation that isn't made is `MISSING`, `TEST_FAILED` or `INTO_CHILD`.
 /// Operations are counted from 0. Of `{"a":1}` and `[{"op":"remove","path":"/a"}]` it is `{}`.
 #[unsafe(no_mangle)]
-pub extern "C" fn sonic_patch(
+pub extern "C" fn jihluka_patch(
     alloc: Global,
     json: &[u8],
     patch: &[u8],

@@ -13,12 +13,12 @@ use std::alloc::Global;
 /// The rows of the lines of a stream, of what paths lead to in each, which is read by itself: writes as
 /// many of their bytes as the room takes to the start of the room, and tells how many all have.
 ///
-/// `paths` has a path on each line, as for `sonic_get_many`. So many lines come before the first, which
+/// `paths` has a path on each line, as for `jihluka_get_many`. So many lines come before the first, which
 /// error rows are numbered after; with the length of the stream that has to stay below 2^64 - 1, or it is
 /// `BAD_NUMBER`. With the path `["id"]` the lines `{"id":7}` and `{` have the rows `1 7` and
 /// `! 2 eof EofWhileParsing 0`.
 #[unsafe(no_mangle)]
-pub extern "C" fn sonic_rows(
+pub extern "C" fn jihluka_rows(
     alloc: Global,
     stream: &[u8],
     paths: &[u8],

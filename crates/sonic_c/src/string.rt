@@ -21,7 +21,7 @@ use std::alloc::Global;
 ///
 /// It is in UTF-8, with escapes undone (RFC 8259, section 7). A value of another type is `WRONG_TYPE`.
 #[unsafe(no_mangle)]
-pub extern "C" fn sonic_string_text(
+pub extern "C" fn jihluka_string_text(
     alloc: Global,
     json: &[u8],
     room: &mut [u8],

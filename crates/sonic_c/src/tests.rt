@@ -1,11 +1,11 @@
 // That the calls succeed where memory is ample, and what they tell of worked examples.
 use crate::fault::Fault;
-use crate::get::{sonic_get, sonic_get_unchecked};
-use crate::many::{sonic_get_many, sonic_get_many_unchecked};
+use crate::get::{jihluka_get, jihluka_get_unchecked};
+use crate::many::{jihluka_get_many, jihluka_get_many_unchecked};
 use crate::span::Span;
 use crate::status::{BAD_LINES, DOCUMENT_ERROR, OK, WRONG_COUNT};
-use crate::text::sonic_code_text;
-use crate::validate::sonic_validate;
+use crate::text::jihluka_code_text;
+use crate::validate::jihluka_validate;
 use std::alloc::Global;
 use std::process::Abort;
 
@@ -58,7 +58,7 @@ fn finds_one_path(rt: HostRuntime) {
         let mut span = NOWHERE;
         let mut error = Fault::at_line(0);
         assert_eq!(&rt;
-            sonic_get(rt.alloc(), text, path, &mut span, &mut error),
+            jihluka_get(rt.alloc(), text, path, &mut span, &mut error),
             status
         );
         assert_eq!(&rt; (span.start, span.end), (start, end), "{text:?}");
@@ -100,7 +100,7 @@ fn check_many(rt: &impl Abort, alloc: Global, many: Many) {
     let mut spans = [NOWHERE; 2];
     let mut error = Fault::at_line(0);
     assert_eq!(rt;
-        sonic_get_many(alloc, TEXT, lines, &mut spans, &mut error),
+        jihluka_get_many(alloc, TEXT, lines, &mut spans, &mut error),
         status,
         "{lines:?}"
     );
@@ -116,17 +116,17 @@ fn finds_many_paths(rt: HostRuntime) {
     }
 }
 
-// After `sonic_validate` the calls without a second look tell the same.
+// After `jihluka_validate` the calls without a second look tell the same.
 fn check_unchecked(rt: &impl Abort, alloc: Global, many: Many) {
     let (lines, status, [first, second], told) = many;
     let mut spans = [NOWHERE; 2];
     let mut error = Fault::at_line(0);
-    let valid = sonic_validate(alloc, TEXT, &mut error);
+    let valid = jihluka_validate(alloc, TEXT, &mut error);
     if valid != OK {
         panic!(rt; "{valid}");
     }
     assert_eq!(rt;
-        sonic_get_many_unchecked(alloc, TEXT, lines, &mut spans, &mut error),
+        jihluka_get_many_unchecked(alloc, TEXT, lines, &mut spans, &mut error),
         status,
         "{lines:?}"
     );
@@ -135,7 +135,7 @@ fn check_unchecked(rt: &impl Abort, alloc: Global, many: Many) {
     assert_eq!(rt; numbers(&error), told, "{lines:?}");
     let mut span = NOWHERE;
     assert_eq!(rt;
-        sonic_get_unchecked(alloc, TEXT, b"[\"a\",1]", &mut span, &mut error),
+        jihluka_get_unchecked(alloc, TEXT, b"[\"a\",1]", &mut span, &mut error),
         OK
     );
     assert_eq!(rt; (span.start, span.end), (9, 11));
@@ -164,7 +164,7 @@ fn tells_why_a_text_is_no_document(rt: HostRuntime) {
     for (text, told) in JUDGED {
         let mut error = Fault::at_line(0);
         assert_eq!(&rt;
-            sonic_validate(rt.alloc(), text, &mut error),
+            jihluka_validate(rt.alloc(), text, &mut error),
             DOCUMENT_ERROR,
             "{text:?}"
         );
@@ -193,7 +193,7 @@ fn tells_texts(rt: HostRuntime) {
     for (number, length, told) in TEXTS {
         let mut room = *b"..........";
         assert_eq!(&rt;
-            sonic_code_text(rt.alloc(), number, &mut room),
+            jihluka_code_text(rt.alloc(), number, &mut room),
             length,
             "{number}"
         );
@@ -206,7 +206,7 @@ fn tells_texts(rt: HostRuntime) {
 fn tells_a_text_of_each_code(rt: HostRuntime) {
     for number in 0..200u32 {
         let mut room = [0; 1];
-        let length = sonic_code_text(rt.alloc(), number, &mut room);
+        let length = jihluka_code_text(rt.alloc(), number, &mut room);
         let plain = matches!(number, 1..=32);
         let mismatch = matches!(number, 100..=152) && number % 10 <= 2;
         assert_eq!(&rt; length > 0, plain || mismatch, "{number}");
@@ -217,12 +217,12 @@ fn tells_a_text_of_each_code(rt: HostRuntime) {
 #[test]
 fn keeps_the_rest_of_the_room(rt: HostRuntime) {
     let mut room = *b"........................................................";
-    let length = sonic_code_text(rt.alloc(), 152, &mut room);
+    let length = jihluka_code_text(rt.alloc(), 152, &mut room);
     assert_eq!(&rt; length, 46);
     assert_eq!(&rt;
         &room,
         b"invalid type: sequence, expected a JSON number.........."
     );
     let mut none = [];
-    assert_eq!(&rt; sonic_code_text(rt.alloc(), 29, &mut none), 14);
+    assert_eq!(&rt; jihluka_code_text(rt.alloc(), 29, &mut none), 14);
 }

@@ -10,7 +10,7 @@ use std::alloc::Global;
 ///
 /// It is 0, and the room is kept, where no code has the number, or where memory runs out.
 #[unsafe(no_mangle)]
-pub extern "C" fn sonic_code_text(alloc: Global, code: u32, room: &mut [u8]) -> usize
+pub extern "C" fn jihluka_code_text(alloc: Global, code: u32, room: &mut [u8]) -> usize
     ensures { IsTextCall code room.old room.new result }
 {
     let Some(code) = code_of(code) else {

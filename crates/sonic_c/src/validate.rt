@@ -13,9 +13,9 @@ use std::alloc::Global;
 /// Whether the text is one value in UTF-8 with nothing but white space round it.
 ///
 /// Else it is `DOCUMENT_ERROR`, and the error says why. A text that is so begins as
-/// `sonic_get_unchecked` and `sonic_get_many_unchecked` ask for.
+/// `jihluka_get_unchecked` and `jihluka_get_many_unchecked` ask for.
 #[unsafe(no_mangle)]
-pub extern "C" fn sonic_validate(alloc: Global, json: &[u8], error: &mut Fault) -> u32
+pub extern "C" fn jihluka_validate(alloc: Global, json: &[u8], error: &mut Fault) -> u32
     ensures ok { result ≡ status_ok → IsValidDocument json.now }
     ensures starts { result ≡ status_ok → StartsWithUtf8Value json.now }
     ensures document_error { result ≡ status_document_error → TellsInvalid json.now error.new }

@@ -12,13 +12,13 @@ use crate::span::Span;
 use crate::status::{OK, WRONG_COUNT};
 use std::alloc::Global;
 
-/// Where paths that are kept lead in the text, in their order: what `sonic_get_many` tells of their
+/// Where paths that are kept lead in the text, in their order: what `jihluka_get_many` tells of their
 /// lines, but that their rule says which of equal keys counts.
 ///
 /// Under the rule that the first one counts, a call takes memory only where it needs more than each one
 /// before. Without paths it is `OK` of no spans, and the text isn't read.
 #[unsafe(no_mangle)]
-pub extern "C" fn sonic_get_many_with(
+pub extern "C" fn jihluka_get_many_with(
     alloc: Global,
     json: &[u8],
     paths: &mut Paths,
@@ -40,11 +40,11 @@ pub extern "C" fn sonic_get_many_with(
     status
 }
 
-/// The same in a text that is known to begin with a value in UTF-8, as one that `sonic_validate` took
+/// The same in a text that is known to begin with a value in UTF-8, as one that `jihluka_validate` took
 /// does, without a second look at what it passes. Under the rule that the first of equal keys counts it
 /// takes no memory.
 #[unsafe(no_mangle)]
-pub extern "C" fn sonic_get_many_with_unchecked(
+pub extern "C" fn jihluka_get_many_with_unchecked(
     alloc: Global,
     json: &[u8],
     paths: &mut Paths,

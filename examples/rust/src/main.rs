@@ -1,6 +1,6 @@
 //! A gateway that checks fields of a request's body before it lets the request pass, and tells a field that
 //! is missing from one of another type and from a body that is broken or cut.
-use sonic::{get_many, path, Category, Error, Paths};
+use jihluka::{get_many, path, Category, Error, Paths};
 
 const BODIES: [&[u8]; 6] = [
     br#"{"sub": "u-17", "token": {"roles": ["reader", "editor"]}}"#,

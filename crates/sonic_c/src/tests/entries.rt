@@ -1,7 +1,7 @@
 // What the call that tells all values tells of worked examples.
 use super::{NONE, Numbers, numbers};
 use crate::fault::Fault;
-use crate::index::{Entry, sonic_index};
+use crate::index::{Entry, jihluka_index};
 use crate::span::Span;
 use crate::status::{DOCUMENT_ERROR, OK};
 use std::alloc::Global;
@@ -111,7 +111,7 @@ fn check(rt: &impl Abort, alloc: Global, row: &Row, room: usize) {
     let mut found = 7;
     let room = room.min(ROOM);
     let mut error = Fault::at_line(0);
-    let result = sonic_index(alloc, text, &mut entries[..room], &mut found, &mut error);
+    let result = jihluka_index(alloc, text, &mut entries[..room], &mut found, &mut error);
     assert_eq!(rt; (result, found), (status, wanted), "{text:?}");
     assert_eq!(rt; numbers(&error), told, "{text:?}");
     for (i, entry) in entries.iter().enumerate() {

@@ -1,12 +1,12 @@
 // What calls for paths that are kept tell of worked examples.
 use super::{NONE, NOWHERE, Numbers, numbers};
 use crate::fault::Fault;
-use crate::keep::{sonic_paths_free, sonic_paths_new};
+use crate::keep::{jihluka_paths_free, jihluka_paths_new};
 use crate::paths::Paths;
 use crate::span::Span;
 use crate::status::{BAD_LINES, BAD_RULE, DOCUMENT_ERROR, OK, WRONG_COUNT};
-use crate::validate::sonic_validate;
-use crate::with::{sonic_get_many_with, sonic_get_many_with_unchecked};
+use crate::validate::jihluka_validate;
+use crate::with::{jihluka_get_many_with, jihluka_get_many_with_unchecked};
 use std::alloc::Global;
 use std::process::Abort;
 
@@ -63,7 +63,10 @@ const REFUSE: [Row; 2] = [
 // Keeps the paths that lines say, under a rule.
 fn keep(rt: &impl Abort, alloc: Global, lines: &[u8], rule: u32, paths: &mut Paths) {
     let mut error = Fault::at_line(0);
-    assert_eq!(rt; sonic_paths_new(alloc, lines, rule, paths, &mut error), OK);
+    assert_eq!(rt;
+        jihluka_paths_new(alloc, lines, rule, paths, &mut error),
+        OK
+    );
     assert_eq!(rt; numbers(&error), NONE);
 }
 
@@ -81,14 +84,14 @@ fn check_row(rt: &impl Abort, alloc: Global, paths: &mut Paths, row: Row) {
     let text = row.0;
     let mut spans = [NOWHERE; 2];
     let mut error = Fault::at_line(0);
-    let told = sonic_get_many_with(alloc, text, paths, &mut spans, &mut error);
+    let told = jihluka_get_many_with(alloc, text, paths, &mut spans, &mut error);
     check_told(rt, told, &spans, &error, row);
-    if sonic_validate(alloc, text, &mut error) != OK {
+    if jihluka_validate(alloc, text, &mut error) != OK {
         return;
     }
     let mut spans = [NOWHERE; 2];
     let mut error = Fault::at_line(0);
-    let told = sonic_get_many_with_unchecked(alloc, text, paths, &mut spans, &mut error);
+    let told = jihluka_get_many_with_unchecked(alloc, text, paths, &mut spans, &mut error);
     check_told(rt, told, &spans, &error, row);
 }
 
@@ -108,7 +111,7 @@ fn finds_kept_paths_under_each_rule(rt: HostRuntime) {
     for row in REFUSE {
         check_row(&rt, alloc, &mut paths, row);
     }
-    sonic_paths_free(alloc, &mut paths);
+    jihluka_paths_free(alloc, &mut paths);
 }
 
 // What is refused leaves what was kept.
@@ -124,7 +127,7 @@ fn refuses_lines_and_rules(rt: HostRuntime) {
         (b"[]", 3, BAD_RULE, (0, 2, 0, 0)),
     ] {
         assert_eq!(&rt;
-            sonic_paths_new(alloc, lines, rule, &mut paths, &mut error),
+            jihluka_paths_new(alloc, lines, rule, &mut paths, &mut error),
             status
         );
         assert_eq!(&rt; numbers(&error), told);
@@ -141,19 +144,19 @@ fn finds_nothing_by_no_paths(rt: HostRuntime) {
     for _ in 0..2 {
         let mut spans = [NOWHERE; 1];
         assert_eq!(&rt;
-            sonic_get_many_with(alloc, b"[", &mut paths, &mut spans, &mut error),
+            jihluka_get_many_with(alloc, b"[", &mut paths, &mut spans, &mut error),
             WRONG_COUNT
         );
         assert_eq!(&rt; numbers(&error), (0, 0, 0, 0));
         assert_eq!(&rt;
-            sonic_get_many_with(alloc, b"[", &mut paths, &mut [], &mut error),
+            jihluka_get_many_with(alloc, b"[", &mut paths, &mut [], &mut error),
             OK
         );
-        sonic_paths_free(alloc, &mut paths);
+        jihluka_paths_free(alloc, &mut paths);
     }
     keep(&rt, alloc, b"\n", 1, &mut paths);
     assert_eq!(&rt;
-        sonic_get_many_with(alloc, b"[", &mut paths, &mut [], &mut error),
+        jihluka_get_many_with(alloc, b"[", &mut paths, &mut [], &mut error),
         OK
     );
 }

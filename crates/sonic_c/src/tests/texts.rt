@@ -1,11 +1,11 @@
 // What the calls that make a text write and tell of worked examples.
 use super::{NONE, Numbers, numbers};
-use crate::document::{sonic_indent, sonic_minify};
-use crate::edit::sonic_edit;
+use crate::document::{jihluka_indent, jihluka_minify};
+use crate::edit::jihluka_edit;
 use crate::fault::Fault;
-use crate::fill::sonic_fill;
-use crate::patch::sonic_patch;
-use crate::rows::sonic_rows;
+use crate::fill::jihluka_fill;
+use crate::patch::jihluka_patch;
+use crate::rows::jihluka_rows;
 use crate::status::{
     BAD_LINES, BAD_NUMBER, BAD_OPERATION, BAD_PATCH, BAD_SCHEMA, BAD_WIDTH, DOCUMENT_ERROR,
     EDIT_REFUSED, INTO_CHILD, MISSING, OK, TEST_FAILED,
@@ -42,7 +42,7 @@ impl Cells {
             wanted,
             error,
         } = self;
-        sonic_minify(alloc, text, room, wanted, error)
+        jihluka_minify(alloc, text, room, wanted, error)
     }
 
     fn indent(&mut self, alloc: Global, text: &[u8], width: usize) -> u32 {
@@ -51,7 +51,7 @@ impl Cells {
             wanted,
             error,
         } = self;
-        sonic_indent(alloc, text, width, room, wanted, error)
+        jihluka_indent(alloc, text, width, room, wanted, error)
     }
 
     fn patch(&mut self, alloc: Global, text: &[u8], patch: &[u8]) -> u32 {
@@ -60,7 +60,7 @@ impl Cells {
             wanted,
             error,
         } = self;
-        sonic_patch(alloc, text, patch, room, wanted, error)
+        jihluka_patch(alloc, text, patch, room, wanted, error)
     }
 
     fn edit(&mut self, alloc: Global, text: &[u8], edits: &[u8]) -> u32 {
@@ -69,7 +69,7 @@ impl Cells {
             wanted,
             error,
         } = self;
-        sonic_edit(alloc, text, edits, room, wanted, error)
+        jihluka_edit(alloc, text, edits, room, wanted, error)
     }
 
     fn fill(&mut self, alloc: Global, text: &[u8], schema: &[u8]) -> u32 {
@@ -78,7 +78,7 @@ impl Cells {
             wanted,
             error,
         } = self;
-        sonic_fill(alloc, text, schema, room, wanted, error)
+        jihluka_fill(alloc, text, schema, room, wanted, error)
     }
 
     fn rows(&mut self, alloc: Global, lines: &[u8], paths: &[u8], before: u64) -> u32 {
@@ -87,7 +87,7 @@ impl Cells {
             wanted,
             error,
         } = self;
-        sonic_rows(alloc, lines, paths, before, room, wanted, error)
+        jihluka_rows(alloc, lines, paths, before, room, wanted, error)
     }
 
     // The call came to this status, and left the cells so.
@@ -146,9 +146,9 @@ fn asks_for_the_length_alone(rt: HostRuntime) {
     let mut wanted = 9;
     let mut error = Fault::at_line(0);
     let mut none = [];
-    let status = sonic_minify(rt.alloc(), b"[1, 2]", &mut none, &mut wanted, &mut error);
+    let status = jihluka_minify(rt.alloc(), b"[1, 2]", &mut none, &mut wanted, &mut error);
     assert_eq!(&rt; (status, wanted), (OK, 5));
-    let status = sonic_indent(rt.alloc(), b"[1, 2]", 4, &mut none, &mut wanted, &mut error);
+    let status = jihluka_indent(rt.alloc(), b"[1, 2]", 4, &mut none, &mut wanted, &mut error);
     assert_eq!(&rt; (status, wanted), (OK, 16));
 }
 

@@ -1,12 +1,12 @@
 // What the calls that read one value tell of worked examples.
 use super::{NONE, NOWHERE, Numbers, numbers};
-use crate::count::sonic_count;
+use crate::count::jihluka_count;
 use crate::fault::Fault;
-use crate::items::{Items, sonic_items_begin, sonic_items_next};
-use crate::kind::sonic_type;
-use crate::number::{sonic_i64, sonic_u64};
+use crate::items::{Items, jihluka_items_begin, jihluka_items_next};
+use crate::kind::jihluka_type;
+use crate::number::{jihluka_i64, jihluka_u64};
 use crate::status::{DOCUMENT_ERROR, END, NO_INTEGER, OK, WRONG_TYPE};
-use crate::string::sonic_string_text;
+use crate::string::jihluka_string_text;
 use crate::walk::Item;
 use std::alloc::Global;
 use std::process::Abort;
@@ -42,7 +42,7 @@ fn tells_types(rt: HostRuntime) {
     for &(text, status, kind, told) in &TYPED {
         let mut found = 9;
         let mut error = Fault::at_line(0);
-        let result = sonic_type(text, &mut found, &mut error);
+        let result = jihluka_type(text, &mut found, &mut error);
         check(&rt, (result, found as u64), (status, kind as u64));
         check_numbers(&rt, &error, told);
     }
@@ -88,10 +88,10 @@ fn tells_integers(rt: HostRuntime) {
     for &(text, natural, (status, integer), told) in &WHOLES {
         let (mut first, mut second) = (9, 9);
         let mut error = Fault::at_line(0);
-        let result = sonic_u64(text, &mut first, &mut error);
+        let result = jihluka_u64(text, &mut first, &mut error);
         check(&rt, (result, first), natural);
         check_numbers(&rt, &error, told);
-        let result = sonic_i64(text, &mut second, &mut error);
+        let result = jihluka_i64(text, &mut second, &mut error);
         check(&rt, (result, (second == integer) as u64), (status, 1));
         check_numbers(&rt, &error, told);
     }
@@ -118,7 +118,7 @@ fn tells_texts_of_strings(rt: HostRuntime) {
         let mut room = *b"....";
         let mut wanted = 9;
         let mut error = Fault::at_line(0);
-        let result = sonic_string_text(rt.alloc(), text, &mut room, &mut wanted, &mut error);
+        let result = jihluka_string_text(rt.alloc(), text, &mut room, &mut wanted, &mut error);
         check(&rt, (result, wanted as u64), (status, length as u64));
         assert_eq!(&rt; &room, told, "{text:?}");
         check_numbers(&rt, &error, fault);
@@ -172,7 +172,7 @@ fn counts_items(rt: HostRuntime) {
     for &(text, (counted, count), _, fault) in &LISTED {
         let mut found = 9;
         let mut error = Fault::at_line(0);
-        let result = sonic_count(rt.alloc(), text, &mut found, &mut error);
+        let result = jihluka_count(rt.alloc(), text, &mut found, &mut error);
         check(&rt, (result, found as u64), (counted, count as u64));
         check_numbers(&rt, &error, fault);
     }
@@ -181,11 +181,11 @@ fn counts_items(rt: HostRuntime) {
 // Goes through the items of a text: how that ends, and how many were told.
 fn go_through(alloc: Global, text: &[u8], items: &mut Items, error: &mut Fault) -> (u32, u64) {
     let mut item = NO_ITEM;
-    let mut status = sonic_items_begin(text, items, error);
+    let mut status = jihluka_items_begin(text, items, error);
     let mut told = 0u64;
     for _ in 0..text.len() {
         if status == OK {
-            status = sonic_items_next(alloc, text, items, &mut item, error);
+            status = jihluka_items_next(alloc, text, items, &mut item, error);
             told = told.saturating_add((status == OK) as u64);
         }
     }
@@ -201,7 +201,7 @@ fn goes_through_items(rt: HostRuntime) {
         check(&rt, found, (ended, told as u64));
         check_numbers(&rt, &error, fault);
         let mut item = NO_ITEM;
-        let again = sonic_items_next(rt.alloc(), text, &mut items, &mut item, &mut error);
+        let again = jihluka_items_next(rt.alloc(), text, &mut items, &mut item, &mut error);
         check(&rt, (again, 0), (END, 0));
     }
 }
@@ -211,10 +211,10 @@ fn tells_items_with_their_keys(rt: HostRuntime) {
     let text = b" {\"a\" : [1], \"b\":2}";
     let mut error = Fault::at_line(0);
     let (mut items, mut item) = (Items { place: 9, state: 9 }, NO_ITEM);
-    let status = sonic_items_begin(text, &mut items, &mut error);
+    let status = jihluka_items_begin(text, &mut items, &mut error);
     check(&rt, (status, items.place as u64), (OK, 1));
     for &(start, end, first, last) in &[(2, 5, 8, 11), (13, 16, 17, 18)] {
-        let status = sonic_items_next(rt.alloc(), text, &mut items, &mut item, &mut error);
+        let status = jihluka_items_next(rt.alloc(), text, &mut items, &mut item, &mut error);
         check(&rt, (status, item.key.start as u64), (OK, start));
         check(&rt, (status, item.key.end as u64), (OK, end));
         check(&rt, (status, item.value.start as u64), (OK, first));

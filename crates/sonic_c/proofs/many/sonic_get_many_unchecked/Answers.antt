@@ -1,9 +1,0 @@
-use Rattle.std.proofs.Common.{refl}
-use Rattle.sonic_c.proofs.ManyLemmas.{refused_told}
-use Rattle.sonic_c.proofs.many.sonic_get_many_unchecked.Goals as goal
-
-pub returns-in-Err : goal.returns-in-Err
-returns-in-Err c = refused_told c.in-Err.ensures.refused refl
-
-pub returns : goal.returns
-returns c = rw (← c.in-Ok.ensures.kept) (c.follow_unchecked.ensures _ c.in-Ok.ensures.says)
