@@ -2,6 +2,8 @@
 // and memcpy, in one process: the least of five runs of each, in milliseconds and nanoseconds a byte.
 //
 //   calls NAME FILE..     FILE as the command reads it: path lines, an empty line, the document
+//
+// With ONLY_LIBRARY the peers are left out, and it names the processors that the library is built for.
 #include <simdjson.h>
 #include <time.h>
 
@@ -27,6 +29,12 @@ extern "C" size_t serde_json_get(const uint8_t *json, size_t length, const uint8
 #endif
 
 namespace ondemand = simdjson::ondemand;
+
+#ifdef ONLY_LIBRARY
+static const std::string processors = ", " ONLY_LIBRARY;
+#else
+[[maybe_unused]] static const std::string processors;
+#endif
 
 // Processor seconds of this thread.
 static double now() {
@@ -62,7 +70,7 @@ static Document read(const char *file) {
 }
 
 // Follows one path, and gives the length of what it leads to.
-static size_t follow(ondemand::parser &parser, const Document &document, const std::vector<simdjson::dom::element> &steps) {
+[[maybe_unused]] static size_t follow(ondemand::parser &parser, const Document &document, const std::vector<simdjson::dom::element> &steps) {
   simdjson::padded_string_view text(document.text.data(), document.text.size(), document.text.capacity());
   ondemand::document whole;
   ondemand::value value;
@@ -81,7 +89,7 @@ static size_t follow(ondemand::parser &parser, const Document &document, const s
   return simdjson::to_json_string(value).get(raw) ? 0 : raw.size();
 }
 
-static void measure(const char *name, size_t size, const char *call, const std::function<size_t()> &run) {
+static void measure(const char *name, size_t size, const std::string &call, const std::function<size_t()> &run) {
   double least = 1e9;
   size_t answer = 0;
   for (int turn = 0; turn < 5; turn++) {
@@ -90,11 +98,11 @@ static void measure(const char *name, size_t size, const char *call, const std::
     double took = now() - start;
     if (took < least) least = took;
   }
-  std::printf("%-10s %4.0f %-24s %9.3f %7.3f  %zu\n", name, size / 1e6, call, least * 1e3, least * 1e9 / size, answer);
+  std::printf("%-10s %4.0f %-33s %9.3f %7.3f  %zu\n", name, size / 1e6, call.c_str(), least * 1e3, least * 1e9 / size, answer);
 }
 
 int main(int count, char **files) {
-  std::printf("%-10s %4s %-24s %9s %7s  %s\n", "document", "MB", "call", "ms", "ns/byte", "answer");
+  std::printf("%-10s %4s %-33s %9s %7s  %s\n", "document", "MB", "call", "ms", "ns/byte", "answer");
   for (int i = 1; i + 1 < count; i += 2) {
     Document document = read(files[i + 1]);
     const char *name = files[i];
@@ -104,25 +112,26 @@ int main(int count, char **files) {
 #ifndef ONLY_SIMDJSON
     jihluka_error error = {0, 0, 0, 0};
     std::vector<jihluka_span> spans(document.paths.size());
+#ifndef ONLY_LIBRARY
     std::vector<char> copy(size, 1);
-
     measure(name, size, "memcpy", [&] {
       std::memcpy(copy.data(), json, size);
       asm volatile("" : : "r"(copy.data()) : "memory");
       return size;
     });
-    measure(name, size, "jihluka_validate", [&] { return size_t(jihluka_validate(json, size, &error) == JIHLUKA_OK); });
+#endif
+    measure(name, size, "jihluka_validate" + processors, [&] { return size_t(jihluka_validate(json, size, &error) == JIHLUKA_OK); });
     auto one = [&](uint32_t (*call)(const uint8_t *, size_t, const uint8_t *, size_t, jihluka_span *, jihluka_error *)) {
       jihluka_span span = {0, 0};
       return call(json, size, bytes(path), path.size(), &span, &error) == JIHLUKA_OK ? span.end - span.start : 0;
     };
-    measure(name, size, "jihluka_get", [&] { return one(jihluka_get); });
-    measure(name, size, "jihluka_get_unchecked", [&] { return one(jihluka_get_unchecked); });
-    measure(name, size, "jihluka_get_many", [&] {
+    measure(name, size, "jihluka_get" + processors, [&] { return one(jihluka_get); });
+    measure(name, size, "jihluka_get_unchecked" + processors, [&] { return one(jihluka_get_unchecked); });
+    measure(name, size, "jihluka_get_many" + processors, [&] {
       return size_t(jihluka_get_many(json, size, bytes(document.lines), document.lines.size(), spans.data(), spans.size(), &error) == JIHLUKA_OK);
     });
 #endif
-
+#ifndef ONLY_LIBRARY
     simdjson::dom::parser reader;
     simdjson::dom::array array;
     std::vector<simdjson::dom::element> steps;
@@ -131,7 +140,7 @@ int main(int count, char **files) {
     }
     ondemand::parser parser;
     std::string peer = "On-Demand, " + std::string(simdjson::get_active_implementation()->name());
-    measure(name, size, peer.c_str(), [&] { return follow(parser, document, steps); });
+    measure(name, size, peer, [&] { return follow(parser, document, steps); });
 #ifdef YYJSON
     measure(name, size, "yyjson, read", [&] {
       yyjson_doc *whole = yyjson_read(document.text.data(), size, 0);
@@ -143,6 +152,7 @@ int main(int count, char **files) {
 #ifdef SERDE_JSON
     measure(name, size, "serde_json, whole", [&] { return size_t(serde_json_validate(json, size)); });
     measure(name, size, "serde_json, one path", [&] { return serde_json_get(json, size, bytes(path), path.size()); });
+#endif
 #endif
   }
 }

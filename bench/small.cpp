@@ -2,6 +2,8 @@
 // nanoseconds a document.
 //
 //   small BYTES    how many bytes of documents a turn goes through
+//
+// With ONLY_LIBRARY the peers are left out, and it names the processors that the library is built for.
 #include <simdjson.h>
 #include <time.h>
 
@@ -19,6 +21,12 @@
 #endif
 
 namespace ondemand = simdjson::ondemand;
+
+#ifdef ONLY_LIBRARY
+static const std::string processors = ", " ONLY_LIBRARY;
+#else
+[[maybe_unused]] static const std::string processors;
+#endif
 
 // Processor seconds of this thread.
 static double now() {
@@ -46,7 +54,7 @@ static const char *const PATHS[] = {"[\"id\"]", "[\"user\",\"level\"]", "[\"tota
 static const char LINES[] = "[\"id\"]\n[\"user\",\"level\"]\n[\"total\"]\n";
 
 // What simdjson finds, in the order of the document, which it wants: the lengths of the three texts.
-static size_t ondemand_three(ondemand::parser &parser, const simdjson::padded_string &text) {
+[[maybe_unused]] static size_t ondemand_three(ondemand::parser &parser, const simdjson::padded_string &text) {
   ondemand::document document;
   std::string_view id, level, total;
   ondemand::object user;
@@ -69,7 +77,7 @@ static size_t yyjson_three(const std::string &text) {
 }
 #endif
 
-static void measure(size_t length, size_t count, const char *call, const std::function<size_t(size_t)> &run) {
+static void measure(size_t length, size_t count, const std::string &call, const std::function<size_t(size_t)> &run) {
   double least = 1e9;
   size_t answer = 0;
   for (int turn = 0; turn < 7; turn++) {
@@ -79,13 +87,13 @@ static void measure(size_t length, size_t count, const char *call, const std::fu
     double took = now() - start;
     if (took < least) least = took;
   }
-  std::printf("%6zu %-36s %9.0f  %.1f\n", length, call, least * 1e9 / count, double(answer) / count);
+  std::printf("%6zu %-46s %9.0f  %.1f\n", length, call.c_str(), least * 1e9 / count, double(answer) / count);
 }
 
 int main(int count, char **words) {
   const size_t all = count > 1 ? std::strtoul(words[1], nullptr, 10) : 20000000;
   std::mt19937 random(1);
-  std::printf("%6s %-36s %9s  %s\n", "bytes", "call", "ns", "answer");
+  std::printf("%6s %-46s %9s  %s\n", "bytes", "call", "ns", "answer");
   for (size_t length : {200, 1000, 10000}) {
     std::vector<std::string> texts;
     std::vector<simdjson::padded_string> padded;
@@ -108,13 +116,13 @@ int main(int count, char **words) {
       if (call(bytes(texts[i]), texts[i].size(), bytes(LINES), sizeof LINES - 1, spans, 3, &error) != JIHLUKA_OK) return size_t(0);
       return sizes();
     };
-    measure(length, documents, "jihluka_validate", [&](size_t i) { return size_t(jihluka_validate(bytes(texts[i]), texts[i].size(), &error) == JIHLUKA_OK); });
-    measure(length, documents, "jihluka_get, three times", [&](size_t i) { return each(jihluka_get, i); });
-    measure(length, documents, "jihluka_get_unchecked, three times", [&](size_t i) { return each(jihluka_get_unchecked, i); });
-    measure(length, documents, "jihluka_get_many", [&](size_t i) { return many(jihluka_get_many, i); });
-    measure(length, documents, "jihluka_get_many_unchecked", [&](size_t i) { return many(jihluka_get_many_unchecked, i); });
+    measure(length, documents, "jihluka_validate" + processors, [&](size_t i) { return size_t(jihluka_validate(bytes(texts[i]), texts[i].size(), &error) == JIHLUKA_OK); });
+    measure(length, documents, "jihluka_get, three times" + processors, [&](size_t i) { return each(jihluka_get, i); });
+    measure(length, documents, "jihluka_get_unchecked, three times" + processors, [&](size_t i) { return each(jihluka_get_unchecked, i); });
+    measure(length, documents, "jihluka_get_many" + processors, [&](size_t i) { return many(jihluka_get_many, i); });
+    measure(length, documents, "jihluka_get_many_unchecked" + processors, [&](size_t i) { return many(jihluka_get_many_unchecked, i); });
     // How much of it is the reading of the paths.
-    measure(length, documents, "jihluka_get_many, of no document", [&](size_t) {
+    measure(length, documents, "jihluka_get_many, of no document" + processors, [&](size_t) {
       return size_t(jihluka_get_many(nullptr, 0, bytes(LINES), sizeof LINES - 1, spans, 3, &error) == JIHLUKA_DOCUMENT_ERROR);
     });
     jihluka_paths paths = JIHLUKA_NO_PATHS;
@@ -124,9 +132,9 @@ int main(int count, char **words) {
       if (call(bytes(texts[i]), texts[i].size(), &paths, spans, 3, &error) != JIHLUKA_OK) return size_t(0);
       return sizes();
     };
-    measure(length, documents, "jihluka_get_many_with", [&](size_t i) { return with(jihluka_get_many_with, i); });
-    measure(length, documents, "jihluka_get_many_with_unchecked", [&](size_t i) { return with(jihluka_get_many_with_unchecked, i); });
-    measure(length, documents, "jihluka_get_many_with, of no document", [&](size_t) {
+    measure(length, documents, "jihluka_get_many_with" + processors, [&](size_t i) { return with(jihluka_get_many_with, i); });
+    measure(length, documents, "jihluka_get_many_with_unchecked" + processors, [&](size_t i) { return with(jihluka_get_many_with_unchecked, i); });
+    measure(length, documents, "jihluka_get_many_with, of no document" + processors, [&](size_t) {
       return size_t(jihluka_get_many_with(nullptr, 0, &paths, spans, 3, &error) == JIHLUKA_DOCUMENT_ERROR);
     });
     jihluka_paths_free(&paths);
@@ -134,8 +142,10 @@ int main(int count, char **words) {
     measure(length, documents, "yyjson, read and three pointers", [&](size_t i) { return yyjson_three(texts[i]); });
 #endif
 #endif
+#ifndef ONLY_LIBRARY
     ondemand::parser parser;
     std::string name = "simdjson On-Demand, " + std::string(simdjson::get_active_implementation()->name());
-    measure(length, documents, name.c_str(), [&](size_t i) { return ondemand_three(parser, padded[i]); });
+    measure(length, documents, name, [&](size_t i) { return ondemand_three(parser, padded[i]); });
+#endif
   }
 }

@@ -1,4 +1,4 @@
-"""Builds the package: its files, and beside them the shared object that examples/build made, from the folder
+"""Builds the package: its files, and beside them the shared objects that examples/build made, from the folder
 that JIHLUKA_OUT names, or out/ of the repository. Where there is none, the package takes the installed one.
 
 It reads pyproject.toml by lines, as older Pythons have no reader of it."""
@@ -12,6 +12,8 @@ import zipfile
 
 HERE = os.path.dirname(os.path.abspath(__file__))
 LIBRARY = "libjihluka.so.0"
+# The shared object, the one for processors with AVX2, and one without a call, which asks the loader for either.
+CARRIED = (LIBRARY, f"glibc-hwcaps/x86-64-v3/{LIBRARY}", "libjihluka-beside.so")
 
 
 def _read(name):
@@ -30,26 +32,26 @@ def _metadata():
     return ("\n".join(lines) + "\n\n").encode() + _read("README.md")
 
 
-def _library():
+def _carried():
+    """The names and paths of the objects that are there."""
     folder = os.environ.get("JIHLUKA_OUT") or os.path.join(HERE, "..", "..", "out")
     path = os.path.join(folder, LIBRARY)
-    if os.path.exists(path):
-        return path
-    if "JIHLUKA_OUT" in os.environ:
+    if not os.path.exists(path) and "JIHLUKA_OUT" in os.environ:
         raise FileNotFoundError(path)
-    return None
+    paths = {name: os.path.join(folder, name) for name in CARRIED}
+    return {name: path for name, path in paths.items() if os.path.exists(path)}
 
 
 def build_wheel(wheel_directory, config_settings=None, metadata_directory=None):
-    library = _library()
-    tag = "py3-none-linux_x86_64" if library else "py3-none-any"
+    carried = _carried()
+    tag = "py3-none-linux_x86_64" if carried else "py3-none-any"
     files = {f"jihluka/{name}": _read(f"src/jihluka/{name}") for name in sorted(os.listdir(os.path.join(HERE, "src/jihluka"))) if "." in name}
-    if library:
-        with open(library, "rb") as it:
-            files[f"jihluka/{LIBRARY}"] = it.read()
+    for name, path in carried.items():
+        with open(path, "rb") as it:
+            files[f"jihluka/{name}"] = it.read()
     info = f"jihluka-{_field('version')}.dist-info"
     files[f"{info}/METADATA"] = _metadata()
-    files[f"{info}/WHEEL"] = f"Wheel-Version: 1.0\nGenerator: jihluka\nRoot-Is-Purelib: {str(not library).lower()}\nTag: {tag}\n".encode()
+    files[f"{info}/WHEEL"] = f"Wheel-Version: 1.0\nGenerator: jihluka\nRoot-Is-Purelib: {str(not carried).lower()}\nTag: {tag}\n".encode()
     sums = {name: base64.urlsafe_b64encode(hashlib.sha256(text).digest()).rstrip(b"=").decode() for name, text in files.items()}
     rows = [f"{name},sha256={sums[name]},{len(text)}" for name, text in files.items()]
     files[f"{info}/RECORD"] = ("\n".join(rows) + f"\n{info}/RECORD,,\n").encode()

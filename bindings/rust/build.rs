@@ -1,5 +1,6 @@
-// Links libjihluka.a: of the folder that JIHLUKA_OUT names, or out/ of the repository, or where pkg-config says
-// that it is installed.
+// Links the library: of the folder that JIHLUKA_OUT names, or out/ of the repository, or where pkg-config says
+// that it is installed. JIHLUKA_LINK says how: `static`, which is meant without it, or `dylib`.
+use std::env;
 use std::path::Path;
 use std::process::Command;
 
@@ -13,15 +14,22 @@ fn installed() -> Option<String> {
 }
 
 fn main() {
-    println!("cargo:rerun-if-env-changed=JIHLUKA_OUT");
-    println!("cargo:rerun-if-env-changed=PKG_CONFIG_PATH");
+    for variable in ["JIHLUKA_OUT", "JIHLUKA_LINK", "PKG_CONFIG_PATH"] {
+        println!("cargo:rerun-if-env-changed={variable}");
+    }
+    let (kind, file) = match env::var("JIHLUKA_LINK").as_deref() {
+        Err(_) | Ok("static") => ("static", "libjihluka.a"),
+        // The loader takes the object for the processor, where there are two.
+        Ok("dylib") => ("dylib", "libjihluka.so"),
+        Ok(other) => panic!("JIHLUKA_LINK is `{other}`, and not `static` or `dylib`"),
+    };
     let built = concat!(env!("CARGO_MANIFEST_DIR"), "/../../out").to_owned();
-    let folder = match std::env::var("JIHLUKA_OUT") {
+    let folder = match env::var("JIHLUKA_OUT") {
         Ok(folder) => folder,
-        Err(_) if Path::new(&built).join("libjihluka.a").exists() => built,
+        Err(_) if Path::new(&built).join(file).exists() => built,
         Err(_) => installed().unwrap_or(built),
     };
-    let library = Path::new(&folder).join("libjihluka.a");
+    let library = Path::new(&folder).join(file);
     if !library.exists() {
         println!(
             "cargo:warning={} isn't there: examples/build or make install makes it",
@@ -30,5 +38,5 @@ fn main() {
     }
     println!("cargo:rerun-if-changed={}", library.display());
     println!("cargo:rustc-link-search=native={folder}");
-    println!("cargo:rustc-link-lib=static=jihluka");
+    println!("cargo:rustc-link-lib={kind}=jihluka");
 }

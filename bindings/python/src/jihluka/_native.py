@@ -89,8 +89,10 @@ CALLS: Dict[str, Any] = {
 
 
 def _file() -> str:
-    """The shared object: what JIHLUKA_LIBRARY names, the one in the package, or the installed one."""
-    beside = os.path.join(os.path.dirname(os.path.abspath(__file__)), "libjihluka.so.0")
+    """The shared object: what JIHLUKA_LIBRARY names, one in the package, or an installed one. Where there are
+    two, for processors with AVX2 and without, the system's loader chooses, here as in a C program: the object
+    that is named has no call, but asks the loader for libjihluka.so.0 beside it."""
+    beside = os.path.join(os.path.dirname(os.path.abspath(__file__)), "libjihluka-beside.so")
     return os.environ.get("JIHLUKA_LIBRARY") or (beside if os.path.exists(beside) else "libjihluka.so.0")
 
 
