@@ -17,7 +17,10 @@ use Rattle.sonic_c.specs.Kept.{PathList}
 use Rattle.sonic_c.specs.Lists.{IsListCall, TellsListRefused}
 use Rattle.sonic_c.specs.Statuses.{status_ok, status_document_error, status_wrong_count}
 use Rattle.sonic_c.specs.Told.{ManyCells, at_line, shown_span}
-use Rattle.sonic_c.specs.Internal.Told.{TellsAll, TellsError, no_memory, told, shown_slot}
+use Rattle.sonic_find.specs.Outcomes.{told_span}
+use Rattle.sonic_find.specs.declared.outcome.PathOutcome.{PathOutcome}
+use Rattle.sonic_find.specs.declared.outcome.PathOutcome.TheVariants.{Found as Leads, Missing, Fails}
+use Rattle.sonic_c.specs.Internal.Told.{TellsAll, TellsError, no_memory, told, shown_outcome}
 use Rattle.sonic_c.specs.declared.fault.Fault.{Fault}
 use Rattle.sonic_c.specs.declared.span.Span.{Span}
 use Rattle.sonic_c.proofs.ToldLemmas.{numbers_at}
@@ -106,14 +109,16 @@ module _ {t : List ℕ} {list : PathList} {before after : ManyCells} {status : �
   list_told slots (Err e) long answer refusal complete (tells, kept) = list_refused e long refusal complete tells kept
 
 -- as many as there are spans are all that are told
-pub all_filled : (room : List (Option Slot)) (before : List Span) (n : ℕ) → length room ≡ length before → length room ≤ n
-    → map shown_slot (take n room) ++ drop n before ≡ map shown_slot room
+pub all_filled : (room : List (PathOutcome Slot)) (before : List Span) (n : ℕ) → length room ≡ length before → length room ≤ n
+    → map shown_outcome (take n room) ++ drop n before ≡ map shown_outcome room
 all_filled room before n same past =
     let all : take n room ≡ room = take_all n room past in
     let none : drop n before ≡ [] = drop_of_length-le before {i = n} (omega (arith, same, past)) in
-    rw (all, none) (append-nil (map shown_slot room))
+    rw (all, none) (append-nil (map shown_outcome room))
 
 -- which are the spans of what was found
-pub slots_shown : (room : List (Option Slot)) → map shown_slot room ≡ map shown_span (pairs_of room)
-slots_shown [] = refl
-slots_shown (x ∷ xs) = ap (λ l. shown_slot x ∷ l) (slots_shown xs)
+pub outcomes_shown : (room : List (PathOutcome Slot)) → map shown_outcome room ≡ map shown_span (map told_span room)
+outcomes_shown [] = refl
+outcomes_shown (Leads x ∷ xs) = ap (λ l. shown_outcome (Leads x) ∷ l) (outcomes_shown xs)
+outcomes_shown (Missing q ∷ xs) = ap (λ l. shown_outcome (Missing q) ∷ l) (outcomes_shown xs)
+outcomes_shown (Fails s ∷ xs) = ap (λ l. shown_outcome (Fails s) ∷ l) (outcomes_shown xs)

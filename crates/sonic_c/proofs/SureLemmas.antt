@@ -1,5 +1,5 @@
 -- A look-up of paths in a text that is known to begin with a value never wants memory.
-use Rattle.std.proofs.Common.{◌≡◌, ◌≢◌, ℕ, ◌+◌, ◌-◌, ◌==◌, ◌&&◌, sym, ◌∙◌, Bool, true, List, [], ◌∷◌, Ok, Err, Result, IfErr}
+use Rattle.std.proofs.Common.{◌≢◌, ℕ, ◌+◌, ◌-◌, ◌==◌, ◌&&◌, sym, ◌∙◌, Bool, true, List, [], ◌∷◌, Ok, Err, Result, IfErr}
 use Rattle.std.specs.Prelude.{Option}
 use Rattle.sonic_error.specs.declared.code.ErrorCode.TheVariants.{NoMemory}
 use Rattle.sonic_error.specs.declared.error.Error.{Error}

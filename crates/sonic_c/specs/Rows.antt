@@ -1,6 +1,6 @@
 -- What the call that makes the rows of lines comes to, in the caller's memory.
 use Rattle.std.specs.Prelude.{◌≡◌, ℕ, ◌+◌, ◌-◌, ◌^◌, ◌<◌, List, length}
-use Rattle.sonic_lines.specs.LineRows.{AreRows}
+use Rattle.sonic_lines.specs.LineRows.{AreRows, together}
 use Rattle.sonic_text.specs.Paths.{Path}
 use Rattle.sonic_c.specs.Statuses.{status_bad_lines, status_bad_number}
 use Rattle.sonic_c.specs.Texts.{IsMadeCall}
@@ -24,7 +24,7 @@ pub record AreSaidRows (stream lines : List ℕ) (n : ℕ) (rows : List ℕ) : T
   pub numbered : CanBeNumbered stream n
   pub paths : List Path
   pub say : Say lines paths
-  pub are : AreRows paths n stream rows
+  pub are : AreRows (together paths) n stream rows
 
 -- there are none: too many lines come before, or the lines of paths say none
 pub data AreNoRows (stream lines : List ℕ) (n : ℕ) (before after : Fault) (status : ℕ) : Type 0 where

@@ -4,7 +4,7 @@ ghost use Rattle.sonic_pointer.specs.declared.rule.KeyRule.TheVariants.{First};
 ghost use Rattle.sonic_text.specs.Documents.{StartsWithUtf8Value};
 ghost use Rattle.sonic_c.specs.Lists.{IsListCall};
 ghost use Rattle.sonic_c.specs.Statuses.{status_ok, status_no_memory};
-ghost use Rattle.sonic_c.specs.Internal.Told.{shown_slot};
+ghost use Rattle.sonic_c.specs.Internal.Told.{shown_outcome};
 
 use crate::fault::{Fault, tell};
 use crate::many::tell_all;
@@ -155,9 +155,9 @@ fn walk_unchecked(
 // Writes what was found to the caller's array.
 fn fill_from_buffers(spans: &mut [Span], buffers: &WalkBuffers)
     requires { length buffers.now ≡ length spans.old }
-    ensures { spans.new ≡ map shown_slot buffers.now }
+    ensures { spans.new ≡ map shown_outcome buffers.now }
 {
     for i in 0..buffers.len() {
-        spans[i] = shown(buffers.at(i));
+        spans[i] = shown(buffers.at(i).found());
     }
 }

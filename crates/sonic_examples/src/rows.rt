@@ -1,6 +1,6 @@
 // A log reader that asks each line for the same fields.
 ghost use Rattle.std.specs.Prelude.{◌↔◌, IfOk, IsTrue};
-ghost use Rattle.sonic_lines.specs.LineRows.{AreRows, HasErrorRow};
+ghost use Rattle.sonic_lines.specs.LineRows.{AreRows, HasErrorRow, together};
 ghost use Rattle.sonic_lines.specs.Streams.{lines_of};
 
 use sonic_lines::append_rows;
@@ -13,9 +13,9 @@ use std::{io, str};
 /// With the path `["id"]` the lines `{"id":7}` and `[` have the rows `1 7` and
 /// `! 2 eof EofWhileParsing 0`.
 pub fn rows_of(alloc: Global, tree: &PointerTree, log: &[u8]) -> Result<(Vec<u8>, bool), AllocError>
-    ensures rows { IfOk result (λ answer. AreRows tree.now 0 log.now answer.0.items) }
+    ensures rows { IfOk result (λ answer. AreRows (together tree.now) 0 log.now answer.0.items) }
     ensures errors { IfOk result (λ answer.
-        IsTrue answer.1 ↔ HasErrorRow tree.now (lines_of log.now)) }
+        IsTrue answer.1 ↔ HasErrorRow (together tree.now) (lines_of log.now)) }
 {
     let mut rows = Vec::new(alloc);
     let has_error = append_rows(alloc, tree, 0, log, &mut rows)?;

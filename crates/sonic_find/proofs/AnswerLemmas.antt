@@ -7,3 +7,5 @@ pub mod Walk
 pub mod Cause
 -- where they are those of each path alone
 pub mod Agree
+-- what each path is told by itself
+pub mod Each

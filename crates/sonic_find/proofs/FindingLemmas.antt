@@ -1,8 +1,6 @@
 -- Spans of what was found, as callers have them.
-use Rattle.std.proofs.Common.{◌≡◌, refl, sym, ap, ◌∙◌, ℕ, zero, suc, Bool, List, [], ◌∷◌, length, map, arith}
+use Rattle.std.proofs.Common.{◌≡◌, refl, sym, ap, ◌∙◌, ℕ, Bool, List, [], ◌∷◌, length, map}
 use Rattle.std.proofs.lemmas.List.{length-map}
-use Rattle.std.proofs.lemmas.Option.{slice_get_within, same_Some}
-use Rattle.std.specs.Prelude.{option_map}
 use Rattle.std.specs.declared.option.Option.{Option}
 use Rattle.std.specs.declared.option.Option.TheVariants.{Some, None}
 use Rattle.sonic_text.specs.Paths.{Path}
@@ -11,23 +9,26 @@ use Rattle.sonic_find.specs.Answers.{Span, spans, IsAnswer, ComeTo}
 use Rattle.sonic_find.specs.Internal.FirstAnswers.{AllLead}
 use Rattle.sonic_find.specs.Answers.AllLeadBy.{no_more, one_more}
 use Rattle.sonic_find.specs.Answers.ComeTo.{no_path, finding}
-use Rattle.sonic_find.specs.Found.{AreParts, slot_at, spans_of}
-use Rattle.sonic_find.specs.Parts.{AreSpans}
+use Rattle.sonic_find.specs.Found.{slot_in, slots_of, spans_of}
+use Rattle.sonic_find.specs.Outcomes.{told_span}
+use Rattle.sonic_find.specs.declared.outcome.PathOutcome.{PathOutcome}
+use Rattle.sonic_find.specs.declared.outcome.PathOutcome.TheVariants.{Found, Missing, Fails}
 use Rattle.sonic_find.specs.Paths.{Outcome}
 use Rattle.sonic_find.specs.Spans.{pairs_of}
 
 -- what the slots say is what was found
-pub slots_say : (xs : List (Option ValueSpan)) → pairs_of (map (option_map slot_at) xs) ≡ spans_of xs
+pub slots_say : (xs : List (PathOutcome ValueSpan)) → pairs_of (map slot_in xs) ≡ spans_of xs
 slots_say [] = refl
-slots_say (None ∷ xs) = ap (λ ys. None ∷ ys) (slots_say xs)
-slots_say (Some x ∷ xs) = ap (λ ys. Some (x.start, x.end) ∷ ys) (slots_say xs)
+slots_say (Found x ∷ xs) = ap (λ ys. Some (x.start, x.end) ∷ ys) (slots_say xs)
+slots_say (Missing q ∷ xs) = ap (λ ys. None ∷ ys) (slots_say xs)
+slots_say (Fails s ∷ xs) = ap (λ ys. None ∷ ys) (slots_say xs)
 
--- and each is a part of the text
-pub slots_are_parts : {t : List ℕ} (xs : List (Option ValueSpan)) → AreParts t xs → AreSpans t (map (option_map slot_at) xs)
-slots_are_parts (None ∷ xs) all zero x h = absurd cc
-slots_are_parts (Some y ∷ xs) all zero x h = (let part = all 0 y refl in let same : slot_at y ≡ x = same_Some (slot_at y) x (same_Some _ _ h) in rw (← same) part)
-slots_are_parts (y ∷ xs) all (suc k) x h = slots_are_parts xs (λ k z there. all (suc k) z there) k x h
-slots_are_parts [] all k x h = absurd (let w = slice_get_within [] k _ h in omega arith)
+-- and so do the slots that tell more
+pub spans_say : (xs : List (PathOutcome ValueSpan)) → map told_span (slots_of xs) ≡ spans_of xs
+spans_say [] = refl
+spans_say (Found x ∷ xs) = ap (λ ys. Some (x.start, x.end) ∷ ys) (spans_say xs)
+spans_say (Missing q ∷ xs) = ap (λ ys. None ∷ ys) (spans_say xs)
+spans_say (Fails s ∷ xs) = ap (λ ys. None ∷ ys) (spans_say xs)
 
 -- each path leads to one outcome
 lead_long : {t : List ℕ} {paths : List Path} {os : List Outcome} → AllLead t paths os → length os ≡ length paths
@@ -45,6 +46,6 @@ pub answer_long : {t : List ℕ} {is_bytes : Bool} {paths : List Path} {entries 
 answer_long x = rw (come_long x.come_to, lead_long x.lead) refl
 
 -- and so has what was found
-pub found_long : {t : List ℕ} {is_bytes : Bool} {paths : List Path} (xs : List (Option ValueSpan)) → IsAnswer t is_bytes paths (spans (spans_of xs))
+pub found_long : {t : List ℕ} {is_bytes : Bool} {paths : List Path} (xs : List (PathOutcome ValueSpan)) → IsAnswer t is_bytes paths (spans (spans_of xs))
     → length xs ≡ length paths
 found_long xs x = sym (length-map xs _) ∙ answer_long x

@@ -24,6 +24,7 @@ use Rattle.sonic_find.specs.Causes.{IsRefusalBy, IsGetRefusal}
 use Rattle.sonic_find.specs.Documents.IsInvalid.{no_root, text_after, broken_text}
 use Rattle.sonic_find.specs.Documents.IsInvalidError.{out_of_memory, invalid}
 use Rattle.sonic_find.specs.Documents.{IsInvalid, IsInvalidError}
+use Rattle.sonic_find.specs.Outcomes.{EachAnswer, ComeToEach, some_path_cut, some_path_lacks, need_broken, IsEachRefusalBy, each_out_of_memory, each_refused}
 use Rattle.sonic_find.specs.Paths.EvaluatesBy.{goes_on, repeats, leads_nowhere}
 use Rattle.sonic_find.specs.Paths.{Outcome, found, lacks, fails, cut, kind_of, empty_code, past_end, nowhere, EvaluatesBy, Leads}
 use Rattle.sonic_pointer.specs.declared.rule.KeyRule.{KeyRule}
@@ -128,3 +129,14 @@ of_paths lead (breaking f c r b n is) x = of_other (other_stop is broken_other) 
 pub honest_of_refusal : {t : List ℕ} {is_bytes : Bool} {paths : List Path} {e : Error} {rule : KeyRule} → IsRefusalBy rule t is_bytes paths e → IsHonest strict t 0 e
 honest_of_refusal (no_room x) = honest_of_memory x
 honest_of_refusal (answered s h x) = of_paths h.lead h.come_to x
+
+-- the answer of each of them
+of_each : {t : List ℕ} {is_bytes : Bool} {paths : List Path} {os : List Outcome} {s : Stop} {e : Error} {rule : KeyRule} → AllLeadBy rule t paths os
+    → ComeToEach t is_bytes os (EachAnswer.error s) → IsErrorAt e s.code t s.place → IsHonest strict t 0 e
+of_each lead (some_path_cut c r) x = of_root r x
+of_each lead (some_path_lacks c l r) x = of_root r x
+of_each lead (need_broken c r b n is) x = of_other (other_stop is broken_other) x
+
+pub honest_of_each : {t : List ℕ} {is_bytes : Bool} {paths : List Path} {e : Error} {rule : KeyRule} → IsEachRefusalBy rule t is_bytes paths e → IsHonest strict t 0 e
+honest_of_each (each_out_of_memory x) = honest_of_memory x
+honest_of_each (each_refused s h x) = of_each h.lead h.come_to x

@@ -9,5 +9,7 @@ pub mod Start
 pub mod Step
 -- an item that is visited for its child
 pub mod Child
+-- the slots of paths that go on alike
+pub mod Settle
 -- the end of a container, and the paths that end at a value
 pub mod End

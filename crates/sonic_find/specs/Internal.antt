@@ -1,6 +1,7 @@
 -- What serves walks through a text: invariants, on which no public clause rests.
 pub mod Collected
 pub mod CursorViews
+pub mod Each
 pub mod Fill
 pub mod FirstAnswers
 pub mod Follow

@@ -1,3 +1,4 @@
+pub mod Absence
 pub mod Answers
 pub mod Causes
 pub mod Cursors
@@ -7,6 +8,7 @@ pub mod FirstPaths
 pub mod Found
 pub mod Internal
 pub mod Laws
+pub mod Outcomes
 pub mod Parts
 pub mod Paths
 pub mod Spans

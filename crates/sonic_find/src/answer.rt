@@ -1,15 +1,19 @@
 // The answer of a list of paths.
-ghost use Rattle.std.specs.Prelude.{◌≡◌, ◌≢◌, ◌⊎◌, ◌<◌, ◌≤◌, ℕ, List, [], None, false, length, option_map, replicate, take, IfOk, IfErr, IfSome, OnOk, OnErr, IsTrue, IsFalse};
-ghost use Rattle.std.specs.Option.{IsSomeAnd};
+ghost use Rattle.std.specs.Prelude.{◌≡◌, ◌≢◌, ◌⊎◌, ◌≤◌, ℕ, [], Some, false, length, replicate, slice_get, IfOk, IfErr, OnOk, OnErr};
 ghost use Rattle.sonic_error.specs.Errors.{IsPlainError};
 ghost use Rattle.sonic_text.specs.Strings.{strict};
 ghost use Rattle.sonic_parser.specs.Faults.{IsStopFor};
 ghost use Rattle.sonic_parser.specs.Honest.{IsHonest};
+ghost use Rattle.sonic_find.specs.declared.outcome.PathOutcome.{PathOutcome};
+ghost use Rattle.sonic_find.specs.declared.outcome.PathOutcome.TheVariants.{Missing};
+ghost use Rattle.sonic_find.specs.declared.span.Span.{Span};
 ghost use Rattle.sonic_find.specs.Answers.{IsAnswerBy, Answer};
 ghost use Rattle.sonic_find.specs.Causes.{IsAnswerableBy, IsRefusalBy};
-ghost use Rattle.sonic_find.specs.Found.{AreParts, FlagEscapes, span_at, spans_of};
-ghost use Rattle.sonic_find.specs.Internal.Walk.{root_point, IsStop, IsError, IsFurthest, AllReached};
+ghost use Rattle.sonic_find.specs.Found.{AreParts, FlagEscapes, slots_of, spans_of, told_at};
+ghost use Rattle.sonic_find.specs.Outcomes.{NoneTold};
+ghost use Rattle.sonic_find.specs.Internal.Walk.{root_point, whole_question, slot_need, IsStop, IsError, IsFurthest, IsRefused, IsAllReached, AllReached};
 
+use crate::outcome::PathOutcome;
 use crate::state::Walk;
 use crate::utf8::check;
 use crate::walk::follow;
@@ -17,20 +21,20 @@ use sonic_error::{Error, ErrorCode};
 use sonic_input::{JsonInput, Read};
 use sonic_parser::{Fault, ValueSpan};
 use sonic_pointer::{KeyRule, PointerTree};
-use sonic_text::Kind;
+use sonic_text::{Kind, Stop};
 use std::alloc::Global;
 
 // What a walk takes of memory, and the next one uses again.
 #[derive(Drop)]
 pub(crate) struct Memory {
-    // What each path found.
-    pub(crate) found: Vec<Option<ValueSpan>>,
+    // Where each path leads.
+    pub(crate) found: Vec<PathOutcome<ValueSpan>>,
     // The kinds of the containers that were open while a value was skipped.
     pub(crate) opened: Option<Vec<Kind>>,
 }
 
 /// Where the values are that the paths of a tree find in an input under a rule, in the order of the
-/// paths, with `None` for one that lacks its key.
+/// paths, with `Missing` for one that lacks its key.
 ///
 /// The nearest place at which another path leads nowhere is the error, or the fault of the text,
 /// whichever comes first; where there is neither, the first byte that isn't UTF-8. What follows the
@@ -44,7 +48,7 @@ pub fn locate_many<'de, I: JsonInput<'de>>(
     json: I,
     tree: &PointerTree,
     rule: KeyRule,
-) -> Result<Vec<Option<ValueSpan>>, Error>
+) -> Result<Vec<PathOutcome<ValueSpan>>, Error>
     ensures ok { IfOk result (λ found. IsAnswerBy rule (I.JsonInput.content json) I.JsonInput.is_bytes
         tree.now (Answer.spans (spans_of found.items))) }
     ensures escaped { IfOk result (λ found. FlagEscapes (I.JsonInput.content json) found.items) }
@@ -79,6 +83,7 @@ pub(crate) fn locate_in<'de, I: JsonInput<'de>>(
         tree.now (Answer.spans (spans_of memory.new.found.items))) }
     ensures escaped { OnOk result (FlagEscapes (I.JsonInput.content json) memory.new.found.items) }
     ensures parts { OnOk result (AreParts (I.JsonInput.content json) memory.new.found.items) }
+    ensures none_fails { OnOk result (NoneTold (slots_of memory.new.found.items)) }
     ensures err { IfErr result (IsStopFor (λ s. IsAnswerBy rule (I.JsonInput.content json)
         I.JsonInput.is_bytes tree.now (Answer.error s))) }
     ensures within { IfErr result (IsStopFor (λ s. s.place ≤ length (I.JsonInput.content json))) }
@@ -110,17 +115,44 @@ fn answer<'de, I: JsonInput<'de>>(
         tree.now (Answer.spans (spans_of memory.new.found.items))) }
     ensures escaped { OnOk result (FlagEscapes (I.JsonInput.content json.now) memory.new.found.items) }
     ensures parts { OnOk result (AreParts (I.JsonInput.content json.now) memory.new.found.items) }
+    ensures none_fails { OnOk result (NoneTold (slots_of memory.new.found.items)) }
     ensures err { IfErr result (IsStopFor (IsError rule (I.JsonInput.content json.now)
         I.JsonInput.is_bytes tree.now)) }
 {
-    let text = json.to_u8_slice();
-    memory.found.clear();
-    memory.found.resize(tree.size(), None)?;
     if tree.size() == 0 {
+        memory.found.clear();
         return Ok(());
     }
+    follow_all(alloc, memory, json, tree, rule, false)?;
+    Ok(())
+}
+
+// Where the paths of a tree that has some lead under a rule, in their order, each by itself or, unless
+// `each` is asked for, up to the first that fails; or the one error.
+//
+// What follows the last byte that is needed plays no part.
+#[inline(always)]
+pub(crate) fn follow_all<'de, I: JsonInput<'de>>(
+    alloc: Global,
+    memory: &mut Memory,
+    json: &I,
+    tree: &PointerTree,
+    rule: KeyRule,
+    each: bool,
+) -> Result<(), Fault>
+    requires { tree.now ≢ [] }
+    ensures reached { OnOk result (IsAllReached rule (I.JsonInput.content json.now)
+        I.JsonInput.is_bytes tree.now each (slots_of memory.new.found.items)) }
+    ensures escaped { OnOk result (FlagEscapes (I.JsonInput.content json.now) memory.new.found.items) }
+    ensures parts { OnOk result (AreParts (I.JsonInput.content json.now) memory.new.found.items) }
+    ensures err { IfErr result (IsStopFor (IsRefused rule (I.JsonInput.content json.now)
+        I.JsonInput.is_bytes tree.now each)) }
+{
+    let text = json.to_u8_slice();
+    memory.found.clear();
+    memory.found.resize(tree.size(), PathOutcome::none())?;
     let read = Read::unscanned(json.to_json_slice());
-    let reach = reach(alloc, memory, read, tree, rule)?;
+    let reach = reach(alloc, memory, read, tree, rule, each)?;
     if json.need_utf8_valid() {
         check(text, reach)?;
     }
@@ -136,51 +168,61 @@ fn reach(
     read: Read<'_>,
     tree: &PointerTree,
     rule: KeyRule,
+    each: bool,
 ) -> Result<usize, Fault>
     requires start { read.place ≡ 0 }
     requires some { tree.now ≢ [] }
-    requires slots { memory.old.found.items ≡ replicate (length tree.now) None }
+    requires slots { memory.old.found.items ≡ replicate (length tree.now) (Missing 0) }
     ensures reached { IfOk result (λ reach.
-        AllReached rule read.entry.text tree.now (spans_of memory.new.found.items) reach) }
+        AllReached rule read.entry.text tree.now each (slots_of memory.new.found.items) reach) }
     ensures escaped { OnOk result (FlagEscapes read.entry.text memory.new.found.items) }
-    ensures err { IfErr result (IsStopFor (IsStop (root_point rule read.entry.text tree.now) false)) }
+    ensures err { IfErr result (IsStopFor (IsStop
+        (root_point (whole_question rule read.entry.text tree.now each)) false)) }
 {
     let view = tree.view();
     let slots = std::mem::replace(&mut memory.found, Vec::new(alloc));
-    let mut walk = Walk::new(alloc, read, slots, rule, view.prefixes())?;
+    let mut walk = Walk::new(alloc, read, slots, rule, each, view.prefixes())?;
     walk.swap_memory(&mut memory.opened);
     let followed = follow(&mut walk, &view, false);
-    let (end, lacking) = (walk.place(), walk.lacks_key());
+    let (text, end, lacking) = (walk.text(), walk.place(), walk.lacks_key());
     walk.swap_memory(&mut memory.opened);
-    memory.found = walk.into_spans();
+    memory.found = walk.into_slots();
     followed?;
-    Ok(reach_of(&memory.found, lacking, end))
+    if lacking {
+        return Ok(end);
+    }
+    Ok(furthest_need(text, &memory.found))
 }
 
-// How far the text is needed: to the end of the root where some path lacks its key, or else to the
-// furthest end of the values, and to 0 where there is none.
-fn reach_of(found: &[Option<ValueSpan>], lacking: bool, end: usize) -> usize
-    ensures whole { IsTrue lacking → result ≡ end }
-    ensures furthest { IsFalse lacking → IsFurthest (spans_of found.now) result }
+// The furthest need of the slots, which lies in the text, or 0 where there is none.
+fn furthest_need(text: &[u8], found: &[PathOutcome<ValueSpan>]) -> usize
+    requires { (k : ℕ) (x : PathOutcome Span) → slice_get (slots_of found.now) k ≡ Some x
+        → slot_need x ≤ length text.now }
+    ensures { IsFurthest (slots_of found.now) result }
 {
-    if lacking {
-        return end;
-    }
     let mut reach = 0;
-    for value in found {
-        reach = further(reach, *value);
+    for slot in found {
+        reach = further(reach, need(text, *slot));
     }
     reach
 }
 
-// The end of a value, where it is further.
-fn further(reach: usize, value: Option<ValueSpan>) -> usize
+// The further of two places.
+fn further(reach: usize, need: usize) -> usize
     ensures after { reach ≤ result }
-    ensures end { IfSome (option_map span_at value) (λ span. span.1 ≤ result) }
-    ensures one { (result ≡ reach) ⊎ IsSomeAnd (option_map span_at value) (λ span. span.1 ≡ result) }
+    ensures need { need ≤ result }
+    ensures one { (result ≡ reach) ⊎ (result ≡ need) }
 {
-    match value {
-        Some(ValueSpan { end, .. }) if reach < end => end,
-        _ => reach,
+    if reach < need { need } else { reach }
+}
+
+// How far a slot needs the text: to the end of its value, or after the byte that says why there is none.
+fn need(text: &[u8], slot: PathOutcome<ValueSpan>) -> usize
+    requires { slot_need (told_at slot) ≤ length text.now }
+    ensures { result ≡ slot_need (told_at slot) }
+{
+    match slot {
+        PathOutcome::Found(ValueSpan { end, .. }) => end,
+        PathOutcome::Missing(place) | PathOutcome::Fails(Stop { place, .. }) => place + 1,
     }
 }

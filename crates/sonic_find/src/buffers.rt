@@ -1,17 +1,17 @@
-// What many paths find in many texts, one after the other, without memory of its own for each.
-ghost use Rattle.std.specs.Prelude.{◌≡◌, ◌<◌, ◌≤◌, [], Some, length, option_map, slice_get, IfErr, OnOk, OnErr};
+// Where many paths lead in many texts, one after the other, without memory of its own for each.
+ghost use Rattle.std.specs.Prelude.{◌≡◌, ◌<◌, ◌≤◌, [], Some, length, map, slice_get, IfErr, OnOk, OnErr};
 ghost use Rattle.sonic_error.specs.Errors.{IsPlainError};
 ghost use Rattle.sonic_text.specs.Strings.{strict};
 ghost use Rattle.sonic_parser.specs.Faults.{IsStopFor};
 ghost use Rattle.sonic_parser.specs.Honest.{IsHonest};
 ghost use Rattle.sonic_find.specs.Answers.{IsAnswerBy, Answer};
 ghost use Rattle.sonic_find.specs.Causes.{IsAnswerableBy, IsRefusalBy};
-ghost use Rattle.sonic_find.specs.Found.{slot_at};
-ghost use Rattle.sonic_find.specs.Parts.{AreSpans};
-ghost use Rattle.sonic_find.specs.Spans.{pairs_of};
+ghost use Rattle.sonic_find.specs.Outcomes.{EachAnswer, IsEachAnswerBy, IsEachRefusalBy, IsEachTold, NoneTold, told_span};
+ghost use Rattle.sonic_find.specs.Parts.{AreFoundParts};
 
 use crate::answer::{Memory, locate_in};
-use crate::finding::span_of;
+use crate::each::{locate_each_in, span_of};
+use crate::outcome::PathOutcome;
 use crate::span::Span;
 use sonic_error::{Error, ErrorCode};
 use sonic_input::JsonInput;
@@ -23,27 +23,26 @@ use std::marker::Model;
 /// The memory of a walk, which the next walk uses again.
 ///
 /// Who asks many texts one after the other, as the lines of a log, keeps one for all of them, so
-/// that a text mostly needs no new memory. No clause says how much is taken. A clause sees the slots of
-/// the last walk, one for each path in the order of the paths: the span of its value in bytes of the
-/// text, or `None` where its key is lacked.
+/// that a text mostly needs no new memory. No clause says how much is taken. A clause sees where the last
+/// walk says that each path leads, in the order of the paths, with spans in bytes of the text.
 #[derive(Drop)]
 pub struct WalkBuffers {
     memory: Memory,
 }
 
 impl Model for WalkBuffers {
-    ghost use Rattle.std.specs.Prelude.{List, map, option_map};
-    ghost use Rattle.std.specs.declared.option.Option.{Option};
+    ghost use Rattle.std.specs.Prelude.{List};
+    ghost use Rattle.sonic_find.specs.declared.outcome.PathOutcome.{PathOutcome};
     ghost use Rattle.sonic_find.specs.declared.span.Span.{Span};
-    ghost use Rattle.sonic_find.specs.Found.{slot_at};
+    ghost use Rattle.sonic_find.specs.Found.{slots_of};
 
-    ghost Value = { List (Option Span) };
+    ghost Value = { List (PathOutcome Span) };
 
-    ghost view = { λ buffers. map (option_map slot_at) buffers.memory.found.items };
+    ghost view = { λ buffers. slots_of buffers.memory.found.items };
 }
 
 impl WalkBuffers {
-    /// Buffers in which nothing was found yet. They take no memory.
+    /// Buffers of no walk yet. They take no memory.
     pub fn new(alloc: Global) -> WalkBuffers
         ensures { result ≡ [] }
     {
@@ -54,19 +53,19 @@ impl WalkBuffers {
         }
     }
 
-    /// How many slots the last walk filled: one for each path, and none after an error.
+    /// How many paths the last walk followed, and 0 after an error.
     pub fn len(&self) -> usize
         ensures { result ≡ length self.now }
     {
         self.memory.found.len()
     }
 
-    /// What the path with this number, from 0, found in the last walk.
+    /// Where the path with this number, from 0, leads in the last walk.
     ///
-    /// After `find_many_by` with the paths `["a", 1]` and `["z"]` over `{"a":[1,2]}` it is the span from
-    /// 8 to 9 of the number 0, and `None` of 1.
+    /// After `find_many_by` with the paths `["a", 1]` and `["z"]` over `{"a":[1,2]}` it is `Found` from 8 to 9
+    /// of the number 0, and `Missing` at 10 of 1.
     #[inline]
-    pub fn at(&self, number: usize) -> Option<Span>
+    pub fn at(&self, number: usize) -> PathOutcome<Span>
         requires { number < length self.now }
         ensures { slice_get self.now number ≡ Some result }
     {
@@ -74,14 +73,15 @@ impl WalkBuffers {
     }
 }
 
-/// The spans of the values to which the paths of a tree lead in an input under a rule for equal keys,
-/// in buffers that are used again.
+/// Where the paths of a tree lead in an input under a rule for equal keys, if none fails, in buffers that are
+/// used again.
 ///
-/// With `KeyRule::First` it is what [`find_many`](crate::find_many) answers, with its errors: after an
-/// error, they hold no slot. Nothing of what the last walk found is left.
+/// With `KeyRule::First` it is what [`find_many`](crate::find_many) answers, with its errors. Each path is
+/// told that it is `Found` or `Missing`. After an error the buffers are empty: nothing of what an earlier
+/// walk found is left.
 ///
-/// With the path `["a"]` over `{"a":1,"a":2}` they hold the span from 5 to 6 by `First`, and that
-/// from 11 to 12 by `Last`.
+/// With the path `["a"]` over `{"a":1,"a":2}` they hold `Found` from 5 to 6 by `First`, and from 11 to 12 by
+/// `Last`.
 pub fn find_many_by<'de, I: JsonInput<'de>>(
     alloc: Global,
     buffers: &mut WalkBuffers,
@@ -90,8 +90,9 @@ pub fn find_many_by<'de, I: JsonInput<'de>>(
     rule: KeyRule,
 ) -> Result<(), Error>
     ensures ok { OnOk result (IsAnswerBy rule (I.JsonInput.content json) I.JsonInput.is_bytes tree.now
-        (Answer.spans (pairs_of buffers.new))) }
-    ensures parts { OnOk result (AreSpans (I.JsonInput.content json) buffers.new) }
+        (Answer.spans (map told_span buffers.new))) }
+    ensures parts { OnOk result (AreFoundParts (I.JsonInput.content json) buffers.new) }
+    ensures none_fails { OnOk result (NoneTold buffers.new) }
     ensures err { IfErr result (IsRefusalBy rule (I.JsonInput.content json) I.JsonInput.is_bytes tree.now) }
     ensures cleared { OnErr result (buffers.new ≡ []) }
     ensures complete { IsAnswerableBy rule (I.JsonInput.content json) I.JsonInput.is_bytes tree.now
@@ -119,8 +120,9 @@ pub fn fill_buffers<'de, I: JsonInput<'de>>(
     rule: KeyRule,
 ) -> Result<(), Fault>
     ensures ok { OnOk result (IsAnswerBy rule (I.JsonInput.content json) I.JsonInput.is_bytes tree.now
-        (Answer.spans (pairs_of buffers.new))) }
-    ensures parts { OnOk result (AreSpans (I.JsonInput.content json) buffers.new) }
+        (Answer.spans (map told_span buffers.new))) }
+    ensures parts { OnOk result (AreFoundParts (I.JsonInput.content json) buffers.new) }
+    ensures none_fails { OnOk result (NoneTold buffers.new) }
     ensures err { IfErr result (IsStopFor (λ s. IsAnswerBy rule (I.JsonInput.content json)
         I.JsonInput.is_bytes tree.now (Answer.error s))) }
     ensures within { IfErr result (IsStopFor (λ s. s.place ≤ length (I.JsonInput.content json))) }
@@ -129,4 +131,59 @@ pub fn fill_buffers<'de, I: JsonInput<'de>>(
         → IfErr result (λ fault. fault ≡ Fault.OutOfMemory) }
 {
     locate_in(alloc, &mut buffers.memory, json, tree, rule)
+}
+
+/// Where each path of a tree leads in an input under a rule for equal keys, whatever the others lead to, in
+/// buffers that are used again.
+///
+/// It is what [`find_each`](crate::find_each) tells, with its errors. After an error the buffers are empty.
+///
+/// With the paths `["a"]` and `["a", "x"]` over `{"a":1}` they hold `Found` from 5 to 6, and `Fails` at 5.
+pub fn find_each_by<'de, I: JsonInput<'de>>(
+    alloc: Global,
+    buffers: &mut WalkBuffers,
+    json: I,
+    tree: &PointerTree,
+    rule: KeyRule,
+) -> Result<(), Error>
+    ensures ok { OnOk result (IsEachAnswerBy rule (I.JsonInput.content json) I.JsonInput.is_bytes
+        tree.now (EachAnswer.outcomes buffers.new)) }
+    ensures parts { OnOk result (AreFoundParts (I.JsonInput.content json) buffers.new) }
+    ensures err { IfErr result (IsEachRefusalBy rule (I.JsonInput.content json) I.JsonInput.is_bytes
+        tree.now) }
+    ensures cleared { OnErr result (buffers.new ≡ []) }
+    ensures complete { IsEachTold rule (I.JsonInput.content json) I.JsonInput.is_bytes tree.now
+        → IfErr result (λ error. IsPlainError error ErrorCode.NoMemory) }
+    ensures honest { IfErr result (IsHonest strict (I.JsonInput.content json) 0) }
+{
+    let text = json.to_u8_slice();
+    match fill_each_buffers(alloc, buffers, json, tree, rule) {
+        Ok(()) => Ok(()),
+        Err(fault) => Err(fault.error(text)),
+    }
+}
+
+/// What [`find_each_by`] tells, or the place and the code of its error, for whom these suffice: neither
+/// line nor column is counted. At the end of the input the place is its length.
+///
+/// With the path `["a"]` over `{"a":tru}` it is `Fault::At` 8, with `ErrorCode::InvalidLiteral`.
+#[inline(always)]
+pub fn fill_each_buffers<'de, I: JsonInput<'de>>(
+    alloc: Global,
+    buffers: &mut WalkBuffers,
+    json: I,
+    tree: &PointerTree,
+    rule: KeyRule,
+) -> Result<(), Fault>
+    ensures ok { OnOk result (IsEachAnswerBy rule (I.JsonInput.content json) I.JsonInput.is_bytes
+        tree.now (EachAnswer.outcomes buffers.new)) }
+    ensures parts { OnOk result (AreFoundParts (I.JsonInput.content json) buffers.new) }
+    ensures err { IfErr result (IsStopFor (λ s. IsEachAnswerBy rule (I.JsonInput.content json)
+        I.JsonInput.is_bytes tree.now (EachAnswer.error s))) }
+    ensures within { IfErr result (IsStopFor (λ s. s.place ≤ length (I.JsonInput.content json))) }
+    ensures cleared { OnErr result (buffers.new ≡ []) }
+    ensures complete { IsEachTold rule (I.JsonInput.content json) I.JsonInput.is_bytes tree.now
+        → IfErr result (λ fault. fault ≡ Fault.OutOfMemory) }
+{
+    locate_each_in(alloc, &mut buffers.memory, json, tree, rule)
 }

@@ -1,5 +1,6 @@
 // The cursor of a walk through a text.
-ghost use Rattle.std.specs.Prelude.{◌≡◌, ◌≢◌, ◌+◌, ◌<◌, ◌≤◌, ◌^◌, true, false, length, take, IfOk, IfErr, IsErrOf, OnOk, is_some, IsTrue, IsFalse};
+ghost use Rattle.std.specs.Prelude.{◌≡◌, ◌≢◌, ◌+◌, ◌<◌, ◌≤◌, ◌^◌, true, false, length, take, IfOk, IfErr, IfSome, IfNone, IsErrOf, OnOk, is_some, IsTrue, IsFalse};
+ghost use Rattle.std.specs.Option.{IsSomeAnd};
 ghost use Rattle.std.specs.Str.{IsUtf8};
 ghost use Rattle.sonic_error.specs.declared.code.ErrorCode.TheVariants.{InvalidUTF8};
 ghost use Rattle.sonic_error.specs.Texts.{valid_up_to};
@@ -12,7 +13,7 @@ ghost use Rattle.sonic_parser.specs.Faults.{IsStopFor};
 ghost use Rattle.sonic_parser.specs.Parsers.{IsFilledContainer};
 ghost use Rattle.sonic_parser.specs.ValueSpans.{FlagsEscape, IsKeyAt};
 ghost use Rattle.sonic_find.specs.Cursors.{IsAfterItem, IsAtKey, IsSkippable};
-ghost use Rattle.sonic_find.specs.Internal.Walk.{IsNoEntry};
+ghost use Rattle.sonic_find.specs.Internal.Walk.{IsNoEntry, IsPassedDead, IsUnopened};
 ghost use Rattle.sonic_find.specs.Paths.{empty_code, wanted_of};
 
 use crate::utf8::check_from;
@@ -40,6 +41,13 @@ pub struct Cursor<'de> {
     utf8: usize,
     // The place where the next piece ends, or `usize::MAX` where none is looked at.
     look_at: usize,
+}
+
+// A value in which no node of a kind leads on, and where and why each that asks for the kind fails.
+#[derive(Clone, Copy)]
+pub(crate) struct Dead {
+    pub(crate) value: ValueSpan,
+    pub(crate) stop: Stop,
 }
 
 impl<'de> Model for Cursor<'de> {
@@ -165,7 +173,7 @@ impl<'de> Cursor<'de> {
         Ok(())
     }
 
-    // Enters the container of this kind at the cursor, up to its first item.
+    // Enters the container of this kind at the cursor, up to its first item, or says why there is none.
     #[inline(always)]
     pub(crate) fn enter_or_explain(&mut self, kind: Kind) -> Result<(), Fault>
         requires { IsSkippable self.old }
@@ -174,18 +182,38 @@ impl<'de> Cursor<'de> {
         ensures err { IfErr result (IsStopFor (IsNoEntry self.old.text self.old.place kind)) }
         ensures memory { IsErrOf result Fault.OutOfMemory → IsTrue self.old.checks }
     {
+        match self.enter_or_pass(kind)? {
+            None => Ok(()),
+            Some(dead) => Err(Fault::At(dead.stop)),
+        }
+    }
+
+    // Enters the container of this kind at the cursor, up to its first item, or passes the value that
+    // is no such container, or an empty one.
+    #[inline(always)]
+    pub(crate) fn enter_or_pass(&mut self, kind: Kind) -> Result<Option<Dead>, Fault>
+        requires { IsSkippable self.old }
+        ensures entered { IfOk result (λ dead. IfNone dead
+            (ItemsFit strict self.old.text kind self.old.place 0 self.new.place)) }
+        ensures passed { IfOk result (λ dead. IfSome dead
+            (IsPassedDead self.old.text kind self.old.place self.new.place)) }
+        ensures moved { self.new ≡ record self.old { place = self.new.place } }
+        ensures err { IfErr result (IsStopFor (IsUnopened self.old.text kind self.old.place)) }
+        ensures memory { IsErrOf result Fault.OutOfMemory → IsTrue self.old.checks }
+    {
         let start = self.parser.offset();
         if byte_at(self.parser.text(), start) != kind.opening() {
-            return Err(self.mismatch(kind));
+            return self.pass_other(kind);
         }
         if self.enter(kind) {
-            return Ok(());
+            return Ok(None);
         }
-        let bracket = self.parser.offset() - 1;
+        let end = self.parser.offset();
+        let place = end - 1;
         let code = empty_code(kind);
-        Err(Fault::At(Stop {
-            place: bracket,
-            code,
+        Ok(Some(Dead {
+            value: ValueSpan::plain(start, end),
+            stop: Stop { place, code },
         }))
     }
 
@@ -203,22 +231,25 @@ impl<'de> Cursor<'de> {
         self.parser.enter(kind)
     }
 
-    // Why the value at the cursor is no container of this kind.
-    fn mismatch(&mut self, kind: Kind) -> Fault
+    // Passes the value at the cursor, which is no container of this kind.
+    fn pass_other(&mut self, kind: Kind) -> Result<Option<Dead>, Fault>
         requires skippable { IsSkippable self.old }
         requires other { byte self.old.text self.old.place ≢ opening kind }
-        ensures stop { IsStopFor (IsNoEntry self.old.text self.old.place kind) result }
+        ensures passed { IfOk result (λ dead. IsSomeAnd dead
+            (IsPassedDead self.old.text kind self.old.place self.new.place)) }
         ensures moved { self.new ≡ record self.old { place = self.new.place } }
-        ensures memory { result ≡ Fault.OutOfMemory → IsTrue self.old.checks }
+        ensures err { IfErr result (IsStopFor (IsUnopened self.old.text kind self.old.place)) }
+        ensures memory { IsErrOf result Fault.OutOfMemory → IsTrue self.old.checks }
     {
         let found = type_of(byte_at(self.parser.text(), self.parser.offset()));
-        if let Err(fault) = self.skip() {
-            return fault;
-        }
+        let value = self.skip()?;
         let place = self.parser.offset() - 1;
         let wanted = wanted_of(kind);
         let code = ErrorCode::Message(Note::Mismatch { found, wanted });
-        Fault::At(Stop { place, code })
+        Ok(Some(Dead {
+            value,
+            stop: Stop { place, code },
+        }))
     }
 
     /// Goes on after an item of a container of this kind: whether another one comes.

@@ -1,5 +1,5 @@
 // Where paths lead in an input, as spans of it.
-ghost use Rattle.std.specs.Prelude.{◌≡◌, None, true, false, length, map, option_map, replicate, IfErr, OnErr, OnOk};
+ghost use Rattle.std.specs.Prelude.{◌≡◌, None, true, false, length, map, replicate, IfErr, OnErr, OnOk};
 ghost use Rattle.sonic_error.specs.Errors.{IsPlainError};
 ghost use Rattle.sonic_text.specs.Documents.{StartsWithUtf8Value};
 ghost use Rattle.sonic_text.specs.Strings.{strict};
@@ -7,12 +7,14 @@ ghost use Rattle.sonic_parser.specs.Honest.{IsHonest};
 ghost use Rattle.sonic_pointer.specs.Nodes.{path_of};
 ghost use Rattle.sonic_find.specs.Answers.{IsAnswer, Answer};
 ghost use Rattle.sonic_find.specs.Causes.{IsAnswerable, IsRefusal};
-ghost use Rattle.sonic_find.specs.Found.{slot_at};
+ghost use Rattle.sonic_find.specs.Found.{slot_in};
 ghost use Rattle.sonic_find.specs.Spans.{IsFinding, IsSureFinding, pairs_of};
 
 use crate::answer::locate_many;
 use crate::cursor::Cursor;
+use crate::each::span_of;
 use crate::many_unchecked::clear;
+use crate::outcome::PathOutcome;
 use crate::path::{locate, locate_from};
 use crate::span::Span;
 use sonic_error::{Error, ErrorCode};
@@ -90,21 +92,11 @@ pub fn find_many<'de, I: JsonInput<'de>>(
 }
 
 // Fills the slots with what was found.
-fn fill(out: &mut [Option<Span>], found: &[Option<ValueSpan>])
+fn fill(out: &mut [Option<Span>], found: &[PathOutcome<ValueSpan>])
     requires { length found.now ≡ length out.old }
-    ensures { out.new ≡ map (option_map slot_at) found.now }
+    ensures { out.new ≡ map slot_in found.now }
 {
-    for (i, value) in found.iter().enumerate() {
-        out[i] = span_of(*value);
-    }
-}
-
-// The span of a value, where one was found.
-pub(crate) fn span_of(value: Option<ValueSpan>) -> Option<Span>
-    ensures { result ≡ option_map slot_at value }
-{
-    match value {
-        Some(ValueSpan { start, end, .. }) => Some(Span { start, end }),
-        None => None,
+    for (i, slot) in found.iter().enumerate() {
+        out[i] = span_of(*slot).found();
     }
 }

@@ -1,13 +1,16 @@
-ghost use Rattle.std.specs.Prelude.{◌≡◌, ◌<◌, ◌+◌, ◌++◌, ◌↔◌, ℕ, Bool, List, Option, slice_range, IsFalse};
+ghost use Rattle.std.specs.Prelude.{◌≡◌, ◌⊎◌, ◌<◌, ◌+◌, ◌++◌, ◌↔◌, ℕ, Bool, List, Option, map, slice_range, IsFalse};
 ghost use Rattle.std.specs.List.{Contains};
 ghost use Rattle.std.specs.Str.{IsUtf8};
 ghost use Rattle.sonic_text.specs.declared.stop.Stop.{Stop};
 ghost use Rattle.sonic_text.specs.Documents.{IsRootFault, StartsWithUtf8Value};
 ghost use Rattle.sonic_text.specs.Paths.{Node, Path};
-ghost use Rattle.sonic_find.specs.Answers.{IsAnswer, IsAnswerBy, IsGetAnswer, Span, spans, span_text};
+ghost use Rattle.sonic_find.specs.Answers.{AllLeadBy, IsAnswer, IsAnswerBy, IsGetAnswer, IsNearest, Span, spans, error, span_text};
 ghost use Rattle.sonic_find.specs.Documents.{IsValidDocument, IsInvalid};
 ghost use Rattle.sonic_find.specs.FirstPaths.{EvaluatesFirst};
 ghost use Rattle.sonic_find.specs.Laws.{AreGetAnswers, ExactlyOne, HoldsOrHasOneReason, Finds, LeadsInPart, outcome_in_whole};
+ghost use Rattle.sonic_find.specs.Outcomes.{EachAnswer, IsEachAnswerBy, told_span};
+ghost use Rattle.sonic_find.specs.declared.outcome.PathOutcome.{PathOutcome};
+ghost use Rattle.sonic_find.specs.declared.span.Span.{Span as Slot};
 ghost use Rattle.sonic_find.specs.Paths.{Outcome, EvaluatesBy, Leads, LeadsUnder, found, lacks, fails, cut};
 ghost use Rattle.sonic_pointer.specs.Paths.{IsUnmixed};
 ghost use Rattle.sonic_pointer.specs.declared.rule.KeyRule.{KeyRule};
@@ -81,6 +84,32 @@ pub fn fails_at_one_place_agree()
 pub fn paths_have_one_answer()
     ensures { (r : KeyRule) (t : List ℕ) (is_bytes : Bool) (paths : List (List Node))
         → ExactlyOne (IsAnswerBy r t is_bytes paths) }
+{}
+
+/// The law of outcomes, for every rule for equal keys, every text, whether it came as bytes or not, and
+/// every list of paths: they have an answer each by itself, and no other.
+///
+/// So `["b"]` and `["a", "x"]` over `{"a":1}` are told that the key is missing, at 6, and the mismatch at 5,
+/// and nothing else.
+pub fn paths_have_one_answer_each()
+    ensures { (r : KeyRule) (t : List ℕ) (is_bytes : Bool) (paths : List Path)
+        → ExactlyOne (IsEachAnswerBy r t is_bytes paths) }
+{}
+
+/// The law of `find_each` beside `find_many`: where all paths have spans together, each is told the same,
+/// and where they have an error, `find_each` has it, too, or it is the nearest fail of a path.
+///
+/// So over `{"a":1,"b":2}` the paths `["b"]` and `["a"]` are told the same by both. The paths `["b", "x"]`
+/// and `["a", "x"]` together have the mismatch at the `1` alone, which is the nearest of what each is told.
+pub fn find_each_agrees_with_find_many()
+    ensures spans { (r : KeyRule) (t : List ℕ) (is_bytes : Bool) (paths : List Path)
+        (entries : List (Option Span)) → IsAnswerBy r t is_bytes paths (spans entries)
+        → (told : List (PathOutcome Slot)) × IsEachAnswerBy r t is_bytes paths (EachAnswer.outcomes told)
+        × (entries ≡ map told_span told) }
+    ensures error { (r : KeyRule) (t : List ℕ) (is_bytes : Bool) (paths : List Path)
+        (os : List Outcome) (s : Stop) → AllLeadBy r t paths os
+        → IsAnswerBy r t is_bytes paths (error s)
+        → IsEachAnswerBy r t is_bytes paths (EachAnswer.error s) ⊎ IsNearest os s }
 {}
 
 /// The law of the answer of one path, for every text, whether it came as bytes or not, and every

@@ -6,6 +6,8 @@
 mod answer;
 // Whether an input is a valid document.
 mod document;
+// Where each of many paths leads, whatever the others lead to.
+mod each;
 // Where paths lead in an input, as spans of it.
 mod finding;
 // Objects in which another member than the first may count.
@@ -21,10 +23,16 @@ mod many_unchecked;
 mod marks;
 // Where one path leads in a text.
 mod path;
-// What many paths find in many texts, in buffers that are used again.
+// Where many paths lead in many texts, in buffers that are used again.
 mod buffers;
+// Where a path leads.
+mod outcome;
 // A part of an input.
 mod span;
+// The slots of paths that go on alike.
+mod settle;
+// The slot of a path.
+mod slot;
 // What a walk has come to.
 mod state;
 // The cursor of a walk through a text.
@@ -36,14 +44,17 @@ mod visited;
 // One walk that finds what all paths of a tree lead to.
 mod walk;
 
-pub use buffers::{WalkBuffers, find_many_by};
+pub use buffers::{WalkBuffers, find_each_by, find_many_by};
 pub use document::validate;
+pub use each::{find_each, find_each_unchecked};
 pub use finding::{find, find_many, find_unchecked};
 pub use law::{
     a_cut_is_the_root_fault, a_path_goes_on_in_its_value, document_is_valid_or_has_one_reason,
-    fails_at_one_place_agree, first_is_the_plain_rule, get_many_agrees_with_get,
-    outcomes_come_before_the_fault, path_has_one_answer, path_has_one_outcome,
-    paths_have_one_answer, refuse_agrees_with_each_rule,
+    fails_at_one_place_agree, find_each_agrees_with_find_many, first_is_the_plain_rule,
+    get_many_agrees_with_get, outcomes_come_before_the_fault, path_has_one_answer,
+    path_has_one_outcome, paths_have_one_answer, paths_have_one_answer_each,
+    refuse_agrees_with_each_rule,
 };
 pub use many_unchecked::find_many_unchecked;
+pub use outcome::PathOutcome;
 pub use span::Span;

@@ -1,6 +1,5 @@
 // What many paths find in an input that is known to begin with a value in UTF-8.
-ghost use Rattle.std.specs.Prelude.{◌≡◌, ◌<◌, ℕ, Bool, Some, None, length, replicate, slice_get, IfOk, IfErr, IfSome, IfNone, OnOk, OnErr, IsOk};
-ghost use Rattle.std.specs.List.{Contains};
+ghost use Rattle.std.specs.Prelude.{◌≡◌, ◌<◌, ℕ, Bool, Some, None, length, replicate, slice_get, IfErr, IfSome, IfNone, OnOk, OnErr, IsOk};
 ghost use Rattle.sonic_text.specs.Documents.{StartsWithUtf8Value};
 ghost use Rattle.sonic_text.specs.Paths.{Node};
 ghost use Rattle.sonic_text.specs.Places.{after_space};
@@ -11,18 +10,23 @@ ghost use Rattle.sonic_pointer.specs.Paths.{IsChildren};
 ghost use Rattle.sonic_find.specs.Answers.{IsAnswer, Answer};
 ghost use Rattle.sonic_find.specs.Causes.{IsAnswerable, IsAnswerError};
 ghost use Rattle.sonic_find.specs.Internal.Collected.{AllCollected, NodeCollected, IsFailBelow};
-ghost use Rattle.sonic_find.specs.Internal.Fill.{origin_at, found_in, settled_in};
+ghost use Rattle.sonic_find.specs.Internal.Fill.{AreFilled, origin_at, settled_in, slots_question};
 ghost use Rattle.sonic_find.specs.Internal.Follow.{IsDeadNode, LacksNode};
 ghost use Rattle.sonic_parser.specs.ValueSpans.{FlagsEscape};
 ghost use Rattle.sonic_find.specs.Cursors.{HasWhole};
-ghost use Rattle.sonic_find.specs.Internal.Walk.{AreFindings, AreSetTo, ComesTo, IsError, IsLater};
+ghost use Rattle.sonic_find.specs.Internal.Walk.{ComesTo, IsError, Keeps};
+ghost use Rattle.sonic_find.specs.declared.many_unchecked.Origin.{Origin};
+ghost use Rattle.sonic_text.specs.declared.stop.Stop.{Stop};
 ghost use Rattle.sonic_find.specs.Paths.{LeadsOn};
 ghost use Rattle.sonic_find.specs.Spans.{pairs_of};
 ghost use Rattle.sonic_pointer.specs.declared.rule.KeyRule.TheVariants.{First};
 
 use crate::cursor::Cursor;
+use crate::outcome::PathOutcome;
 use crate::path::lead_on;
 use crate::provisional::nearer;
+use crate::settle::{keep, settle};
+use crate::slot::Slot;
 use crate::span::Span;
 use sonic_error::Error;
 use sonic_input::{JsonInput, JsonSlice, Read};
@@ -72,49 +76,43 @@ impl<'de> Origin<'de> {
     // The value of the first item that the node names, if there is one. Out of line it takes none of the
     // stack that `fill` holds for each prefix.
     #[inline(never)]
-    fn child(self, node: &PointerNode<'_>) -> Result<Option<Origin<'de>>, Stop>
+    fn child(self, node: &PointerNode<'_>) -> PathOutcome<Origin<'de>>
         requires { HasWhole self.text.now self.place }
-        ensures text { IfOk result (λ child. IfSome child (λ x. x.text.now ≡ self.entry.text.now)) }
-        ensures leads { IfOk result (λ child. IfSome child (λ x.
-            LeadsOn self.entry.text.now self.entry.place (node_of node.now) x.place)) }
-        ensures lacks { IfOk result (λ child. IfNone child ((q : ℕ)
-            × LacksNode First self.entry.text.now self.entry.place (node_of node.now) q)) }
-        ensures err { IfErr result (IsDeadNode First self.entry.text.now self.entry.place (node_of node.now)) }
+        ensures text { (x : Origin) → result ≡ PathOutcome.Found x
+            → x.text.now ≡ self.entry.text.now }
+        ensures leads { (x : Origin) → result ≡ PathOutcome.Found x
+            → LeadsOn self.entry.text.now self.entry.place (node_of node.now) x.place }
+        ensures lacks { (q : ℕ) → result ≡ PathOutcome.Missing q
+            → LacksNode First self.entry.text.now self.entry.place (node_of node.now) q }
+        ensures fails { (s : Stop) → result ≡ PathOutcome.Fails s
+            → IsDeadNode First self.entry.text.now self.entry.place (node_of node.now) s }
     {
         let mut cursor = Cursor::unchecked(self.read());
         match lead_on(&mut cursor, node) {
             Ok(true) => {
                 let place = cursor.place();
-                Ok(Some(Origin { place, ..self }))
+                PathOutcome::Found(Origin { place, ..self })
             }
-            Ok(false) => Ok(None),
-            Err(Fault::At(stop)) => Err(stop),
+            Ok(false) => PathOutcome::Missing(cursor.place() - 1),
+            Err(Fault::At(stop)) => PathOutcome::Fails(stop),
             Err(Fault::OutOfMemory) => unreachable!(),
         }
-    }
-}
-
-// Fills the slots of the paths of these numbers.
-fn keep(slots: &mut [Option<Span>], orders: &[usize], span: Span)
-    requires { (k : ℕ) → Contains orders.now k → k < length slots.old }
-    ensures { AreSetTo orders.now slots.old slots.new span }
-{
-    for order in orders {
-        slots[*order] = Some(span);
     }
 }
 
 // Fills the slots of the paths that begin with the prefix of the view, which leads to the value: the
 // nearest stop of those that fail.
 #[cycle(fill)]
-fn fill(origin: Origin<'_>, view: &TreeView<'_>, slots: &mut [Option<Span>]) -> Option<Stop>
+fn fill<S: Slot>(origin: Origin<'_>, view: &TreeView<'_>, slots: &mut [S]) -> Option<Stop>
     requires whole { HasWhole origin.text.now origin.place }
-    requires comes { ComesTo (origin_at origin view.now) }
-    requires findings { AreFindings First origin.text.now view.now.paths (found_in slots.old) }
-    ensures later { IsLater First origin.entry.text.now view.now.paths (found_in slots.old)
-        (found_in slots.new) }
-    ensures fails { IfSome result (IsFailBelow (origin_at origin.entry view.now)) }
-    ensures all { AllCollected (origin_at origin.entry view.now) (settled_in slots.new) result }
+    requires comes { ComesTo (origin_at S.tells origin view.now) }
+    requires long { length slots.old ≡ length view.now.paths }
+    ensures long { length slots.new ≡ length slots.old }
+    ensures kept { Keeps (slots_question S.tells origin.entry.text.now view.now.paths)
+        (settled_in S.told slots.old) (settled_in S.told slots.new) }
+    ensures fails { IfSome result (IsFailBelow (origin_at S.tells origin.entry view.now)) }
+    ensures all { AllCollected (origin_at S.tells origin.entry view.now) (settled_in S.told slots.new)
+        result }
 {
     let mut nearest = None;
     for i in 0..view.count() {
@@ -126,34 +124,42 @@ fn fill(origin: Origin<'_>, view: &TreeView<'_>, slots: &mut [Option<Span>]) -> 
         return nearest;
     }
     let ValueSpan { start, end, .. } = origin.span();
-    keep(slots, orders, Span { start, end });
+    keep(slots, orders, S::found(Span { start, end }));
     nearest
 }
 
 // The same for those of the paths that go on by the view's child of this number.
 #[cycle(fill)]
-fn fill_child(
+fn fill_child<S: Slot>(
     origin: Origin<'_>,
     view: &TreeView<'_>,
     i: usize,
-    slots: &mut [Option<Span>],
+    slots: &mut [S],
 ) -> Option<Stop>
     requires child { i < length view.now.children }
     requires children { IsChildren view.now.paths view.now.prefix view.now.children }
     requires whole { HasWhole origin.text.now origin.place }
-    requires comes { ComesTo (origin_at origin view.now) }
-    requires findings { AreFindings First origin.text.now view.now.paths (found_in slots.old) }
-    ensures later { IsLater First origin.entry.text.now view.now.paths (found_in slots.old)
-        (found_in slots.new) }
-    ensures fails { IfSome result (IsFailBelow (origin_at origin.entry view.now)) }
+    requires comes { ComesTo (origin_at S.tells origin view.now) }
+    requires long { length slots.old ≡ length view.now.paths }
+    ensures long { length slots.new ≡ length slots.old }
+    ensures kept { Keeps (slots_question S.tells origin.entry.text.now view.now.paths)
+        (settled_in S.told slots.old) (settled_in S.told slots.new) }
+    ensures fails { IfSome result (IsFailBelow (origin_at S.tells origin.entry view.now)) }
     ensures all { (node : Node) → slice_get view.now.children i ≡ Some node
-        → NodeCollected (origin_at origin.entry view.now) (settled_in slots.new) result node }
+        → NodeCollected (origin_at S.tells origin.entry view.now) (settled_in S.told slots.new) result
+        node }
 {
     let (node, below) = view.child(i);
     match origin.child(&node) {
-        Ok(Some(child)) => fill(child, &below, slots),
-        Ok(None) => None,
-        Err(stop) => Some(stop),
+        PathOutcome::Found(child) => fill(child, &below, slots),
+        PathOutcome::Missing(brace) => {
+            settle(slots, &below, S::missing(brace));
+            None
+        }
+        PathOutcome::Fails(stop) => {
+            settle(slots, &below, S::fails(stop));
+            Some(stop)
+        }
     }
 }
 
@@ -174,6 +180,15 @@ fn fill_all(text: &[u8], tree: &PointerTree, slots: &mut [Option<Span>]) -> Opti
     ensures long { length slots.new ≡ length slots.old }
 {
     fill(Origin::root(text), &tree.view(), slots)
+}
+
+// Fills the slots of the paths of a tree, each with where its path leads.
+pub(crate) fn fill_each(text: &[u8], tree: &PointerTree, slots: &mut [PathOutcome<Span>])
+    requires starts { StartsWithUtf8Value text.now }
+    requires long { length slots.old ≡ length tree.now }
+    ensures { AreFilled text.now tree.now slots.new }
+{
+    fill(Origin::root(text), &tree.view(), slots);
 }
 
 /// The spans of the values to which the paths of a tree lead, without memory, in an input that

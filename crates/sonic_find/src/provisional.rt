@@ -1,10 +1,12 @@
 // Objects in which another member than the first may count. What a key leads to counts once the object
 // is whole: each prefix is marked with what it had last, and what the marks come to is collected then.
-ghost use Rattle.std.specs.Prelude.{◌≡◌, ◌≢◌, ◌<◌, ◌≤◌, ◌⊎◌, ℕ, List, Some, None, false, length, slice_get, IfOk, IfErr, IfSome, OnOk, IsTrue, IsFalse};
+ghost use Rattle.std.specs.Prelude.{◌≡◌, ◌≢◌, ◌<◌, ◌≤◌, ◌⊎◌, ℕ, List, Some, None, false, length, slice_get, IfErr, IfOk, IfSome, OnOk, IsTrue, IsFalse};
 ghost use Rattle.sonic_error.specs.declared.code.ErrorCode.TheVariants.{GetIndexOutOfArray, Message};
 ghost use Rattle.sonic_error.specs.declared.json_type.Note.TheVariants.{Mismatch};
 ghost use Rattle.sonic_text.specs.declared.kind.Kind.{Kind};
 ghost use Rattle.sonic_text.specs.Paths.{Node};
+ghost use Rattle.sonic_text.specs.declared.stop.Stop.{Stop};
+ghost use Rattle.sonic_find.specs.declared.marks.Mark.{Mark};
 ghost use Rattle.sonic_text.specs.Places.{byte};
 ghost use Rattle.sonic_text.specs.Strings.{strict};
 ghost use Rattle.sonic_text.specs.Values.{opening, type_of, IsValue};
@@ -16,12 +18,13 @@ ghost use Rattle.sonic_parser.specs.Faults.{IsStopFor};
 ghost use Rattle.sonic_find.specs.Internal.Collected.{AllCollected, NodeCollected, IsFailBelow, IsNoted};
 ghost use Rattle.sonic_find.specs.Internal.Follow.{IsDeadNode, LacksNode};
 ghost use Rattle.sonic_find.specs.Internal.Marks.{AreMarks, IsClosed, IsWholeLevel, IsMarked, IsMarkedItem, IsMarking, IsPassedBy, IsWholeMark, KeptBeside, NodeSays, SaysAll, IsLive};
-ghost use Rattle.sonic_find.specs.Internal.View.{container_at, marked_at, marking_at, point_at};
+ghost use Rattle.sonic_find.specs.Internal.View.{asked_at, container_at, marked_at, marking_at, point_at};
 ghost use Rattle.sonic_find.specs.Internal.Walk.{AllSettled, AreFindings, ComesTo, IsLater, IsStop};
 ghost use Rattle.sonic_find.specs.Paths.{empty_code, kind_of, wanted_of};
 
 use crate::cursor::{empty_code, wanted_of};
 use crate::marks::Mark;
+use crate::outcome::PathOutcome;
 use crate::path::kind_of_node;
 use crate::state::Walk;
 use crate::walk::{Level, head, kind_of_children};
@@ -38,20 +41,27 @@ pub(crate) fn follow_whole(walk: &mut Walk<'_>, level: &Level<'_, '_>) -> Result
     requires object { level.now.kind ≡ Kind.Object }
     requires some { level.now.view.now.children ≢ List.[] }
     requires comes { ComesTo (point_at walk.old level.now.view.now) }
-    requires findings { AreFindings walk.old.rule walk.old.text level.now.view.now.paths walk.old.findings }
+    requires findings { AreFindings (asked_at walk.old level.now.view.now) walk.old.findings }
     requires marks { AreMarks (marking_at walk.old level.now.view.now) walk.old.place }
-    ensures later { OnOk result (IsLater walk.old.rule walk.old.text level.now.view.now.paths
+    ensures later { OnOk result (IsLater (asked_at walk.old level.now.view.now)
         walk.old.findings walk.new.findings) }
     ensures settled { OnOk result (AllSettled (point_at walk.old level.now.view.now) walk.new.findings) }
     ensures whole { OnOk result (IsValue strict walk.old.text walk.old.place walk.new.place) }
     ensures marks { OnOk result (AreMarks (marking_at walk.new level.now.view.now) walk.new.place) }
-    ensures text { OnOk result (walk.new.text ≡ walk.old.text) }
-    ensures rule { OnOk result (walk.new.rule ≡ walk.old.rule) }
+    ensures moved { OnOk result (walk.new ≡ record walk.old {
+      place = walk.new.place;
+      findings = walk.new.findings;
+      marks = walk.new.marks;
+    }) }
     ensures err { IfErr result (IsStopFor (IsStop (point_at walk.old level.now.view.now) false)) }
 {
     mark_value(walk, level.view)?;
     let mark = walk.mark(level.view.number());
-    match collect(walk, level.view, mark) {
+    let nearest = collect(walk, level.view, mark);
+    if walk.goes_on() {
+        return Ok(());
+    }
+    match nearest {
         None => Ok(()),
         Some(stop) => Err(Fault::At(stop)),
     }
@@ -197,8 +207,8 @@ fn collect(walk: &mut Walk<'_>, view: &TreeView<'_>, mark: Mark) -> Option<Stop>
     requires whole { IsWholeMark walk.old.text mark }
     requires marks { AreMarks (marking_at walk.old view.now) walk.old.place }
     requires comes { ComesTo (marked_at walk.old view.now mark) }
-    requires findings { AreFindings walk.old.rule walk.old.text view.now.paths walk.old.findings }
-    ensures later { IsLater walk.old.rule walk.old.text view.now.paths walk.old.findings
+    requires findings { AreFindings (asked_at walk.old view.now) walk.old.findings }
+    ensures later { IsLater (asked_at walk.old view.now) walk.old.findings
         walk.new.findings }
     ensures fails { IfSome result (IsFailBelow (marked_at walk.old view.now mark)) }
     ensures all { AllCollected (marked_at walk.old view.now mark) walk.new.findings result }
@@ -222,8 +232,8 @@ fn collect_child(walk: &mut Walk<'_>, view: &TreeView<'_>, mark: Mark, i: usize)
     requires whole { IsWholeMark walk.old.text mark }
     requires marks { AreMarks (marking_at walk.old view.now) walk.old.place }
     requires comes { ComesTo (marked_at walk.old view.now mark) }
-    requires findings { AreFindings walk.old.rule walk.old.text view.now.paths walk.old.findings }
-    ensures later { IsLater walk.old.rule walk.old.text view.now.paths walk.old.findings
+    requires findings { AreFindings (asked_at walk.old view.now) walk.old.findings }
+    ensures later { IsLater (asked_at walk.old view.now) walk.old.findings
         walk.new.findings }
     ensures fails { IfSome result (IsFailBelow (marked_at walk.old view.now mark)) }
     ensures all { (node : Node) → slice_get view.now.children i ≡ Some node
@@ -232,12 +242,15 @@ fn collect_child(walk: &mut Walk<'_>, view: &TreeView<'_>, mark: Mark, i: usize)
 {
     let (node, below) = view.child(i);
     match live_child(walk, mark, &node, &below) {
-        Ok(Some(child)) => collect(walk, &below, child),
-        Ok(None) => {
-            walk.note_lack();
+        PathOutcome::Found(child) => collect(walk, &below, child),
+        PathOutcome::Missing(brace) => {
+            walk.lack(&below, brace);
             None
         }
-        Err(stop) => Some(stop),
+        PathOutcome::Fails(stop) => {
+            walk.fail(&below, stop);
+            Some(stop)
+        }
     }
 }
 
@@ -248,28 +261,30 @@ fn live_child(
     mark: Mark,
     node: &PointerNode<'_>,
     below: &TreeView<'_>,
-) -> Result<Option<Mark>, Stop>
+) -> PathOutcome<Mark>
     requires says { NodeSays (marking_at walk.now below.now) mark below.now.prefix (node_of node.now) (λ x. Unit) }
     requires whole { IsWholeMark walk.now.text mark }
     requires marks { AreMarks (marking_at walk.now below.now) walk.now.place }
-    ensures live { IfOk result (λ child. IfSome child (IsLive (marking_at walk.now below.now) mark below.now.prefix)) }
-    ensures lacks { IfOk result (λ child. child ≡ None → (q : ℕ)
-        × LacksNode walk.now.rule walk.now.text mark.value.start (node_of node.now) q) }
-    ensures err { IfErr result (IsDeadNode walk.now.rule walk.now.text mark.value.start (node_of node.now)) }
+    ensures live { (child : Mark) → result ≡ PathOutcome.Found child
+        → IsLive (marking_at walk.now below.now) mark below.now.prefix child }
+    ensures lacks { (q : ℕ) → result ≡ PathOutcome.Missing q
+        → LacksNode walk.now.rule walk.now.text mark.value.start (node_of node.now) q }
+    ensures fails { (s : Stop) → result ≡ PathOutcome.Fails s
+        → IsDeadNode walk.now.rule walk.now.text mark.value.start (node_of node.now) s }
 {
     let place = mark.value.end - 1;
     let kind = kind_of_node(node);
     if !mark.has_items {
         let code = code_of_no_items(byte_at(walk.text(), mark.value.start), kind);
-        return Err(Stop { place, code });
+        return PathOutcome::Fails(Stop { place, code });
     }
     let child = walk.mark(below.number());
     if child.value.start <= mark.value.start {
         return past_items(kind, place);
     }
     match child.again {
-        None => Ok(Some(child)),
-        Some(quote) => Err(Stop {
+        None => PathOutcome::Found(child),
+        Some(quote) => PathOutcome::Fails(Stop {
             place: quote,
             code: ErrorCode::DuplicateKey,
         }),
@@ -278,14 +293,15 @@ fn live_child(
 
 // What comes of a node that names none of the items of a whole container of its kind, which ends with
 // the byte at this place.
-fn past_items(kind: Kind, place: usize) -> Result<Option<Mark>, Stop>
-    ensures none { IfOk result (λ child. (child ≡ None) × (kind ≡ Kind.Object)) }
-    ensures err { IfErr result (λ s. (kind ≡ Kind.Array)
-        × (s ≡ record { place = place; code = GetIndexOutOfArray })) }
+fn past_items(kind: Kind, place: usize) -> PathOutcome<Mark>
+    ensures found { (child : Mark) → result ≢ PathOutcome.Found child }
+    ensures lacks { (q : ℕ) → result ≡ PathOutcome.Missing q → (kind ≡ Kind.Object) × (q ≡ place) }
+    ensures fails { (s : Stop) → result ≡ PathOutcome.Fails s → (kind ≡ Kind.Array)
+        × (s ≡ record { place = place; code = GetIndexOutOfArray }) }
 {
     match kind {
-        Kind::Object => Ok(None),
-        Kind::Array => Err(Stop {
+        Kind::Object => PathOutcome::Missing(place),
+        Kind::Array => PathOutcome::Fails(Stop {
             place,
             code: ErrorCode::GetIndexOutOfArray,
         }),

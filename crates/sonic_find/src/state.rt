@@ -1,5 +1,5 @@
 // What a walk through a text has come to.
-ghost use Rattle.std.specs.Prelude.{◌≡◌, ◌≢◌, ◌⊎◌, ◌<◌, ◌≤◌, ◌^◌, ◌+◌, ℕ, Some, None, true, false, length, replicate, set, slice_get, IfOk, IfErr, OnOk, IsTrue, IsFalse};
+ghost use Rattle.std.specs.Prelude.{◌≡◌, ◌≢◌, ◌⊎◌, ◌<◌, ◌≤◌, ◌^◌, ◌+◌, ℕ, Some, true, false, length, set, slice_get, IfOk, IfErr, IfSome, IfNone, OnOk, IsTrue, IsFalse};
 ghost use Rattle.std.specs.List.{Contains};
 ghost use Rattle.sonic_text.specs.Places.{after_space, byte};
 ghost use Rattle.sonic_text.specs.Strings.{strict};
@@ -10,14 +10,18 @@ ghost use Rattle.sonic_parser.specs.Faults.{IsStopFor};
 ghost use Rattle.sonic_pointer.specs.declared.rule.KeyRule.TheVariants.{First, Refuse};
 ghost use Rattle.sonic_find.specs.declared.marks.Mark.{Mark};
 ghost use Rattle.sonic_parser.specs.ValueSpans.{FlagsEscape, IsKeyAt};
-ghost use Rattle.sonic_find.specs.Found.{FlagEscapes, span_at, spans_of};
-ghost use Rattle.sonic_find.specs.Internal.Walk.{IsNoEntry, AreSetTo};
+ghost use Rattle.sonic_find.specs.Found.{FlagEscapes, slot_at, slots_of};
+ghost use Rattle.sonic_find.specs.Internal.Walk.{IsPassedDead, IsUnopened, AreSet, Begins, GoesBy, IsOpen};
+ghost use Rattle.sonic_find.specs.declared.outcome.PathOutcome.TheVariants.{Found, Missing, Fails};
 
-use crate::cursor::Cursor;
+use crate::cursor::{Cursor, Dead};
 use crate::marks::Mark;
+use crate::outcome::PathOutcome;
+use crate::settle;
+use crate::visited::Visited;
 use sonic_input::Read;
 use sonic_parser::{Fault, ValueSpan};
-use sonic_pointer::KeyRule;
+use sonic_pointer::{KeyRule, TreeView};
 use sonic_text::{Kind, Stop};
 use std::alloc::{AllocError, Global};
 use std::marker::Model;
@@ -27,12 +31,16 @@ use std::marker::Model;
 pub(crate) struct Walk<'de> {
     alloc: Global,
     cursor: Cursor<'de>,
-    // The value that each path found.
-    spans: Vec<Option<ValueSpan>>,
+    // Where each path leads, once that is known.
+    slots: Vec<PathOutcome<ValueSpan>>,
     // Whether some path lacks its key.
     lacking: bool,
+    // Whether it goes on after a path that fails.
+    each: bool,
     // Which of several equal keys counts.
     rule: KeyRule,
+    // The place of the value at which the paths begin.
+    root: usize,
     // What each prefix of the tree had last, unless the first of equal keys counts.
     marks: Vec<Mark>,
 }
@@ -56,30 +64,36 @@ impl<'de> Walk<'de> {
     pub(crate) fn new(
         alloc: Global,
         read: Read<'de>,
-        spans: Vec<Option<ValueSpan>>,
+        slots: Vec<PathOutcome<ValueSpan>>,
         rule: KeyRule,
+        each: bool,
         prefixes: usize,
     ) -> Result<Walk<'de>, AllocError>
         requires start { read.place ≡ 0 }
-        requires escaped { FlagEscapes read.text spans.items }
+        requires escaped { FlagEscapes read.text slots.items }
         ensures text { IfOk result (λ walk. walk.text ≡ read.entry.text) }
         ensures place { IfOk result (λ walk. walk.place ≡ after_space read.entry.text 0) }
         ensures findings { IfOk result (λ walk.
-            walk.findings ≡ record { spans = spans_of spans.items; lacking = false }) }
+            walk.findings ≡ record { slots = slots_of slots.items; lacking = false }) }
         ensures rule { IfOk result (λ walk. walk.rule ≡ rule) }
+        ensures root { IfOk result (λ walk. walk.root ≡ walk.place) }
+        ensures each { IfOk result (λ walk. walk.each ≡ each) }
         ensures marked { IfOk result (λ walk. rule ≢ First → length walk.marks ≡ prefixes) }
         ensures unmarked { IfOk result (λ walk. (n : ℕ) (m : Mark)
             → slice_get walk.marks n ≡ Some m → m.value.start ≡ 0) }
     {
         let cursor = Cursor::checked(alloc, read);
+        let root = cursor.place();
         let lacking = false;
         let marks = marks(alloc, rule, prefixes)?;
         Ok(Walk {
             alloc,
             cursor,
-            spans,
+            slots,
             lacking,
+            each,
             rule,
+            root,
             marks,
         })
     }
@@ -168,14 +182,18 @@ impl<'de> Walk<'de> {
         self.cursor.skip()
     }
 
-    // Enters the container of this kind at the cursor, up to its first item.
+    // Enters the container of this kind at the cursor, up to its first item, or passes the value that
+    // is no such container, or an empty one.
     #[inline(always)]
-    pub(crate) fn enter_or_explain(&mut self, kind: Kind) -> Result<(), Fault>
-        ensures ok { OnOk result (ItemsFit strict self.old.text kind self.old.place 0 self.new.place) }
+    pub(crate) fn enter_or_pass(&mut self, kind: Kind) -> Result<Option<Dead>, Fault>
+        ensures entered { IfOk result (λ dead. IfNone dead
+            (ItemsFit strict self.old.text kind self.old.place 0 self.new.place)) }
+        ensures passed { IfOk result (λ dead. IfSome dead
+            (IsPassedDead self.old.text kind self.old.place self.new.place)) }
         ensures moved { OnOk result (self.new ≡ record self.old { place = self.new.place }) }
-        ensures err { IfErr result (IsStopFor (IsNoEntry self.old.text self.old.place kind)) }
+        ensures err { IfErr result (IsStopFor (IsUnopened self.old.text kind self.old.place)) }
     {
-        self.cursor.enter_or_explain(kind)
+        self.cursor.enter_or_pass(kind)
     }
 
     // Goes past the bracket of the container of this kind at the cursor: whether an item is expected,
@@ -219,35 +237,90 @@ impl<'de> Walk<'de> {
     // Keeps a value for the paths of these numbers.
     #[inline(always)]
     pub(crate) fn keep(&mut self, orders: &[usize], value: ValueSpan)
-        requires known { (k : ℕ) → Contains orders.now k → k < length self.old.findings.spans }
+        requires known { (k : ℕ) → Contains orders.now k → k < length self.old.findings.slots }
         requires escaped { FlagsEscape self.old.text value }
-        ensures filled { AreSetTo orders.now self.old.findings.spans self.new.findings.spans
-            (span_at value) }
+        ensures filled { AreSet (Contains orders.now) self.old.findings.slots self.new.findings.slots
+            (Found (slot_at value)) }
         ensures kept { self.new ≡ record self.old {
           findings =
-              record self.old.findings { spans = self.new.findings.spans };
+              record self.old.findings { slots = self.new.findings.slots };
         } }
     {
-        fill(&mut self.spans, orders, value);
+        settle::keep(&mut self.slots, orders, PathOutcome::Found(value));
     }
 
-    // Notes that some path lacks its key.
-    pub(crate) fn note_lack(&mut self)
-        ensures { self.new ≡ record self.old {
+    // Keeps for all paths that begin with the prefix of the view why they fail.
+    pub(crate) fn fail(&mut self, view: &TreeView<'_>, stop: Stop)
+        requires { length self.old.findings.slots ≡ length view.now.paths }
+        ensures filled { AreSet (Begins view.now.paths view.now.prefix) self.old.findings.slots
+            self.new.findings.slots (Fails stop) }
+        ensures kept { self.new ≡ record self.old {
           findings =
-              record self.old.findings { lacking = true };
+              record self.old.findings { slots = self.new.findings.slots };
         } }
     {
+        settle::settle(&mut self.slots, view, PathOutcome::Fails(stop));
+    }
+
+    // Keeps for them that they lack a key, in the object whose closing brace is at the place.
+    pub(crate) fn lack(&mut self, view: &TreeView<'_>, brace: usize)
+        requires { length self.old.findings.slots ≡ length view.now.paths }
+        ensures filled { AreSet (Begins view.now.paths view.now.prefix) self.old.findings.slots
+            self.new.findings.slots (Missing brace) }
+        ensures kept { self.new ≡ record self.old {
+          findings =
+              record { slots = self.new.findings.slots; lacking = true };
+        } }
+    {
+        settle::settle(&mut self.slots, view, PathOutcome::Missing(brace));
         self.lacking = true;
     }
 
-    // The value that each path found.
-    pub(crate) fn into_spans(self) -> Vec<Option<ValueSpan>>
-        ensures spans { spans_of result.items ≡ self.entry.findings.spans }
+    // Keeps for those of them that go on by a child that was not visited why they fail.
+    pub(crate) fn fail_open(&mut self, view: &TreeView<'_>, visited: &Visited, stop: Stop)
+        requires slots { length self.old.findings.slots ≡ length view.now.paths }
+        requires visited { length visited.now ≡ length view.now.children }
+        ensures filled { AreSet
+            (GoesBy view.now.paths view.now.prefix view.now.children (IsOpen visited.now))
+            self.old.findings.slots self.new.findings.slots (Fails stop) }
+        ensures kept { self.new ≡ record self.old {
+          findings =
+              record self.old.findings { slots = self.new.findings.slots };
+        } }
+    {
+        settle::settle_open(&mut self.slots, view, visited, PathOutcome::Fails(stop));
+    }
+
+    // Keeps for those that they lack a key.
+    pub(crate) fn lack_open(&mut self, view: &TreeView<'_>, visited: &Visited, brace: usize)
+        requires slots { length self.old.findings.slots ≡ length view.now.paths }
+        requires visited { length visited.now ≡ length view.now.children }
+        ensures filled { AreSet
+            (GoesBy view.now.paths view.now.prefix view.now.children (IsOpen visited.now))
+            self.old.findings.slots self.new.findings.slots (Missing brace) }
+        ensures kept { self.new ≡ record self.old {
+          findings =
+              record { slots = self.new.findings.slots; lacking = true };
+        } }
+    {
+        settle::settle_open(&mut self.slots, view, visited, PathOutcome::Missing(brace));
+        self.lacking = true;
+    }
+
+    // Whether it goes on after a path that fails.
+    pub(crate) fn goes_on(&self) -> bool
+        ensures { result ≡ self.now.each }
+    {
+        self.each
+    }
+
+    // Where each path leads.
+    pub(crate) fn into_slots(self) -> Vec<PathOutcome<ValueSpan>>
+        ensures slots { slots_of result.items ≡ self.entry.findings.slots }
         ensures escaped { FlagEscapes self.entry.text result.items }
     {
-        let Walk { spans, cursor, .. } = self;
-        spans
+        let Walk { slots, cursor, .. } = self;
+        slots
     }
 }
 
@@ -260,16 +333,5 @@ fn marks(alloc: Global, rule: KeyRule, prefixes: usize) -> Result<Vec<Mark>, All
     match rule {
         KeyRule::First => Ok(Vec::new(alloc)),
         KeyRule::Last | KeyRule::Refuse => vec![in alloc; Mark::none(); prefixes],
-    }
-}
-
-// Keeps a value for the paths of these numbers.
-#[tactic(auto, using(crate::proofs::WalkLemmas::List::fillings))]
-fn fill(spans: &mut Vec<Option<ValueSpan>>, orders: &[usize], value: ValueSpan)
-    requires { (k : ℕ) → Contains orders.now k → k < length spans.old.items }
-    ensures { AreSetTo orders.now spans.old.items spans.new.items value }
-{
-    for order in orders {
-        spans[*order] = Some(value);
     }
 }

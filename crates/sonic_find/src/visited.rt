@@ -59,7 +59,7 @@ impl Visited {
     }
 
     // Whether this child was visited.
-    fn has(&self, child: usize) -> bool
+    pub(crate) fn has(&self, child: usize) -> bool
         requires { child < length self.now }
         ensures { slice_get self.now child ≡ Some result }
     {

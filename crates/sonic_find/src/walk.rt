@@ -1,16 +1,17 @@
 // One walk through a text, which finds what all paths of a tree lead to.
-ghost use Rattle.std.specs.Prelude.{◌≡◌, ◌≢◌, ◌⊎◌, ◌<◌, ◌≤◌, ◌-◌, ℕ, List, Some, slice_get, IfOk, IfErr, OnOk, IsTrue, IsFalse};
+ghost use Rattle.std.specs.Prelude.{◌≡◌, ◌≢◌, ◌⊎◌, ◌<◌, ◌≤◌, ◌-◌, ℕ, List, Some, true, length, slice_get, IfOk, IfErr, IfSome, IfNone, OnOk, IsTrue, IsFalse};
 ghost use Rattle.sonic_error.specs.declared.code.ErrorCode.TheVariants.{GetIndexOutOfArray};
-ghost use Rattle.sonic_text.specs.Strings.{strict, IsEscapedString};
+ghost use Rattle.sonic_text.specs.Strings.{strict};
 ghost use Rattle.sonic_text.specs.Paths.{Node};
 ghost use Rattle.sonic_text.specs.Values.{IsValue};
 ghost use Rattle.sonic_text.specs.Faults.{IsKeyFault};
 ghost use Rattle.sonic_pointer.specs.Paths.{HasPrefix, IsChildren};
 ghost use Rattle.sonic_parser.specs.Faults.{IsStopFor};
-ghost use Rattle.sonic_find.specs.Paths.{kind_of};
-ghost use Rattle.sonic_find.specs.Internal.Walk.{IsStop, ComesTo, AreFindings, IsLater, AllSettled, BelowSettled, IsContainer, IsFollowed, IsItemPassed, IsWanted, IsChildItem, SomeOpen};
+ghost use Rattle.sonic_find.specs.declared.outcome.PathOutcome.TheVariants.{Fails};
+ghost use Rattle.sonic_find.specs.Paths.{kind_of, past_end};
+ghost use Rattle.sonic_find.specs.Internal.Walk.{IsStop, ComesTo, AreFindings, IsLater, AllSettled, BelowSettled, IsContainer, IsFollowed, IsItemPassed, IsPassedValue, IsWanted, IsChildItem, SomeOpen, AreSet, slot_of};
 ghost use Rattle.sonic_find.specs.Internal.Marks.{KeepsMarks};
-ghost use Rattle.sonic_find.specs.Internal.View.{point_at, container_at, marking_at, progress_at, progress_of, NoneBefore};
+ghost use Rattle.sonic_find.specs.Internal.View.{asked_at, point_at, container_at, marking_at, progress_at, progress_of, is_open, NoneBefore};
 
 use crate::provisional::follow_whole;
 use crate::state::Walk;
@@ -40,16 +41,19 @@ pub(crate) struct Level<'l, 't> {
 pub(crate) fn follow(walk: &mut Walk<'_>, view: &TreeView<'_>, finish: bool) -> Result<(), Fault>
     requires comes { ComesTo (point_at walk.old view.now) }
     requires some { HasPrefix view.now.paths view.now.prefix }
-    requires are { AreFindings walk.old.rule walk.old.text view.now.paths walk.old.findings }
+    requires are { AreFindings (asked_at walk.old view.now) walk.old.findings }
     requires marks { KeepsMarks (marking_at walk.old view.now) walk.old.place }
-    ensures later { OnOk result (IsLater walk.old.rule walk.old.text view.now.paths walk.old.findings
+    ensures later { OnOk result (IsLater (asked_at walk.old view.now) walk.old.findings
         walk.new.findings) }
     ensures settled { OnOk result (AllSettled (point_at walk.old view.now) walk.new.findings) }
     ensures whole { OnOk result ((IsTrue finish) ⊎ IsTrue walk.new.findings.lacking
         → IsValue strict walk.old.text walk.old.place walk.new.place) }
     ensures marks { OnOk result (KeepsMarks (marking_at walk.new view.now) walk.new.place) }
-    ensures text { OnOk result (walk.new.text ≡ walk.old.text) }
-    ensures rule { OnOk result (walk.new.rule ≡ walk.old.rule) }
+    ensures moved { OnOk result (walk.new ≡ record walk.old {
+      place = walk.new.place;
+      findings = walk.new.findings;
+      marks = walk.new.marks;
+    }) }
     ensures err { IfErr result (IsStopFor (IsStop (point_at walk.old view.now) finish)) }
 {
     if view.count() == 0 {
@@ -65,18 +69,21 @@ pub(crate) fn follow(walk: &mut Walk<'_>, view: &TreeView<'_>, finish: bool) -> 
 fn follow_children(walk: &mut Walk<'_>, view: &TreeView<'_>, finish: bool) -> Result<(), Fault>
     requires comes { ComesTo (point_at walk.old view.now) }
     requires some { HasPrefix view.now.paths view.now.prefix }
-    requires are { AreFindings walk.old.rule walk.old.text view.now.paths walk.old.findings }
+    requires are { AreFindings (asked_at walk.old view.now) walk.old.findings }
     requires marks { KeepsMarks (marking_at walk.old view.now) walk.old.place }
     requires children { IsChildren view.now.paths view.now.prefix view.now.children }
     requires goes_on { view.now.children ≢ List.[] }
-    ensures later { OnOk result (IsLater walk.old.rule walk.old.text view.now.paths walk.old.findings
+    ensures later { OnOk result (IsLater (asked_at walk.old view.now) walk.old.findings
         walk.new.findings) }
     ensures settled { OnOk result (AllSettled (point_at walk.old view.now) walk.new.findings) }
     ensures whole { OnOk result ((IsTrue finish) ⊎ IsTrue walk.new.findings.lacking
         → IsValue strict walk.old.text walk.old.place walk.new.place) }
     ensures marks { OnOk result (KeepsMarks (marking_at walk.new view.now) walk.new.place) }
-    ensures text { OnOk result (walk.new.text ≡ walk.old.text) }
-    ensures rule { OnOk result (walk.new.rule ≡ walk.old.rule) }
+    ensures moved { OnOk result (walk.new ≡ record walk.old {
+      place = walk.new.place;
+      findings = walk.new.findings;
+      marks = walk.new.marks;
+    }) }
     ensures err { IfErr result (IsStopFor (IsStop (point_at walk.old view.now) finish)) }
 {
     let start = walk.place();
@@ -90,10 +97,10 @@ fn follow_children(walk: &mut Walk<'_>, view: &TreeView<'_>, finish: bool) -> Re
     if walk.gathers(level.kind) {
         return follow_whole(walk, &level);
     }
-    if !items(walk, &level)? {
+    let Some(value) = items(walk, &level)? else {
         return Ok(());
-    }
-    walk.keep(orders, ValueSpan::plain(start, walk.place()));
+    };
+    walk.keep(orders, value);
     Ok(())
 }
 
@@ -118,44 +125,49 @@ pub(crate) fn kind_of_children(view: &TreeView<'_>) -> Kind
     }
 }
 
-// Follows the children of a level in the items of the container at the cursor: whether it was read
-// to its end.
+// Follows the children of a level in the items of the container at the cursor: where it is, if it was
+// read to its end.
 #[cycle(walk)]
-fn items(walk: &mut Walk<'_>, level: &Level<'_, '_>) -> Result<bool, Fault>
+fn items(walk: &mut Walk<'_>, level: &Level<'_, '_>) -> Result<Option<ValueSpan>, Fault>
     requires start { level.now.start ≡ walk.old.place }
     requires container { IsContainer (container_at walk.old level.now) }
     requires some { level.now.view.now.children ≢ List.[] }
-    requires are { AreFindings walk.old.rule walk.old.text level.now.view.now.paths walk.old.findings }
+    requires are { AreFindings (asked_at walk.old level.now.view.now) walk.old.findings }
     requires marks { KeepsMarks (marking_at walk.old level.now.view.now) walk.old.place }
-    ensures later { OnOk result (IsLater walk.old.rule walk.old.text level.now.view.now.paths walk.old.findings
+    ensures later { OnOk result (IsLater (asked_at walk.old level.now.view.now) walk.old.findings
         walk.new.findings) }
     ensures settled { OnOk result (BelowSettled (container_at walk.old level.now).point walk.new.findings) }
-    ensures whole { IfOk result (λ whole. IsTrue whole → IsValue strict walk.old.text walk.old.place walk.new.place) }
-    ensures plain { IfOk result (λ whole. IsTrue whole
-        → ¬ IsEscapedString walk.old.text walk.old.place walk.new.place) }
-    ensures unneeded { IfOk result (λ whole. IsFalse whole
-        → IsFalse level.now.needs × IsFalse walk.new.findings.lacking) }
+    ensures whole { IfOk result (λ value. IfSome value
+        (IsPassedValue walk.old.text walk.old.place walk.new.place)) }
+    ensures unneeded { IfOk result (λ value. IfNone value
+        (IsFalse level.now.needs × IsFalse walk.new.findings.lacking)) }
     ensures marks { OnOk result (KeepsMarks (marking_at walk.new level.now.view.now) walk.new.place) }
-    ensures text { OnOk result (walk.new.text ≡ walk.old.text) }
-    ensures rule { OnOk result (walk.new.rule ≡ walk.old.rule) }
+    ensures moved { OnOk result (walk.new ≡ record walk.old {
+      place = walk.new.place;
+      findings = walk.new.findings;
+      marks = walk.new.marks;
+    }) }
     ensures err { IfErr result (IsStopFor (IsStop (container_at walk.old level.now).point level.now.needs)) }
 {
-    walk.enter_or_explain(level.kind)?;
     let mut visited = Visited::new(walk.alloc(), level.view.count())?;
+    if let Some(dead) = walk.enter_or_pass(level.kind)? {
+        fail(walk, level, &visited, dead.stop)?;
+        return Ok(Some(dead.value));
+    }
     let mut passed = 0;
     let mut next_child = 0;
     'items: loop {
         item(walk, level, &mut visited, passed, &mut next_child)?;
         if !is_wanted(walk, level, &visited) {
-            return Ok(false);
+            return Ok(None);
         }
         if !walk.next_item(level.kind)? {
             break 'items;
         }
         passed += 1;
     }
-    close(walk, &visited, level.kind)?;
-    Ok(true)
+    close(walk, level, &visited)?;
+    Ok(Some(ValueSpan::plain(level.start, walk.place())))
 }
 
 // Passes the item at the cursor, and follows the child that it is.
@@ -174,11 +186,14 @@ fn item(
     ensures passed { OnOk result (IsItemPassed (container_at walk.old level.now)
         (progress_at passed walk.old.place visited.new walk.new.findings) walk.new.place) }
     ensures none { OnOk result (NoneBefore level.now.view.now passed next_child.new) }
-    ensures later { OnOk result (IsLater walk.old.rule walk.old.text level.now.view.now.paths walk.old.findings
+    ensures later { OnOk result (IsLater (asked_at walk.old level.now.view.now) walk.old.findings
         walk.new.findings) }
     ensures marks { OnOk result (KeepsMarks (marking_at walk.new level.now.view.now) walk.new.place) }
-    ensures text { OnOk result (walk.new.text ≡ walk.old.text) }
-    ensures rule { OnOk result (walk.new.rule ≡ walk.old.rule) }
+    ensures moved { OnOk result (walk.new ≡ record walk.old {
+      place = walk.new.place;
+      findings = walk.new.findings;
+      marks = walk.new.marks;
+    }) }
     ensures err { IfErr result (IsStopFor (IsStop (container_at walk.old level.now).point level.now.needs)) }
 {
     let child = head(walk, level, passed, visited.count(), next_child)?;
@@ -241,32 +256,58 @@ pub(crate) fn head(
 }
 
 // Notes what the children that were not visited lead to, after the closing bracket.
-fn close(walk: &mut Walk<'_>, visited: &Visited, kind: Kind) -> Result<(), Stop>
-    requires { 0 < walk.old.place }
-    ensures kept { walk.new ≡ record walk.old {
-      findings =
-          record walk.old.findings { lacking = walk.new.findings.lacking };
-    } }
-    ensures unvisited { OnOk result (SomeOpen visited.now
-        → (kind ≡ Kind.Object) × IsTrue walk.new.findings.lacking) }
-    ensures still { IsTrue walk.old.findings.lacking → IsTrue walk.new.findings.lacking }
-    ensures lack { OnOk result (IsTrue walk.new.findings.lacking
-        → IsTrue walk.old.findings.lacking ⊎ SomeOpen visited.now) }
-    ensures err { IfErr result (λ s. SomeOpen visited.now × (kind ≡ Kind.Array)
+fn close(walk: &mut Walk<'_>, level: &Level<'_, '_>, visited: &Visited) -> Result<(), Stop>
+    requires after { 0 < walk.old.place }
+    requires slots { length walk.old.findings.slots ≡ length level.now.view.now.paths }
+    requires visited { length visited.now ≡ length level.now.view.now.children }
+    ensures kept { OnOk result (walk.new ≡ record walk.old { findings = walk.new.findings }) }
+    ensures filled { OnOk result (AreSet (is_open level.now visited.now) walk.old.findings.slots
+        walk.new.findings.slots (slot_of true (past_end level.now.kind (walk.old.place - 1)))) }
+    ensures noted { OnOk result (SomeOpen visited.now → level.now.kind ≡ Kind.Object
+        → IsTrue walk.new.findings.lacking) }
+    ensures still { OnOk result (IsTrue walk.old.findings.lacking → IsTrue walk.new.findings.lacking) }
+    ensures lack { OnOk result (IsTrue walk.new.findings.lacking → IsTrue walk.old.findings.lacking
+        ⊎ SomeOpen visited.now × (level.now.kind ≡ Kind.Object)) }
+    ensures goes { OnOk result (SomeOpen visited.now → level.now.kind ≡ Kind.Array
+        → IsTrue walk.old.each) }
+    ensures err { IfErr result (λ s. IsFalse walk.old.each × SomeOpen visited.now
+        × (level.now.kind ≡ Kind.Array)
         × (s ≡ record { place = walk.old.place - 1; code = GetIndexOutOfArray })) }
 {
     if visited.is_done() {
         return Ok(());
     }
-    match kind {
+    let place = walk.place() - 1;
+    match level.kind {
         Kind::Object => {
-            walk.note_lack();
+            walk.lack_open(level.view, visited, place);
             Ok(())
         }
         Kind::Array => {
-            let place = walk.place() - 1;
             let code = ErrorCode::GetIndexOutOfArray;
-            Err(Stop { place, code })
+            fail(walk, level, visited, Stop { place, code })
         }
     }
+}
+
+// Notes why the children that were not visited fail, unless the walk stops there.
+fn fail(
+    walk: &mut Walk<'_>,
+    level: &Level<'_, '_>,
+    visited: &Visited,
+    stop: Stop,
+) -> Result<(), Stop>
+    requires slots { length walk.old.findings.slots ≡ length level.now.view.now.paths }
+    requires visited { length visited.now ≡ length level.now.view.now.children }
+    ensures filled { OnOk result (AreSet (is_open level.now visited.now) walk.old.findings.slots
+        walk.new.findings.slots (Fails stop)) }
+    ensures kept { OnOk result (walk.new ≡ record walk.old {
+      findings =
+          record walk.old.findings { slots = walk.new.findings.slots };
+    }) }
+    ensures goes { OnOk result (IsTrue walk.old.each) }
+    ensures err { IfErr result (λ s. IsFalse walk.old.each × (s ≡ stop)) }
+{
+    walk.fail_open(level.view, visited, stop);
+    if walk.goes_on() { Ok(()) } else { Err(stop) }
 }

@@ -1,9 +1,11 @@
 -- The spans of an answer are shown by lazy values.
-use Rattle.std.proofs.Common.{◌≡◌, ℕ, List, [], ◌∷◌, Bool}
+use Rattle.std.proofs.Common.{◌≡◌, ℕ, List, [], ◌∷◌, ◌++◌, Bool}
 use Rattle.std.specs.Prelude.{Option, Some, None, option_map}
 use Rattle.sonic_find.specs.Answers.{IsAnswerBy, Answer, Span, span_text}
+use Rattle.sonic_find.specs.declared.outcome.PathOutcome.{PathOutcome}
+use Rattle.sonic_find.specs.declared.span.Span as slot
 use Rattle.sonic_lazy.specs.LazyValues.{raw_bytes}
-use Rattle.sonic_lazy.specs.Shown.{Shows, shows_none, shows_span, ShowAll, no_more_values, one_more_value, AreValuesBy}
+use Rattle.sonic_lazy.specs.Shown.{Shows, shows_none, shows_span, ShowAll, no_more_values, one_more_value, AreValuesBy, ShowsOutcome, ShowEach, no_more_outcomes, one_more_outcome}
 use Rattle.sonic_lazy.specs.Internal.Shown.{HaveTexts}
 use Rattle.sonic_lazy.specs.declared.lazyvalue.LazyValue.{LazyValue}
 use Rattle.sonic_pointer.specs.declared.rule.KeyRule.{KeyRule}
@@ -29,3 +31,9 @@ pub are_values : {t : List ℕ} {is_bytes : Bool} {paths : List Path} {entries :
 are_values {t} {entries = entries} {values} x e = record { entries = entries; answer = x; shown = all_shown t entries values e }
 
 pub ruleset answers = are_values
+
+-- one more outcome is shown
+pub show_more : {t : List ℕ} {all : List (PathOutcome slot.Span)} {outcomes : List (PathOutcome LazyValue)} {told : PathOutcome slot.Span} {outcome : PathOutcome LazyValue}
+    → ShowEach t all outcomes → ShowsOutcome t told outcome → ShowEach t (all ++ told ∷ []) (outcomes ++ outcome ∷ [])
+show_more no_more_outcomes x = one_more_outcome x no_more_outcomes
+show_more (one_more_outcome y ys) x = one_more_outcome y (show_more ys x)

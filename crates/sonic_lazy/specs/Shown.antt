@@ -7,7 +7,12 @@ use Rattle.sonic_lazy.specs.declared.lazyvalue.LazyValue.{LazyValue}
 use Rattle.sonic_find.specs.Answers.{Span, IsAnswerBy, IsGetAnswer, spans}
 use Rattle.sonic_lazy.specs.LazyValues.{raw_bytes}
 use Rattle.sonic_find.specs.Causes.{IsGetRefusal, IsGetError, IsGettable}
+use Rattle.sonic_find.specs.Outcomes.{EachAnswer, IsEachAnswerBy}
 use Rattle.sonic_find.specs.Paths.{found, Leads}
+use Rattle.sonic_find.specs.declared.outcome.PathOutcome.{PathOutcome}
+use Rattle.sonic_find.specs.declared.outcome.PathOutcome.TheVariants.{Found, Missing, Fails}
+use Rattle.sonic_find.specs.declared.span.Span as slot
+use Rattle.sonic_text.specs.declared.stop.Stop.{Stop}
 use Rattle.sonic_pointer.specs.declared.rule.KeyRule.{KeyRule}
 use Rattle.sonic_pointer.specs.declared.rule.KeyRule.TheVariants.{First}
 use Rattle.sonic_error.specs.Errors.{IsPlainError}
@@ -34,6 +39,24 @@ pub record AreValuesBy (r : KeyRule) (t : List ℕ) (is_bytes : Bool) (paths : L
 -- and by first equal keys
 abbrev pub AreValues : List ℕ → Bool → List Path → List (Option LazyValue) → Type 0
 AreValues t is_bytes paths values = AreValuesBy First t is_bytes paths values
+
+-- the outcome shows what a path is told: the value has the text of its span
+pub data ShowsOutcome (t : List ℕ) : PathOutcome slot.Span → PathOutcome LazyValue → Type 0 where
+  shows_found : {s : slot.Span} {value : LazyValue} → raw_bytes value ≡ slice_range t s.start s.end → ShowsOutcome t (Found s) (Found value)
+  shows_missing : {q : ℕ} → ShowsOutcome t (Missing q) (Missing q)
+  shows_fails : {s : Stop} → ShowsOutcome t (Fails s) (Fails s)
+
+-- the outcomes show it one by one
+pub data ShowEach (t : List ℕ) : List (PathOutcome slot.Span) → List (PathOutcome LazyValue) → Type 0 where
+  no_more_outcomes : ShowEach t [] []
+  one_more_outcome : {told : PathOutcome slot.Span} {all : List (PathOutcome slot.Span)} {outcome : PathOutcome LazyValue} {outcomes : List (PathOutcome LazyValue)}
+      → ShowsOutcome t told outcome → ShowEach t all outcomes → ShowEach t (told ∷ all) (outcome ∷ outcomes)
+
+-- the outcomes are the answer of the paths, each by itself, under a rule
+pub record AreOutcomesBy (r : KeyRule) (t : List ℕ) (is_bytes : Bool) (paths : List Path) (outcomes : List (PathOutcome LazyValue)) : Type 0 where
+  pub told : List (PathOutcome slot.Span)
+  pub answer : IsEachAnswerBy r t is_bytes paths (EachAnswer.outcomes told)
+  pub shown : ShowEach t told outcomes
 
 -- the value is the answer of the path
 pub record IsValueOf (t : List ℕ) (is_bytes : Bool) (path : Path) (value : LazyValue) : Type 0 where

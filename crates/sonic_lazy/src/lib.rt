@@ -1,13 +1,15 @@
 //! Lazy values, as paths find them in a text or one by one in a container, and what they are.
 //!
-//! Where paths lead, as spans alone, is said by `sonic_find`, whose `Span`, `find_many_unchecked` and
-//! `validate` stand here too.
+//! Where paths lead, as spans alone, is said by `sonic_find`, whose `PathOutcome`, `Span`,
+//! `find_many_unchecked` and `validate` stand here too.
 #![tactic(auto)]
 
 // What a container holds, as the collections of its kind of value.
 mod container_trait;
 // The value that a text is.
 mod document;
+// Where each of many paths leads, whatever the others lead to.
+mod each;
 // One item of a container after the other.
 mod items;
 // How far an iterator has come in its container.
@@ -35,6 +37,7 @@ mod within;
 
 pub use container_trait::JsonContainerTrait;
 pub use document::from_str;
+pub use each::{get_each, get_each_with};
 pub use iterator::{
     ArrayJsonIter, ObjectJsonIter, to_array_iter, to_array_iter_unchecked, to_object_iter,
     to_object_iter_unchecked,
@@ -48,7 +51,7 @@ pub use many::{get_many, get_many_with};
 pub use many_unchecked::get_many_unchecked;
 pub use one::{get, get_from_bytes, get_from_faststr, get_from_slice, get_from_str};
 pub use rawnumber::RawNumber;
-pub use sonic_find::{Span, find_many_unchecked, validate};
+pub use sonic_find::{PathOutcome, Span, find_many_unchecked, validate};
 pub use unchecked::{
     get_from_bytes_unchecked, get_from_faststr_unchecked, get_from_slice_unchecked,
     get_from_str_unchecked, get_unchecked,

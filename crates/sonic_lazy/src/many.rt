@@ -1,19 +1,22 @@
 // What many paths find in an input.
-ghost use Rattle.std.specs.Prelude.{◌≡◌, option_map, IfOk, IfErr, IfSome};
+ghost use Rattle.std.specs.Prelude.{◌≡◌, option_map, IfOk, IfErr};
 ghost use Rattle.sonic_error.specs.Errors.{IsPlainError};
 ghost use Rattle.sonic_text.specs.Strings.{strict};
 ghost use Rattle.sonic_parser.specs.Honest.{IsHonest};
 ghost use Rattle.sonic_find.specs.Answers.{span_text};
 ghost use Rattle.sonic_find.specs.Causes.{IsAnswerable, IsAnswerableBy, IsRefusal, IsRefusalBy};
 ghost use Rattle.sonic_lazy.specs.LazyValues.{raw_bytes};
-ghost use Rattle.sonic_find.specs.Found.{FlagEscapes, AreParts, span_at, spans_of};
+ghost use Rattle.sonic_find.specs.Found.{FlagEscapes, AreParts, span_in, spans_of};
+ghost use Rattle.sonic_find.specs.declared.outcome.PathOutcome.TheVariants.{Found};
 ghost use Rattle.sonic_parser.specs.ValueSpans.{FlagsEscape};
+ghost use Rattle.sonic_parser.specs.declared.value_span.ValueSpan.{ValueSpan};
 ghost use Rattle.sonic_lazy.specs.Shown.{AreValues, AreValuesBy};
 ghost use Rattle.sonic_lazy.specs.Internal.Shown.{HaveTexts};
 ghost use Rattle.sonic_find.specs.Parts.{IsPart};
 
 use crate::lazyvalue::LazyValue;
 use sonic_error::{Error, ErrorCode};
+use sonic_find::PathOutcome;
 use sonic_find::internal::locate_many;
 use sonic_input::JsonInput;
 use sonic_parser::ValueSpan;
@@ -24,7 +27,7 @@ use std::alloc::{AllocError, Global};
 fn values<'de, I: JsonInput<'de>>(
     alloc: Global,
     json: I,
-    found: &[Option<ValueSpan>],
+    found: &[PathOutcome<ValueSpan>],
 ) -> Result<Vec<Option<LazyValue<'de>>>, AllocError>
     requires parts { AreParts (I.JsonInput.content json) found.now }
     requires escaped { FlagEscapes (I.JsonInput.content json) found.now }
@@ -32,22 +35,22 @@ fn values<'de, I: JsonInput<'de>>(
         HaveTexts (I.JsonInput.content json) values.items (spans_of found.now)) }
 {
     let mut values = Vec::with_capacity(alloc, found.len())?;
-    for span in found {
-        values.push(value_at(json, *span))?;
+    for slot in found {
+        values.push(value_at(json, *slot))?;
     }
     Ok(values)
 }
 
 // The lazy value in an input where one was found.
-fn value_at<'de, I: JsonInput<'de>>(json: I, span: Option<ValueSpan>) -> Option<LazyValue<'de>>
-    requires part { IfSome span (λ x. IsPart (I.JsonInput.content json) x.start x.end) }
-    requires escaped { IfSome span (FlagsEscape (I.JsonInput.content json)) }
+fn value_at<'de, I: JsonInput<'de>>(json: I, slot: PathOutcome<ValueSpan>) -> Option<LazyValue<'de>>
+    requires part { (x : ValueSpan) → slot ≡ Found x → IsPart (I.JsonInput.content json) x.start x.end }
+    requires escaped { (x : ValueSpan) → slot ≡ Found x → FlagsEscape (I.JsonInput.content json) x }
     ensures { option_map raw_bytes result
-        ≡ option_map (span_text (I.JsonInput.content json)) (option_map span_at span) }
+        ≡ option_map (span_text (I.JsonInput.content json)) (span_in slot) }
 {
-    match span {
-        Some(span) => Some(LazyValue::at(json, span)),
-        None => None,
+    match slot {
+        PathOutcome::Found(span) => Some(LazyValue::at(json, span)),
+        PathOutcome::Missing(_) | PathOutcome::Fails(_) => None,
     }
 }
 

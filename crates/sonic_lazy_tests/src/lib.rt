@@ -11,6 +11,9 @@ mod cuts;
 // Which inputs are documents.
 #[cfg(test)]
 mod document;
+// Each of many paths by itself.
+#[cfg(test)]
+mod each;
 // Iterators over items.
 #[cfg(test)]
 mod iterators;

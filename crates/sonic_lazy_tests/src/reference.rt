@@ -25,7 +25,7 @@ use std::test::Fail;
 
 // What is reported of a path.
 #[derive(Clone, Copy, Debug, PartialEq)]
-enum Reported {
+pub(crate) enum Reported {
     // It leads to the value that begins and ends here.
     Found(usize, usize),
     // It leads nowhere, as an object lacks its key, whose closing brace is here.
@@ -49,7 +49,7 @@ fn parser_at(text: &[u8], place: usize) -> Parser<'_>
 }
 
 // The end of the value at a place, or its fault.
-fn value_end(alloc: Global, text: &[u8], place: usize) -> Result<usize, Fault>
+pub(crate) fn value_end(alloc: Global, text: &[u8], place: usize) -> Result<usize, Fault>
     requires { place ≤ length text.now }
     ensures ok { IfOk result (λ end. IsValue strict text.now place end) }
     ensures err { IfErr result (IsStopFor (IsFault strict text.now place)) }
@@ -391,7 +391,7 @@ fn follow(
 }
 
 // Where each path leads under a rule, in order.
-fn follow_all(
+pub(crate) fn follow_all(
     alloc: Global,
     text: &[u8],
     paths: &[&[PointerNode<'_>]],
@@ -478,7 +478,7 @@ fn plain_answer(
 
 // Checks that an error has the plain program's code and place. At the end of a text the offset of
 // an error is that of the last byte.
-fn check_error(rt: &impl Abort, text: &[u8], paths: Paths, error: Error, stop: Stop) {
+pub(crate) fn check_error(rt: &impl Abort, text: &[u8], paths: Paths, error: Error, stop: Stop) {
     let last = text.len().saturating_sub(1);
     same_at(rt, error.code(), stop.code, (text, paths));
     same_at(rt, error.offset(), stop.place.min(last), (text, paths));
@@ -605,7 +605,7 @@ fn finds_in_all_texts_of_few_pieces_what_the_plain_program_finds(
 }
 
 // Lists for texts with equal keys.
-const RULED: [Paths; 4] = [
+pub(crate) const RULED: [Paths; 4] = [
     &[&[Key("a")]],
     &[&[Key("a"), Key("a")], &[Key("b")]],
     &[&[Key("a")], &[Key("a"), Index(0)]],
@@ -613,20 +613,20 @@ const RULED: [Paths; 4] = [
 ];
 
 // The bytes that make containers, with keys of one letter.
-const TOKENS: [&[u8]; 7] = [b"{", b"}", b"[", b"]", b",", b"\"a\":", b"\"b\":"];
+pub(crate) const TOKENS: [&[u8]; 7] = [b"{", b"}", b"[", b"]", b",", b"\"a\":", b"\"b\":"];
 
 // Longer pieces, of which a few make objects in objects with equal keys.
-const MEMBERS: [&[u8]; 7] = [b"{\"a\":", b",\"a\":", b",\"b\":", b"}", b"[", b"]", b","];
+pub(crate) const MEMBERS: [&[u8]; 7] = [b"{\"a\":", b",\"a\":", b",\"b\":", b"}", b"[", b"]", b","];
 
 // And lists for what is below them.
-const BELOW: [Paths; 3] = [
+pub(crate) const BELOW: [Paths; 3] = [
     &[&[Key("a"), Key("a")], &[Key("a"), Key("b")]],
     &[&[Key("a"), Key("a")], &[Key("b"), Key("b")]],
     &[&[Key("a"), Index(0)], &[Key("a")], &[Key("b")]],
 ];
 
 // Pieces that hold whole values too, so that a member with one of equal keys hides another.
-const VALUES: [&[u8]; 7] = [
+pub(crate) const VALUES: [&[u8]; 7] = [
     b"{\"a\":",
     b",\"a\":",
     b",\"b\":",
@@ -640,10 +640,10 @@ const VALUES: [&[u8]; 7] = [
 const NUMBERS: [&[u8]; 7] = [b"1", b"2", b"3", b"4", b"5", b"6", b"7"];
 
 // How many texts of eight pieces there are of each length.
-const COUNTS: [usize; 8] = [1, 8, 64, 512, 4_096, 32_768, 262_144, 2_097_152];
+pub(crate) const COUNTS: [usize; 8] = [1, 8, 64, 512, 4_096, 32_768, 262_144, 2_097_152];
 
 // The text number `n` among all those of `length` pieces and numbers.
-fn numbered_text(
+pub(crate) fn numbered_text(
     alloc: Global,
     pieces: &[&[u8]; 7],
     mut n: usize,
@@ -661,7 +661,7 @@ fn numbered_text(
 }
 
 // Whether a value is what stands in the text at a span, or neither is there.
-fn stands_at(text: &[u8], value: &Option<LazyValue<'_>>, span: &Option<Span>) -> bool {
+pub(crate) fn stands_at(text: &[u8], value: &Option<LazyValue<'_>>, span: &Option<Span>) -> bool {
     match (value, span) {
         (Some(value), Some(Span { start, end })) => {
             text.get(*start..*end) == Some(value.as_raw_str().as_bytes())

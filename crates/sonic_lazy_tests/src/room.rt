@@ -61,7 +61,7 @@ fn check_slots(rt: &impl Abort, room: &WalkBuffers, wanted: &[Option<Span>]) {
     same(rt, room.len(), wanted.len());
     for (i, span) in wanted.iter().enumerate() {
         assert!(rt; i < room.len());
-        same_at(rt, room.at(i), *span, i);
+        same_at(rt, room.at(i).found(), *span, i);
     }
 }
 

@@ -7,12 +7,11 @@ use Rattle.std.proofs.lemmas.List.Elements.{Contains-append_right}
 use Rattle.memchr.specs.Find.{is_byte, IsFirstByte}
 use Rattle.std.specs.Prelude.{◌==◌, Some, None, cond, count_by}
 use Rattle.std.specs.List.{concat}
-use Rattle.sonic_lines.specs.LineRows.{AreRows, IsRow, blank_row, entries_row, refused_row, no_row, one_more_row}
+use Rattle.sonic_lines.specs.LineRows.{Columns, AreRows, IsRow, blank_row, entries_row, refused_row, no_row, one_more_row}
 use Rattle.sonic_lines.specs.Pieces.{LineReading, IsFed, AreFed, at_the_end, one_more_piece, begun}
 use Rattle.sonic_lines.specs.Streams.{lines_of, IsOneLine, EndsLines}
 use Rattle.sonic_lines.proofs.RowLemmas.{join_rows}
 use Rattle.sonic_lines.proofs.StreamLemmas.{lines_count}
-use Rattle.sonic_text.specs.Paths.{Path}
 
 -- no byte is no line feed
 pub nothing_ends : IsOneLine []
@@ -68,7 +67,7 @@ lines_alone x (y ∷ t) one = elim (cases_Bool (x == 10)) [
 ]
 
 -- the row of a line alone, or of none
-pub rows_alone : {paths : List Path} {n : ℕ} (line : List ℕ) {row : List ℕ} → IsOneLine line → IsRow paths (n + 1) line row → AreRows paths n line row
+pub rows_alone : {columns : Columns} {n : ℕ} (line : List ℕ) {row : List ℕ} → IsOneLine line → IsRow columns (n + 1) line row → AreRows columns n line row
 rows_alone [] one (blank_row blank e) = rw e no_row
 rows_alone [] one (entries_row filled is e) = absurd (filled (omega arith))
 rows_alone [] one (refused_row filled is e) = absurd (filled (omega arith))
@@ -76,7 +75,7 @@ rows_alone (x ∷ t) {row} one is = rw (lines_alone x t one) (one_more_row is no
 
 -- a piece with no line feed came
 pub fed_none : {before : LineReading} (piece : List ℕ) → IsOneLine piece → IsOneLine (before.held ++ piece)
-    → IsFed before piece (record { paths = before.paths; lines = before.lines; held = before.held ++ piece }) []
+    → IsFed before piece (record { columns = before.columns; lines = before.lines; held = before.held ++ piece }) []
 fed_none {before} piece one held =
     record {
       ended = [];
@@ -85,7 +84,7 @@ fed_none {before} piece one held =
       held = held;
       read = no_row;
       lines = let none = one_line_count piece one in omega arith;
-      paths = refl;
+      columns = refl;
     }
 
 -- a line, a line feed and lines that end
@@ -95,9 +94,9 @@ ends_lines line ended (inr (u, e)) = inr (line ++ 10 ∷ u, rw e (sym (append_as
 
 -- a piece came with the rest of the line that is held, a line feed, lines that end, and what follows them
 pub fed_lines : {before : LineReading} {piece row rows : List ℕ} (start ended left : List ℕ) → IsOneLine (before.held ++ start) → EndsLines ended → IsOneLine left
-    → piece ≡ start ++ 10 ∷ (ended ++ left) → IsRow before.paths (before.lines + 1) (before.held ++ start) row
-    → AreRows before.paths (before.lines + 1) ended rows
-    → IsFed before piece (record { paths = before.paths; lines = before.lines + count_by (λ b. b == 10) piece; held = left }) (row ++ rows)
+    → piece ≡ start ++ 10 ∷ (ended ++ left) → IsRow before.columns (before.lines + 1) (before.held ++ start) row
+    → AreRows before.columns (before.lines + 1) ended rows
+    → IsFed before piece (record { columns = before.columns; lines = before.lines + count_by (λ b. b == 10) piece; held = left }) (row ++ rows)
 fed_lines {before} {piece} start ended left one ends last e is rest =
     let line = before.held ++ start in
     record {
@@ -107,14 +106,14 @@ fed_lines {before} {piece} start ended left one ends last e is rest =
       held = last;
       read = rw (lines_after line ended one) (one_more_row is rest refl);
       lines = refl;
-      paths = refl;
+      columns = refl;
     }
 
 -- the rows of what is held and of the pieces that come are those of all
-fed_rows : {s : LineReading} {pieces : List (List ℕ)} {rows : List ℕ} → IsOneLine s.held → AreFed s pieces rows → AreRows s.paths s.lines (s.held ++ concat pieces) rows
+fed_rows : {s : LineReading} {pieces : List (List ℕ)} {rows : List ℕ} → IsOneLine s.held → AreFed s pieces rows → AreRows s.columns s.lines (s.held ++ concat pieces) rows
 fed_rows {s} {rows = rows} held (at_the_end is) = rw (append-nil s.held) is
 fed_rows {s} held (one_more_piece {u = u} {piece = piece} {some} {more = more} {pieces} fed rest e) =
-    let later : AreRows s.paths u.lines (u.held ++ concat pieces) more = rw fed.paths at (fed_rows fed.held rest) in
+    let later : AreRows s.columns u.lines (u.held ++ concat pieces) more = rw fed.columns at (fed_rows fed.held rest) in
     let before = one_line_count s.held held in
     let after = one_line_count u.held fed.held in
     let ended = lines_count fed.ended fed.ends in
@@ -127,5 +126,5 @@ fed_rows {s} held (one_more_piece {u = u} {piece = piece} {some} {more = more} {
     sym (append_assoc s.held piece (concat pieces)) ∙ ap (λ t. t ++ concat pieces) fed.all ∙ append_assoc fed.ended u.held (concat pieces) in
     rw (e, text) (join_rows fed.ended (u.held ++ concat pieces) fed.ends on fed.read later)
 
-pub pieces_rows : {paths : List Path} {pieces : List (List ℕ)} {rows : List ℕ} → AreFed (begun paths) pieces rows → AreRows paths 0 (concat pieces) rows
+pub pieces_rows : {columns : Columns} {pieces : List (List ℕ)} {rows : List ℕ} → AreFed (begun columns) pieces rows → AreRows columns 0 (concat pieces) rows
 pieces_rows fed = fed_rows nothing_ends fed

@@ -14,5 +14,5 @@ mod rows;
 mod short;
 
 pub use law::{pieces_have_no_part, rows_join, stream_has_its_rows};
-pub use row::append_rows;
+pub use row::{append_rows, append_rows_each};
 pub use rows::Rows;

@@ -1,21 +1,20 @@
 // The rows of the lines of a stream.
-ghost use Rattle.std.specs.Prelude.{◌≡◌, ◌+◌, ◌-◌, ◌^◌, ◌<◌, ◌≤◌, ◌++◌, ◌∷◌, ◌↔◌, ℕ, List, true, codes, length, drop, slice_range, IfErr, IfOk, IfSome, IsTrue, option_map, OnErr, OnOk, decimal};
+ghost use Rattle.std.specs.Prelude.{◌≡◌, ◌+◌, ◌-◌, ◌^◌, ◌<◌, ◌≤◌, ◌++◌, ◌∷◌, ◌↔◌, ℕ, List, true, codes, length, drop, slice_range, IfErr, IfOk, IsTrue, OnErr, OnOk, decimal};
 ghost use Rattle.std.specs.Str.{IsUtf8};
 ghost use Rattle.sonic_error.specs.Errors.{error_code, error_offset};
 ghost use Rattle.sonic_parser.specs.Faults.{IsStopFor};
-ghost use Rattle.sonic_find.specs.Answers.{Answer, IsAnswer};
-ghost use Rattle.sonic_find.specs.Parts.{AreSpans};
-ghost use Rattle.sonic_find.specs.Spans.{pair_of, pairs_of};
-ghost use Rattle.sonic_lines.specs.Internal.Rows.{AreWithin, IsMore, tab_before};
-ghost use Rattle.sonic_lines.specs.LineRows.{AreRows, HasErrorRow, IsErrorLine, IsRow, entries_text};
-ghost use Rattle.sonic_lines.specs.LineTexts.{counted, entry_text, error_text};
+ghost use Rattle.sonic_find.specs.Parts.{AreFoundParts};
+ghost use Rattle.sonic_lines.specs.Internal.Rows.{AreWithin, IsMore, IsWithin, columns_of, tab_before};
+ghost use Rattle.sonic_lines.specs.LineRows.{AreColumns, AreRows, HasErrorRow, IsErrorLine, IsLineStop, IsRow, apart, outcomes_text, together};
+ghost use Rattle.sonic_lines.specs.LineTexts.{counted, error_text, outcome_text};
 ghost use Rattle.sonic_lines.specs.Streams.{lines_of};
 
 use crate::short::{SHORT, put_entries};
 use memchr::memchr;
 use sonic_error::{Error, ErrorCode};
-use sonic_find::internal::fill_buffers;
-use sonic_find::{Span, WalkBuffers};
+use sonic_find::internal::{fill_buffers, fill_each_buffers};
+use sonic_find::{PathOutcome, Span, WalkBuffers};
+use sonic_input::JsonInput;
 use sonic_parser::Fault;
 use sonic_pointer::{KeyRule, PointerTree};
 use sonic_text::skip_space;
@@ -44,14 +43,60 @@ pub fn append_rows(
     out: &mut Vec<u8>,
 ) -> Result<bool, AllocError>
     requires { before + length stream.now < 2 ^ 64 - 1 }
-    ensures rows { OnOk result ((rows : List ℕ) × AreRows tree.now before stream.now rows
+    ensures rows { OnOk result ((rows : List ℕ) × AreRows (together tree.now) before stream.now rows
         × (out.new.items ≡ out.old.items ++ rows)) }
-    ensures errors { IfOk result (λ some. IsTrue some ↔ HasErrorRow tree.now (lines_of stream.now)) }
+    ensures errors { IfOk result (λ some.
+        IsTrue some ↔ HasErrorRow (together tree.now) (lines_of stream.now)) }
+    ensures same { OnErr result (out.new.items ≡ out.old.items) }
+{
+    append(alloc, tree, false, &Lines { before, stream }, out)
+}
+
+/// Appends the rows of the lines of a stream, in which each path is told where it leads by itself.
+///
+/// It is [`append_rows`], but for a path that leads nowhere: in its column is an exclamation mark with the
+/// code of the error, and the row stands. A row is an error where the line isn't valid JSON before all paths
+/// are settled, or isn't UTF-8 as far as they need it.
+///
+/// With the paths `["level"]` and `["http", "status"]` the line `{"level":"info","http":null}` has the row
+/// `6 "info"`, a tab and `!Message`, which is the code of a `null` where an object is wanted.
+pub fn append_rows_each(
+    alloc: Global,
+    tree: &PointerTree,
+    before: u64,
+    stream: &[u8],
+    out: &mut Vec<u8>,
+) -> Result<bool, AllocError>
+    requires { before + length stream.now < 2 ^ 64 - 1 }
+    ensures rows { OnOk result ((rows : List ℕ) × AreRows (apart tree.now) before stream.now rows
+        × (out.new.items ≡ out.old.items ++ rows)) }
+    ensures errors { IfOk result (λ some.
+        IsTrue some ↔ HasErrorRow (apart tree.now) (lines_of stream.now)) }
+    ensures same { OnErr result (out.new.items ≡ out.old.items) }
+{
+    append(alloc, tree, true, &Lines { before, stream }, out)
+}
+
+// Appends the rows of lines, with what the paths are told together or each by itself, or nothing where
+// memory runs out.
+fn append(
+    alloc: Global,
+    tree: &PointerTree,
+    each: bool,
+    lines: &Lines<'_>,
+    out: &mut Vec<u8>,
+) -> Result<bool, AllocError>
+    requires { lines.now.before + length lines.now.stream.now < 2 ^ 64 - 1 }
+    ensures rows { OnOk result ((rows : List ℕ)
+        × AreRows (columns_of tree.now each) lines.now.before lines.now.stream.now rows
+        × (out.new.items ≡ out.old.items ++ rows)) }
+    ensures errors { IfOk result (λ some.
+        IsTrue some ↔ HasErrorRow (columns_of tree.now each) (lines_of lines.now.stream.now)) }
     ensures same { OnErr result (out.new.items ≡ out.old.items) }
 {
     let mut buffers = WalkBuffers::new(alloc);
     let written = out.len();
-    match add_rows(alloc, &mut buffers, tree, &Lines { before, stream }, out) {
+    match add_rows(alloc, &mut buffers, tree, each, lines, out) {
         Ok(has_error) => Ok(has_error),
         Err(error) => {
             out.truncate(written);
@@ -81,13 +126,16 @@ pub(crate) fn add_rows(
     alloc: Global,
     buffers: &mut WalkBuffers,
     tree: &PointerTree,
+    each: bool,
     lines: &Lines<'_>,
     out: &mut Vec<u8>,
 ) -> Result<bool, AllocError>
     requires { lines.now.before + length lines.now.stream.now < 2 ^ 64 - 1 }
-    ensures rows { OnOk result ((rows : List ℕ) × AreRows tree.now lines.now.before lines.now.stream.now rows
+    ensures rows { OnOk result ((rows : List ℕ)
+        × AreRows (columns_of tree.now each) lines.now.before lines.now.stream.now rows
         × (out.new.items ≡ out.old.items ++ rows)) }
-    ensures errors { IfOk result (λ some. IsTrue some ↔ HasErrorRow tree.now (lines_of lines.now.stream.now)) }
+    ensures errors { IfOk result (λ some.
+        IsTrue some ↔ HasErrorRow (columns_of tree.now each) (lines_of lines.now.stream.now)) }
     ensures more { IsMore out.old.items out.new.items }
 {
     let is_text = simdutf8::is_utf8(lines.stream);
@@ -103,7 +151,7 @@ pub(crate) fn add_rows(
             text,
             is_text,
         };
-        if add_row(alloc, buffers, tree, &line, out)? {
+        if add_row(alloc, buffers, tree, each, &line, out)? {
             has_error = true;
         }
         start = end + 1;
@@ -126,26 +174,28 @@ fn line_end(stream: &[u8], start: usize) -> usize
     }
 }
 
-// The spans of what the paths lead to in a line. Where it is known to be UTF-8, nothing looks for that.
+// Where the paths lead in a line. Where it is known to be UTF-8, nothing looks for that.
 #[inline(always)]
 fn find_in_line(
     alloc: Global,
     buffers: &mut WalkBuffers,
-    line: &Line<'_>,
     tree: &PointerTree,
+    each: bool,
+    line: &Line<'_>,
 ) -> Result<(), Fault>
     requires { IsTrue line.now.is_text → IsUtf8 line.now.text.now }
-    ensures ok { OnOk result (IsAnswer line.now.text.now true tree.now (Answer.spans (pairs_of buffers.new))) }
-    ensures parts { OnOk result (AreSpans line.now.text.now buffers.new) }
-    ensures err { IfErr result (IsStopFor (λ s. IsAnswer line.now.text.now true tree.now (Answer.error s))) }
+    ensures ok { OnOk result (AreColumns true (columns_of tree.now each) line.now.text.now
+        (outcomes_text line.now.text.now buffers.new)) }
+    ensures parts { OnOk result (AreFoundParts line.now.text.now buffers.new) }
+    ensures err { IfErr result (IsStopFor (IsLineStop true (columns_of tree.now each) line.now.text.now)) }
     ensures within { IfErr result (IsStopFor (λ s. s.place ≤ length line.now.text.now)) }
 {
     if !line.is_text {
-        return find_in_bytes(alloc, buffers, line.text, tree);
+        return find_in_bytes(alloc, buffers, tree, each, line.text);
     }
     // SAFETY: the line is UTF-8, as it says.
     let text = unsafe { std::str::from_utf8_unchecked(line.text) };
-    fill_buffers(alloc, buffers, text, tree, KeyRule::First)
+    find(alloc, buffers, tree, each, text)
 }
 
 // The same in a line that may be no UTF-8, out of line.
@@ -153,15 +203,39 @@ fn find_in_line(
 fn find_in_bytes(
     alloc: Global,
     buffers: &mut WalkBuffers,
-    text: &[u8],
     tree: &PointerTree,
+    each: bool,
+    text: &[u8],
 ) -> Result<(), Fault>
-    ensures ok { OnOk result (IsAnswer text.now true tree.now (Answer.spans (pairs_of buffers.new))) }
-    ensures parts { OnOk result (AreSpans text.now buffers.new) }
-    ensures err { IfErr result (IsStopFor (λ s. IsAnswer text.now true tree.now (Answer.error s))) }
+    ensures ok { OnOk result (AreColumns true (columns_of tree.now each) text.now
+        (outcomes_text text.now buffers.new)) }
+    ensures parts { OnOk result (AreFoundParts text.now buffers.new) }
+    ensures err { IfErr result (IsStopFor (IsLineStop true (columns_of tree.now each) text.now)) }
     ensures within { IfErr result (IsStopFor (λ s. s.place ≤ length text.now)) }
 {
-    fill_buffers(alloc, buffers, text, tree, KeyRule::First)
+    find(alloc, buffers, tree, each, text)
+}
+
+// Where the paths lead in an input, all together or each by itself.
+#[inline(always)]
+fn find<'de, I: JsonInput<'de>>(
+    alloc: Global,
+    buffers: &mut WalkBuffers,
+    tree: &PointerTree,
+    each: bool,
+    json: I,
+) -> Result<(), Fault>
+    ensures ok { OnOk result (AreColumns I.JsonInput.is_bytes (columns_of tree.now each)
+        (I.JsonInput.content json) (outcomes_text (I.JsonInput.content json) buffers.new)) }
+    ensures parts { OnOk result (AreFoundParts (I.JsonInput.content json) buffers.new) }
+    ensures err { IfErr result (IsStopFor (IsLineStop I.JsonInput.is_bytes (columns_of tree.now each)
+        (I.JsonInput.content json))) }
+    ensures within { IfErr result (IsStopFor (λ s. s.place ≤ length (I.JsonInput.content json))) }
+{
+    if each {
+        return fill_each_buffers(alloc, buffers, json, tree, KeyRule::First);
+    }
+    fill_buffers(alloc, buffers, json, tree, KeyRule::First)
 }
 
 // Appends the row of one line: whether it is an error. After running out of memory a part of it may
@@ -170,20 +244,23 @@ pub(crate) fn add_row(
     alloc: Global,
     buffers: &mut WalkBuffers,
     tree: &PointerTree,
+    each: bool,
     line: &Line<'_>,
     out: &mut Vec<u8>,
 ) -> Result<bool, AllocError>
     requires { IsTrue line.now.is_text → IsUtf8 line.now.text.now }
-    ensures row { OnOk result ((row : List ℕ) × IsRow tree.now line.now.number line.now.text.now row
+    ensures row { OnOk result ((row : List ℕ)
+        × IsRow (columns_of tree.now each) line.now.number line.now.text.now row
         × (out.new.items ≡ out.old.items ++ row)) }
-    ensures error { IfOk result (λ some. IsTrue some ↔ IsErrorLine tree.now line.now.text.now) }
+    ensures error { IfOk result (λ some.
+        IsTrue some ↔ IsErrorLine (columns_of tree.now each) line.now.text.now) }
     ensures more { IsMore out.old.items out.new.items }
 {
     let text = line.text;
     if skip_space(text, 0) == text.len() {
         return Ok(false);
     }
-    match find_in_line(alloc, buffers, line, tree) {
+    match find_in_line(alloc, buffers, tree, each, line) {
         Ok(()) => {
             add_entries(text, buffers, out)?;
             Ok(false)
@@ -200,7 +277,7 @@ pub(crate) fn add_row(
 fn add_entries(line: &[u8], buffers: &WalkBuffers, out: &mut Vec<u8>) -> Result<(), AllocError>
     requires { AreWithin line.now buffers.now }
     ensures ok { OnOk result (out.new.items
-        ≡ out.old.items ++ (entries_text line.now (pairs_of buffers.now) ++ codes "\n")) }
+        ≡ out.old.items ++ (outcomes_text line.now buffers.now ++ codes "\n")) }
     ensures more { IsMore out.old.items out.new.items }
 {
     let mut short = [0; SHORT];
@@ -215,7 +292,7 @@ fn add_entries(line: &[u8], buffers: &WalkBuffers, out: &mut Vec<u8>) -> Result<
 fn add_long_entries(line: &[u8], buffers: &WalkBuffers, out: &mut Vec<u8>) -> Result<(), AllocError>
     requires { AreWithin line.now buffers.now }
     ensures ok { OnOk result (out.new.items
-        ≡ out.old.items ++ (entries_text line.now (pairs_of buffers.now) ++ codes "\n")) }
+        ≡ out.old.items ++ (outcomes_text line.now buffers.now ++ codes "\n")) }
     ensures more { IsMore out.old.items out.new.items }
 {
     for number in 0..buffers.len() {
@@ -238,14 +315,18 @@ fn add_tab(number: usize, out: &mut Vec<u8>) -> Result<(), AllocError>
 }
 
 // Appends one entry.
-fn add_entry(line: &[u8], slot: Option<Span>, out: &mut Vec<u8>) -> Result<(), AllocError>
-    requires { IfSome slot (λ span. (span.start ≤ span.end) × (span.end ≤ length line.now)) }
-    ensures ok { OnOk result (out.new.items ≡ out.old.items ++ entry_text line.now (option_map pair_of slot)) }
+fn add_entry(line: &[u8], outcome: PathOutcome<Span>, out: &mut Vec<u8>) -> Result<(), AllocError>
+    requires { IsWithin line.now outcome }
+    ensures ok { OnOk result (out.new.items ≡ out.old.items ++ outcome_text line.now outcome) }
     ensures more { IsMore out.old.items out.new.items }
 {
-    match slot {
-        Some(Span { start, end }) => add_counted(&line[start..end], out),
-        None => out.extend_from_slice(b"-"),
+    match outcome {
+        PathOutcome::Found(Span { start, end }) => add_counted(&line[start..end], out),
+        PathOutcome::Missing(_) => out.extend_from_slice(b"-"),
+        PathOutcome::Fails(stop) => {
+            out.push(b'!')?;
+            out.extend_from_slice(stop.code.name().as_bytes())
+        }
     }
 }
 

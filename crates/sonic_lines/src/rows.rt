@@ -2,7 +2,7 @@
 ghost use Rattle.std.specs.Prelude.{◌≡◌, ◌+◌, ◌-◌, ◌^◌, ◌<◌, ◌≤◌, ◌++◌, ℕ, List, drop, length, take, IfErr, OnErr, OnOk};
 ghost use Rattle.sonic_error.specs.Errors.{IsPlainError};
 ghost use Rattle.sonic_lines.specs.Internal.Rows.{IsMore};
-ghost use Rattle.sonic_lines.specs.LineRows.{AreRows, IsRow};
+ghost use Rattle.sonic_lines.specs.LineRows.{AreRows, IsRow, apart, together};
 ghost use Rattle.sonic_lines.specs.Pieces.{IsFed, begun};
 ghost use Rattle.sonic_lines.specs.Streams.{EndsLines, IsOneLine};
 
@@ -36,6 +36,7 @@ use std::marker::Model;
 #[derive(Drop)]
 pub struct Rows {
     tree: PointerTree,
+    each: bool,
     lines: u64,
     held: Vec<u8>,
     buffers: WalkBuffers,
@@ -70,14 +71,29 @@ impl Rows {
     ///
     /// `lines` of it is 0.
     pub fn new(alloc: Global, tree: PointerTree) -> Rows
-        ensures { result ≡ begun tree }
+        ensures { result ≡ begun (together tree) }
     {
+        let each = false;
+        let lines = 0;
+        let held = Vec::new(alloc);
+        let buffers = WalkBuffers::new(alloc);
         Rows {
             tree,
-            lines: 0,
-            held: Vec::new(alloc),
-            buffers: WalkBuffers::new(alloc),
+            each,
+            lines,
+            held,
+            buffers,
         }
+    }
+
+    /// The same, where each path is told where it leads by itself: the rows are those that
+    /// [`append_rows_each`](crate::append_rows_each) appends.
+    pub fn each(alloc: Global, tree: PointerTree) -> Rows
+        ensures { result ≡ begun (apart tree) }
+    {
+        let mut rows = Rows::new(alloc, tree);
+        rows.each = true;
+        rows
     }
 
     /// How many lines have ended, each with a line feed.
@@ -140,7 +156,7 @@ impl Rows {
             before: self.lines + 1,
             stream: &rest[..end],
         };
-        add_rows(alloc, &mut self.buffers, &self.tree, &lines, out)?;
+        add_rows(alloc, &mut self.buffers, &self.tree, self.each, &lines, out)?;
         self.lines += count_of(piece, b'\n') as u64;
         self.held = left;
         Ok(())
@@ -165,7 +181,7 @@ impl Rows {
     ) -> std::result::Result<(), AllocError>
         requires { IsOneLine end.now }
         ensures row { OnOk result ((row : List ℕ)
-            × IsRow self.old.paths (self.old.lines + 1) (self.old.held ++ end.now) row
+            × IsRow self.old.columns (self.old.lines + 1) (self.old.held ++ end.now) row
             × (out.new.items ≡ out.old.items ++ row)) }
         ensures one { OnOk result (IsOneLine (self.old.held ++ end.now)) }
         ensures more { IsMore out.old.items out.new.items }
@@ -179,7 +195,7 @@ impl Rows {
                 text: end,
                 is_text: false,
             };
-            add_row(alloc, &mut self.buffers, &self.tree, &line, out)?;
+            add_row(alloc, &mut self.buffers, &self.tree, self.each, &line, out)?;
             return Ok(());
         }
         self.hold(end)?;
@@ -188,7 +204,7 @@ impl Rows {
             text: &self.held,
             is_text: false,
         };
-        add_row(alloc, &mut self.buffers, &self.tree, &line, out)?;
+        add_row(alloc, &mut self.buffers, &self.tree, self.each, &line, out)?;
         Ok(())
     }
 
@@ -200,9 +216,9 @@ impl Rows {
     ///
     /// The only error is `ErrorCode::NoMemory`, and then the stream and `out` are as they were.
     pub fn finish(&mut self, alloc: Global, out: &mut Vec<u8>) -> Result<()>
-        ensures ok { OnOk result ((rows : List ℕ) × AreRows self.old.paths self.old.lines self.old.held rows
+        ensures ok { OnOk result ((rows : List ℕ) × AreRows self.old.columns self.old.lines self.old.held rows
             × (out.new.items ≡ out.old.items ++ rows)) }
-        ensures begun { OnOk result (self.new ≡ begun self.old.paths) }
+        ensures begun { OnOk result (self.new ≡ begun self.old.columns) }
         ensures err { IfErr result (λ error. IsPlainError error ErrorCode.NoMemory) }
         ensures same { OnErr result ((self.new ≡ self.old) × (out.new.items ≡ out.old.items)) }
     {
@@ -212,7 +228,7 @@ impl Rows {
             text: &self.held,
             is_text: false,
         };
-        match add_row(alloc, &mut self.buffers, &self.tree, &last, out) {
+        match add_row(alloc, &mut self.buffers, &self.tree, self.each, &last, out) {
             Ok(_) => {
                 self.lines = 0;
                 self.held.clear();

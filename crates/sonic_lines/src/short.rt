@@ -1,12 +1,13 @@
 // The entries of a line, where they are short: they are put together from the end to the start.
-ghost use Rattle.std.specs.Prelude.{◌≡◌, ◌+◌, ◌<◌, ◌≤◌, ◌++◌, codes, drop, length, IfSome, option_map};
-ghost use Rattle.sonic_find.specs.Spans.{pair_of, pairs_of};
-ghost use Rattle.sonic_lines.specs.Internal.Rows.{AreWithin, tab_before};
-ghost use Rattle.sonic_lines.specs.LineRows.{entries_text};
-ghost use Rattle.sonic_lines.specs.LineTexts.{entry_text};
+ghost use Rattle.std.specs.Prelude.{◌≡◌, ◌+◌, ◌<◌, ◌≤◌, ◌++◌, codes, drop, length, IfSome};
+ghost use Rattle.sonic_error.specs.Names.{name_of_code};
+ghost use Rattle.sonic_lines.specs.Internal.Rows.{AreWithin, IsWithin, tab_before};
+ghost use Rattle.sonic_lines.specs.LineRows.{outcomes_text};
+ghost use Rattle.sonic_lines.specs.LineTexts.{outcome_text};
 
 use crate::from_end::{put, put_counted};
-use sonic_find::{Span, WalkBuffers};
+use sonic_error::ErrorCode;
+use sonic_find::{PathOutcome, Span, WalkBuffers};
 
 // How many bytes there is room for.
 pub(crate) const SHORT: usize = 128;
@@ -24,7 +25,7 @@ pub(crate) fn put_entries(
     requires { AreWithin line.now buffers.now }
     ensures within { IfSome result (λ start. start ≤ 128) }
     ensures text { IfSome result (λ start. drop start short.new
-        ≡ entries_text line.now (pairs_of buffers.now) ++ codes "\n") }
+        ≡ outcomes_text line.now buffers.now ++ codes "\n") }
 {
     let mut at = put(short, SHORT, b"\n");
     let mut number = buffers.len();
@@ -55,18 +56,36 @@ fn put_tab(room: &mut [u8], end: usize, following: usize) -> usize
 
 // Puts one entry before a place: where it starts, or `None` where it may not fit with a tab before it.
 #[inline(always)]
-fn put_entry(room: &mut [u8], end: usize, line: &[u8], slot: Option<Span>) -> Option<usize>
+fn put_entry(room: &mut [u8], end: usize, line: &[u8], outcome: PathOutcome<Span>) -> Option<usize>
     requires inside { end ≤ length room.old }
-    requires within { IfSome slot (λ span. (span.start ≤ span.end) × (span.end ≤ length line.now)) }
+    requires within { IsWithin line.now outcome }
     ensures start { IfSome result (λ start. (0 < start) × (start ≤ end)) }
     ensures text { IfSome result (λ start. drop start room.new
-        ≡ entry_text line.now (option_map pair_of slot) ++ drop end room.old) }
+        ≡ outcome_text line.now outcome ++ drop end room.old) }
 {
-    match slot {
-        Some(Span { start, end: stop }) if BESIDE <= end && stop - start <= end - BESIDE => {
+    match outcome {
+        PathOutcome::Found(Span { start, end: stop })
+            if BESIDE <= end && stop - start <= end - BESIDE => {
             Some(put_counted(room, end, &line[start..stop]))
         }
-        None if 1 < end => Some(put(room, end, b"-")),
+        PathOutcome::Missing(_) if 1 < end => Some(put(room, end, b"-")),
+        PathOutcome::Fails(stop) => put_fail(room, end, stop.code),
         _ => None,
     }
+}
+
+// Puts an exclamation mark and the code before a place, likewise.
+#[inline(never)]
+fn put_fail(room: &mut [u8], end: usize, code: ErrorCode) -> Option<usize>
+    requires { end ≤ length room.old }
+    ensures start { IfSome result (λ start. (0 < start) × (start ≤ end)) }
+    ensures text { IfSome result (λ start. drop start room.new
+        ≡ codes "!" ++ name_of_code code ++ drop end room.old) }
+{
+    let name = code.name().as_bytes();
+    if end < 2 || end - 2 < name.len() {
+        return None;
+    }
+    let at = put(room, end, name);
+    Some(put(room, at, b"!"))
 }

@@ -4,7 +4,7 @@ ghost use Rattle.std.specs.Prelude.{◌<◌};
 use crate::reference::plain_rows;
 use crate::rows::{Paths, feed, tree_of};
 use crate::same::same_at;
-use sonic_lines::{Rows, append_rows};
+use sonic_lines::{Rows, append_rows, append_rows_each};
 use sonic_pointer::PointerNode::{Index, Key};
 use std::alloc::Global;
 use std::process::Abort;
@@ -97,22 +97,40 @@ fn rows_of_cuts(
     Ok(out)
 }
 
+// Checks the rows of random streams, at once and cut, beside those of a plain program.
+fn check_streams(
+    rt: &impl Abort,
+    alloc: Global,
+    paths: Paths,
+    each: bool,
+    random: &mut Random,
+) -> Result<(), Fail> {
+    let tree = tree_of(rt, alloc, paths);
+    let mut rows = match each {
+        true => Rows::each(alloc, tree_of(rt, alloc, paths)),
+        false => Rows::new(alloc, tree_of(rt, alloc, paths)),
+    };
+    for _ in 0..STREAMS / TREES.len() {
+        let stream = make_stream(alloc, random)?;
+        let wanted = plain_rows(alloc, &tree, each, &stream)?;
+        let mut out = Vec::new(alloc);
+        match each {
+            true => append_rows_each(alloc, &tree, 0, &stream, &mut out)?,
+            false => append_rows(alloc, &tree, 0, &stream, &mut out)?,
+        };
+        same_at(rt, out.as_slice(), wanted.as_slice(), stream.as_slice());
+        let cut = rows_of_cuts(rt, alloc, random, &mut rows, &stream)?;
+        same_at(rt, cut.as_slice(), wanted.as_slice(), stream.as_slice());
+    }
+    Ok(())
+}
+
 #[test]
 fn agrees_with_a_plain_program(rt: HostRuntime) -> Result<(), Fail> {
-    let alloc = rt.alloc();
     let mut random = Random(44);
     for paths in TREES {
-        let tree = tree_of(&rt, alloc, paths);
-        let mut rows = Rows::new(alloc, tree_of(&rt, alloc, paths));
-        for _ in 0..STREAMS / TREES.len() {
-            let stream = make_stream(alloc, &mut random)?;
-            let wanted = plain_rows(alloc, &tree, &stream)?;
-            let mut out = Vec::new(alloc);
-            append_rows(alloc, &tree, 0, &stream, &mut out)?;
-            same_at(&rt, out.as_slice(), wanted.as_slice(), stream.as_slice());
-            let cut = rows_of_cuts(&rt, alloc, &mut random, &mut rows, &stream)?;
-            same_at(&rt, cut.as_slice(), wanted.as_slice(), stream.as_slice());
-        }
+        check_streams(&rt, rt.alloc(), paths, false, &mut random)?;
+        check_streams(&rt, rt.alloc(), paths, true, &mut random)?;
     }
     Ok(())
 }

@@ -1,6 +1,6 @@
 // Worked examples of rows: each line by the grammar, by hand, at once and in pieces.
 use crate::same::same_at;
-use sonic_lines::{Rows, append_rows};
+use sonic_lines::{Rows, append_rows, append_rows_each};
 use sonic_pointer::PointerNode::{Index, Key};
 use sonic_pointer::{PointerNode, PointerTree};
 use std::alloc::Global;
@@ -130,6 +130,86 @@ const EXAMPLES: [Example; 24] = [
         true,
     ),
 ];
+
+const LEVEL_AND_STATUS: Paths = &[&[Key("level")], &[Key("http"), Key("status")]];
+
+// Rows in which each path is told where it leads by itself.
+const EACH: [Example; 8] = [
+    (
+        LEVEL_AND_STATUS,
+        b"{\"level\":\"info\",\"http\":null}\n{\"http\":{\"status\":200}}",
+        b"6 \"info\"\t!Message\n-\t3 200\n",
+        false,
+    ),
+    // An empty object lacks a key, as any other does.
+    (ID, b"{}", b"-\n", false),
+    (
+        ID_AND_FIRST,
+        b"{\"id\":1,\"t\":[]}\n\n{\"t\":1}\n",
+        b"1 1\t!GetInEmptyArray\n-\t!Message\n",
+        false,
+    ),
+    (
+        &[&[Index(2)], &[Index(0)]],
+        b"[0,1]\n[0,1,2]\n1",
+        b"!GetIndexOutOfArray\t1 0\n1 2\t1 0\n!Message\t!Message\n",
+        false,
+    ),
+    // What follows the last byte that a path needs plays no part, unless a key is lacked.
+    (
+        ID_AND_FIRST,
+        b"{\"t\":1,\"id\":2 x\n{\"t\":1 x",
+        b"1 2\t!Message\n! 2 syntax ExpectedObjectCommaOrEnd 7\n",
+        true,
+    ),
+    (
+        ID_AND_FIRST,
+        b"{\"t\":\"\xff\",\"id\":2}\n{\"id\":",
+        b"! 1 syntax InvalidUTF8 6\n! 2 eof EofWhileParsing 5\n",
+        true,
+    ),
+    (&[], b"1\n[", b"\n\n", false),
+    (ID, b"", b"", false),
+];
+
+#[test]
+fn tells_each_path_by_itself(rt: HostRuntime) -> Result<(), Fail> {
+    let alloc = rt.alloc();
+    for &(paths, stream, rows, has_error) in &EACH {
+        let tree = tree_of(&rt, alloc, paths);
+        let mut out = Vec::new(alloc);
+        let some = append_rows_each(alloc, &tree, 0, stream, &mut out)?;
+        same_at(&rt, out.as_slice(), rows, stream);
+        same_at(&rt, some, has_error, stream);
+        let mut rows_each = Rows::each(alloc, tree);
+        let mut out = Vec::new(alloc);
+        feed(&rt, alloc, &mut rows_each, stream, &mut out)?;
+        rows_each.finish(alloc, &mut out)?;
+        same_at(&rt, out.as_slice(), rows, stream);
+    }
+    Ok(())
+}
+
+// Rows in which failing paths take more room than is on the stack.
+#[test]
+fn tells_many_paths_by_themselves(rt: HostRuntime) -> Result<(), Fail> {
+    let alloc = rt.alloc();
+    let mut tree = PointerTree::new(alloc);
+    let mut wanted = Vec::new(alloc);
+    for i in 0..40 {
+        tree.add_path(alloc, &[Index(i), Key("x")])?;
+        wanted.extend_from_slice(if i == 0 {
+            b"!Message"
+        } else {
+            b"\t!GetIndexOutOfArray"
+        })?;
+    }
+    wanted.push(b'\n')?;
+    let mut out = Vec::new(alloc);
+    append_rows_each(alloc, &tree, 0, b"[7]", &mut out)?;
+    same_at(&rt, out.as_slice(), wanted.as_slice(), 40);
+    Ok(())
+}
 
 #[test]
 fn answers_worked_examples(rt: HostRuntime) -> Result<(), Fail> {

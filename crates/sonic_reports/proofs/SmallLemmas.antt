@@ -5,7 +5,7 @@ use Rattle.sonic_min.proofs.DocumentLemmas.{text_valid, document_means}
 use Rattle.sonic_min.proofs.SpreadLemmas.{text_document, tight_spaces, lines_spaces}
 use Rattle.sonic_min.specs.Spellings.{Spelling}
 use Rattle.sonic_min.specs.Texts.{Gaps, AreSpace, IsDocumentSpelled, spread, tight, wide_gaps}
-use Rattle.sonic_reports.specs.Commands.Texts.{ReportsText, invalid, valid, IsMinReport, IsIndentReport}
+use Rattle.sonic_reports.specs.Commands.Texts.{invalid, valid, IsMinReport, IsIndentReport}
 use Rattle.sonic_reports.specs.Laws.{WritesTheSame}
 use Rattle.sonic_reports.specs.declared.status.Status.{Status}
 use Rattle.sonic_reports.specs.declared.status.Status.TheVariants.{Done}

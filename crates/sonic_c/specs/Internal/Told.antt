@@ -3,6 +3,8 @@ use Rattle.std.specs.Prelude.{◌≡◌, ◌≢◌, ℕ, List, Option, Result, O
 use Rattle.sonic_error.specs.Errors.{error_code}
 use Rattle.sonic_error.specs.declared.error.Error.{Error}
 use Rattle.sonic_error.specs.declared.code.ErrorCode.TheVariants.{NoMemory}
+use Rattle.sonic_find.specs.Found.{found_in}
+use Rattle.sonic_find.specs.declared.outcome.PathOutcome.{PathOutcome}
 use Rattle.sonic_find.specs.declared.span.Span.{Span as Slot}
 use Rattle.sonic_text.specs.Paths.{Path}
 use Rattle.sonic_c.specs.declared.fault.Fault.{Fault}
@@ -38,6 +40,6 @@ abbrev pub TellsAll : Result (Unit {0}) Error → List (Option Slot) → ManyCel
 TellsAll (Ok done) slots before after status = (status ≡ status_ok) × (after.spans ≡ map shown_span (pairs_of slots)) × (after.error ≡ before.error)
 TellsAll (Err e) slots before after status = TellsError e before.error after.error status × (after.spans ≡ before.spans)
 
--- what is told of a slot
-abbrev pub shown_slot : Option Slot → Span
-shown_slot slot = shown_span (option_map pair_of slot)
+-- what is told of where a path leads
+abbrev pub shown_outcome : PathOutcome Slot → Span
+shown_outcome x = shown_span (option_map pair_of (found_in x))

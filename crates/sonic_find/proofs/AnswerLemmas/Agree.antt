@@ -1,5 +1,5 @@
 -- Over a text that starts with a value in UTF-8 the answer of the paths is that of each path alone.
-use Rattle.std.proofs.Common.{◌≡◌, ◌≢◌, ◌↔◌, ◌∙◌, inl, inr, ap, ℕ, ◌+◌, ◌-◌, ◌==◌, ◌&&◌, List, [], ◌∷◌, Bool, true, take, refl, sym}
+use Rattle.std.proofs.Common.{◌≡◌, ◌≢◌, ◌↔◌, ◌∙◌, arith, inl, inr, ap, ℕ, ◌+◌, ◌-◌, ◌==◌, ◌&&◌, List, [], ◌∷◌, Bool, true, take, refl, sym}
 use Rattle.std.specs.Prelude.{Contains, Option, Some, map}
 use Rattle.std.specs.Str.{IsUtf8}
 use Rattle.sonic_error.specs.declared.code.ErrorCode.{ErrorCode}
@@ -12,9 +12,12 @@ use Rattle.sonic_find.proofs.Utf8Lemmas.{utf8_up_to}
 use Rattle.sonic_find.specs.Answers.{AllLeadBy, no_more, one_more, NoneFails, NoneCut, IsReach, to_the_root, to_the_furthest, Span, span_of, Answer, spans, error, ComeTo, no_path, failing, cutting, lacking, breaking, finding, IsAnswerBy, IsAnswer, ComesToAlone, value_found, value_broken, key_lacked, path_failed, path_cut}
 use Rattle.sonic_find.specs.Internal.FirstAnswers.{AllLead}
 use Rattle.sonic_find.specs.Laws.{IsGetEntry, value_got, key_missed, AreGetAnswers, no_more_entries, one_more_entry}
+use Rattle.sonic_find.specs.Outcomes.{AreTold, all_told, need, IsEachReach, to_the_whole_root, to_the_last_need, EachAnswer, ComeToEach, no_path_asks, some_path_cut, some_path_lacks, need_broken, each_told}
 use Rattle.sonic_find.specs.Paths.{Outcome, found, lacks, fails, cut, fails_at, past_end, empty_code, nowhere, kind_of, Evaluates, LeadsUnder, Leads}
 use Rattle.sonic_find.specs.Paths.EvaluatesBy.{found_here, goes_on, leads_nowhere, cut_here, cut_before}
-use Rattle.sonic_text.proofs.Values.{value_end_one, value_never_both}
+use Rattle.sonic_text.proofs.Values.{value_end_one, value_never_both, value-longer}
+use Rattle.sonic_find.specs.declared.outcome.PathOutcome.{PathOutcome}
+use Rattle.sonic_find.specs.declared.span.Span as slot
 use Rattle.sonic_text.specs.Documents.{StartsWithUtf8Value}
 use Rattle.sonic_text.specs.Paths.{Path}
 use Rattle.sonic_text.specs.Places.{byte, after_space}
@@ -24,6 +27,23 @@ use Rattle.sonic_text.specs.declared.kind.Kind.TheVariants.{Array, Object}
 use Rattle.sonic_text.specs.declared.stop.Stop.{Stop}
 use Rattle.sonic_pointer.specs.declared.rule.KeyRule.{KeyRule}
 use Rattle.sonic_pointer.specs.declared.rule.KeyRule.TheVariants.{First}
+
+-- the place of an outcome that is a fail
+abbrev stop_place : Outcome → ℕ
+stop_place (found i j) = 0
+stop_place (lacks q) = 0
+stop_place (fails s) = s.place
+stop_place (cut s) = 0
+
+-- where a node leads nowhere, it fails at the last byte
+past_place : (kind : Kind) (q : ℕ) (s : Stop) → fails s ≡ past_end kind q → s.place ≡ q
+past_place Array q s e = ap stop_place e
+past_place Object q s e = absurd cc
+
+nowhere_place : (t : List ℕ) (i q : ℕ) (kind : Kind) (s : Stop) → fails s ≡ nowhere t i q kind → s.place ≡ q
+nowhere_place t i q kind s =
+    either (λ o. fails s ≡ o → s.place ≡ q) (byte t i == opening kind && byte t (after_space t (i + 1)) == closing kind) _ _ (λ e. ap stop_place e)
+    (either (λ o. fails s ≡ o → s.place ≡ q) (byte t i == opening kind) _ _ (past_place kind q s) (λ e. ap stop_place e))
 
 -- where an outcome is a fail, its code isn't that of a key that is lacked
 abbrev HasOtherCode : Outcome → Type 0
@@ -67,6 +87,43 @@ utf8_found path x l = utf8_up_to x.end x.utf8 (found_value path l) (found_before
 utf8_reach : {t : List ℕ} {paths : List Path} {os : List Outcome} {r : ℕ} {rule : KeyRule} → StartsWithUtf8Value t → AllLeadBy rule t paths os → IsReach t os r → IsUtf8 (take r t)
 utf8_reach x lead (to_the_root l y) = rw (value_end_one x.root y) at x.utf8
 utf8_reach {r = r} x lead (to_the_furthest {i} none c all) = let y = lead_from (found i r) lead c in utf8_found y.path x y.leads
+
+-- a path that fails has come to a whole value, whose last byte is the place
+pub record FailValue (t : List ℕ) (i : ℕ) (s : Stop) : Type 0 where
+  pub front : Path
+  pub start : ℕ
+  pub leads : Evaluates t i front (found start (s.place + 1))
+
+pub fail_value : {t : List ℕ} {i : ℕ} {s : Stop} (path : Path) → Evaluates t i path (fails s) → FailValue t i s
+fail_value [] e = elim e [ ]
+fail_value (node ∷ rest) (goes_on l e) = (let v = fail_value rest e in record { front = node ∷ v.front; start = v.start; leads = goes_on l v.leads })
+fail_value {t} {i} {s} (node ∷ rest) (leads_nowhere {j = j} x none e) =
+    let place : j ≡ s.place + 1 = (let at = nowhere_place t i (j - 1) (kind_of node) s e in let more = value-longer x in omega (arith, at, more)) in
+    let here : Evaluates t i [] (found i j) = found_here x in
+    record { front = []; start = i; leads = rw place at here }
+
+-- so up to what an outcome needs the text is UTF-8
+utf8_need : {t : List ℕ} (o : Outcome) (path : Path) → StartsWithUtf8Value t → Leads t path o → ((q : ℕ) → o ≢ lacks q) → ((s : Stop) → o ≢ cut s) → IsUtf8 (take (need o) t)
+utf8_need (found i j) path x l lack cuts = utf8_found path x l
+utf8_need (lacks q) path x l lack cuts = absurd (lack q refl)
+utf8_need (cut s) path x l lack cuts = absurd (cuts s refl)
+utf8_need (fails s) path x l lack cuts = (let v = fail_value path l in utf8_found v.front x v.leads)
+
+-- and as far as the paths need it, each by itself
+utf8_each_reach : {t : List ℕ} {paths : List Path} {os : List Outcome} {r : ℕ} → StartsWithUtf8Value t → AllLeadBy First t paths os → NoneCut os → IsEachReach t os r → IsUtf8 (take r t)
+utf8_each_reach x lead cuts (to_the_whole_root l y) = rw (value_end_one x.root y) at x.utf8
+utf8_each_reach {t} {os = os} x lead cuts (to_the_last_need {o} none c is all) =
+    let y = lead_from o lead c in
+    rw is (utf8_need o y.path x y.leads (λ q e. none (q, rw e at c)) (λ s e. cuts s (rw e at c)))
+
+-- so each path is told where it leads
+pub each_alone : {t : List ℕ} {paths : List Path} {os : List Outcome} {a : EachAnswer} (is_bytes : Bool) → StartsWithUtf8Value t → AllLeadBy First t paths os → NoneCut os
+    → ComeToEach t is_bytes os a → (xs : List (PathOutcome slot.Span)) × AreTold os xs × (a ≡ EachAnswer.outcomes xs)
+each_alone is_bytes x lead cuts no_path_asks = ([], all_told, refl)
+each_alone is_bytes x lead cuts (some_path_cut {s = s} c f) = absurd (cuts s c)
+each_alone is_bytes x lead cuts (some_path_lacks none l f) = absurd (value_never_both x.root f)
+each_alone is_bytes x lead cuts (need_broken none reach b n e) = absurd (n (utf8_each_reach x lead none reach))
+each_alone is_bytes x lead cuts (each_told {xs = xs} none reach u y) = (xs, y, refl)
 
 -- so where no path fails and none is cut, the answer is the spans
 spans_alone : {t : List ℕ} {is_bytes : Bool} {paths : List Path} {os : List Outcome} {a : Answer} {rule : KeyRule} → StartsWithUtf8Value t → AllLeadBy rule t paths os → NoneFails os

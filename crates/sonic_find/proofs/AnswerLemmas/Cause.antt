@@ -1,7 +1,7 @@
 -- What an answer says of each of its spans, and when there is one.
 use Rattle.std.proofs.Common.{◌≡◌, ap, ◌∙◌, ℕ, ◌-◌, ◌≤◌, List, [], ◌∷◌, Bool, true, false, length, take, arith, refl}
 use Rattle.std.proofs.Math.Seq.{take-length}
-use Rattle.std.proofs.lemmas.Option.{slice_get_within, slice_get-map}
+use Rattle.std.proofs.lemmas.Option.{slice_get-map, some_pair_parts}
 use Rattle.std.specs.List.{Contains}
 use Rattle.std.specs.Prelude.{Option, Some, slice_get, map, option_map}
 use Rattle.std.specs.Str.{IsUtf8}
@@ -9,15 +9,18 @@ use Rattle.sonic_error.specs.Errors.{IsPlainError}
 use Rattle.sonic_error.specs.declared.code.ErrorCode.TheVariants.{NoMemory}
 use Rattle.sonic_error.specs.declared.error.Error.{Error}
 use Rattle.sonic_find.proofs.AnswerLemmas.One.{answer_by_one}
-use Rattle.sonic_find.proofs.AnswerLemmas.Walk.{found_value, kept_found, lead_from, no_paths}
+use Rattle.sonic_find.proofs.AnswerLemmas.Walk.{found_value, lead_from, told_there, no_paths}
 use Rattle.sonic_find.proofs.PathLemmas.Outcome.{nowhere_ends, part_named}
 use Rattle.sonic_find.proofs.PathLemmas.Rule.{by_named}
 use Rattle.sonic_find.proofs.Utf8Lemmas.{utf8_of_span}
-use Rattle.sonic_find.specs.Answers.{AllLeadBy, IsReach, to_the_root, to_the_furthest, Span, span_of, Answer, ComeTo, no_path, finding, IsAnswerBy}
+use Rattle.sonic_find.specs.Answers.{AllLeadBy, Span, span_of, Answer, finding, IsAnswerBy}
 use Rattle.sonic_find.specs.Causes.{IsAnswerableBy, nothing_asked, all_reported, IsRefusalBy, out_of_memory, answered}
-use Rattle.sonic_find.specs.Found.{span_at, spans_of, AreParts}
-use Rattle.sonic_find.specs.Internal.Walk.{IsError}
-use Rattle.sonic_find.specs.Paths.{Outcome, found, kind_of, EvaluatesBy}
+use Rattle.sonic_find.specs.Found.{slot_at, told_at, slots_of, AreParts}
+use Rattle.sonic_find.specs.Outcomes.{IsEachReach, to_the_whole_root, to_the_last_need, told_span}
+use Rattle.sonic_find.specs.declared.outcome.PathOutcome.{PathOutcome}
+use Rattle.sonic_find.specs.declared.outcome.PathOutcome.TheVariants.{Found}
+use Rattle.sonic_find.specs.Internal.Walk.{IsError, IsAllReached, slot_of}
+use Rattle.sonic_find.specs.Paths.{Outcome, found, lacks, fails, cut, kind_of, EvaluatesBy}
 use Rattle.sonic_find.specs.Paths.EvaluatesBy.{found_here, goes_on, leads_nowhere}
 use Rattle.sonic_parser.specs.declared.value_span.ValueSpan.{ValueSpan}
 use Rattle.sonic_parser.specs.Faults.{IsStopFor, IsErrorOf}
@@ -47,34 +50,39 @@ found_before {rule = rule} (node ∷ rest) (goes_on l e) y =
     omega (arith, before, p.2)
 found_before {t} (node ∷ rest) {i} (leads_nowhere {j = j} x none e) y = absurd (rw (← e) at (nowhere_ends t i (j - 1) (kind_of node)))
 
--- a span that was found ends where the text is needed, or before
-before_reach : {t : List ℕ} {os : List Outcome} {paths : List Path} {i j r : ℕ} {rule : KeyRule} → AllLeadBy rule t paths os → IsReach t os r → Contains os (found i j) → j ≤ r
-before_reach {i = i} {j} lead (to_the_furthest none c all) d = all i j d
-before_reach {i = i} {j} lead (to_the_root l whole) d = let x = lead_from (found i j) lead d in found_before x.path x.leads whole
+-- a value that was found ends where the text is needed, or before
+before_reach : {t : List ℕ} {os : List Outcome} {paths : List Path} {i j r : ℕ} {rule : KeyRule} → AllLeadBy rule t paths os → IsEachReach t os r → Contains os (found i j) → j ≤ r
+before_reach {i = i} {j} lead (to_the_last_need none c is all) d = all (found i j) d
+before_reach {i = i} {j} lead (to_the_whole_root l whole) d = let x = lead_from (found i j) lead d in found_before x.path x.leads whole
 
 -- so it is a part, as the input came as bytes or not
-part_by_input : {t : List ℕ} {os : List Outcome} {paths : List Path} {i j r : ℕ} {rule : KeyRule} (is_bytes : Bool) → AllLeadBy rule t paths os → IsReach t os r
-    → (is_bytes ≡ true → IsUtf8 (take r t)) → (is_bytes ≡ false → IsUtf8 t) → Contains os (found i j) → IsReached t i j
-part_by_input {i = i} {j} {r} true lead reach prefix text d =
-    let x = lead_from (found i j) lead d in
-    record { value = found_value x.path x.leads; reach = r; within = before_reach lead reach d; utf8 = prefix refl }
-part_by_input {t} {i = i} {j} false lead reach prefix text d =
-    let x = lead_from (found i j) lead d in
-    let value = found_value x.path x.leads in
+part_by_input : {t : List ℕ} {i j r : ℕ} (is_bytes : Bool) → IsValue strict t i j → j ≤ r → (is_bytes ≡ true → IsUtf8 (take r t)) → (is_bytes ≡ false → IsUtf8 t)
+    → IsReached t i j
+part_by_input {r = r} true value within prefix text = record { value = value; reach = r; within = within; utf8 = prefix refl }
+part_by_input {t} false value within prefix text =
     record { value = value; reach = length t; within = value_within value; utf8 = rw (take-length t) (text refl) }
 
--- each span of an answer is a part
-parts_by_outcome : {t : List ℕ} {is_bytes : Bool} {paths : List Path} {os : List Outcome} {entries : List (Option Span)} {i j : ℕ} {rule : KeyRule} (k : ℕ) → AllLeadBy rule t paths os
-    → ComeTo t is_bytes os (Answer.spans entries) → (is_bytes ≡ false → IsUtf8 t) → slice_get entries k ≡ Some (Some (i, j)) → IsReached t i j
-parts_by_outcome k lead no_path text h = absurd (let w = slice_get_within [] k _ h in omega arith)
-parts_by_outcome {is_bytes = is_bytes} {os = os} {i = i} {j} k lead (finding fail cuts reach prefix e) text h =
-    let there : slice_get (map span_of os) k ≡ Some (Some (i, j)) = rw e at h in
-    part_by_input is_bytes lead reach prefix text (kept_found os k there)
+-- a slot with a value tells where it was found
+found_told : (o : Outcome) (x : ValueSpan) → slot_of true o ≡ Found (slot_at x) → o ≡ found x.start x.end
+found_told (found i j) x e =
+    let both = some_pair_parts i x.start j x.end (ap told_span e) in
+    rw (both.0, both.1) refl
+found_told (lacks q) x e = absurd cc
+found_told (fails s) x e = absurd cc
+found_told (cut s) x e = absurd cc
 
--- and so it is for each answer
-pub part_of_answer : {t : List ℕ} {is_bytes : Bool} {paths : List Path} {entries : List (Option Span)} {i j : ℕ} {rule : KeyRule} (k : ℕ)
-    → IsAnswerBy rule t is_bytes paths (Answer.spans entries) → (is_bytes ≡ false → IsUtf8 t) → slice_get entries k ≡ Some (Some (i, j)) → IsReached t i j
-part_of_answer k x text h = parts_by_outcome k x.lead x.come_to text h
+-- each value of what was reached is a part of the text
+pub parts_reached : {t : List ℕ} {is_bytes : Bool} {paths : List Path} {rule : KeyRule} {each : Bool} (xs : List (PathOutcome ValueSpan))
+    → IsAllReached rule t is_bytes paths each (slots_of xs) → (is_bytes ≡ false → IsUtf8 t) → AreParts t xs
+parts_reached {is_bytes = is_bytes} xs x text k y h =
+    let r = x.reached in
+    let told : slice_get (map (slot_of true) r.outcomes) k ≡ Some (Found (slot_at y)) = rw r.told at (slice_get-map told_at xs k ∙ ap (option_map told_at) h) in
+    let o = told_there r.outcomes k told in
+    let there : Contains r.outcomes (found y.start y.end) = rw (found_told o.0 y o.2) at o.1 in
+    let path = lead_from (found y.start y.end) r.lead there in
+    let p = part_by_input is_bytes (found_value path.path path.leads) (before_reach r.lead r.reach there) x.utf8 text in
+    let within = value_within p.value in
+    record { value = p.value; inside = within; utf8 = utf8_of_span p.reach p.utf8 p.value p.within within }
 
 -- where there is an answer of spans, there is none of an error
 spans_answer : {t : List ℕ} {is_bytes : Bool} {rule : KeyRule} (paths : List Path) → IsAnswerableBy rule t is_bytes paths → (entries : List (Option Span)) × IsAnswerBy rule t is_bytes paths (Answer.spans entries)
@@ -105,11 +113,3 @@ only_out (At s) can h = absurd (never_refused can h.answer)
 -- of which the error says no more
 pub only_memory : (t : List ℕ) {e : Error} (fault : Fault) → fault ≡ OutOfMemory → IsErrorOf t fault e → IsPlainError e NoMemory
 only_memory t fault out e = rw out at e
-
--- each value that is reported of an answer's spans is a part of the text
-pub parts_reported : {t : List ℕ} {is_bytes : Bool} {paths : List Path} {rule : KeyRule} (xs : List (Option ValueSpan)) → IsAnswerBy rule t is_bytes paths (Answer.spans (spans_of xs))
-    → (is_bytes ≡ false → IsUtf8 t) → AreParts t xs
-parts_reported xs x text k y h =
-    let p = part_of_answer k x text (slice_get-map (option_map span_at) xs k ∙ ap (option_map (option_map span_at)) h) in
-    let within = value_within p.value in
-    record { value = p.value; inside = within; utf8 = utf8_of_span p.reach p.utf8 p.value p.within within }

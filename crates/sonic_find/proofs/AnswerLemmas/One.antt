@@ -206,7 +206,7 @@ all_some r t (path ∷ paths) =
     (o.0 ∷ os.0, one_more o.1 os.1)
 
 -- and to one outcome
-all_one : {r : KeyRule} {t : List ℕ} (paths : List (List Node)) {os ps : List Outcome} → AllLeadBy r t paths os → AllLeadBy r t paths ps → os ≡ ps
+pub all_one : {r : KeyRule} {t : List ℕ} (paths : List (List Node)) {os ps : List Outcome} → AllLeadBy r t paths os → AllLeadBy r t paths ps → os ≡ ps
 all_one [] no_more no_more = refl
 all_one (path ∷ paths) (one_more l a) (one_more m b) = rw (by_one path l m, all_one paths a b) refl
 

@@ -1,21 +1,24 @@
 -- What the outcomes of paths are that the marks of their prefixes come to.
 use Rattle.std.proofs.Common.{◌≡◌, ◌≢◌, ◌∙◌, ◌⊎◌, inl, inr, sym, ap, refl, Bool, true, false, ℕ, ◌+◌, ◌-◌, ◌<◌, ◌≤◌, List, [], ◌∷◌, ◌++◌, append_assoc, append-nil, length, arith}
 use Rattle.std.proofs.lemmas.Bool.{cases_order}
+use Rattle.std.proofs.lemmas.Option.{same_Some}
 use Rattle.std.specs.Prelude.{Option, Some, None, not, slice_get, IfSome}
 use Rattle.sonic_error.specs.declared.code.ErrorCode.{ErrorCode}
 use Rattle.sonic_error.specs.declared.code.ErrorCode.TheVariants.{GetIndexOutOfArray, DuplicateKey, Message}
 use Rattle.sonic_error.specs.declared.json_type.Note.TheVariants.{Mismatch}
 use Rattle.sonic_find.proofs.MarkLemmas.Kept.{mark_one}
 use Rattle.sonic_find.proofs.PathLemmas.Outcome.{MixNowhere, by_one, cut_is_fault, fails_agree, nowhere_past}
+use Rattle.sonic_find.proofs.WalkLemmas.End.{value_known, value_keeps}
 use Rattle.sonic_find.proofs.WalkLemmas.List.{first_of}
-use Rattle.sonic_find.proofs.WalkLemmas.Path.{contained, child_at, path_of_child, path_down, settled_no_fail, still_known}
+use Rattle.sonic_find.proofs.WalkLemmas.Path.{held, contained, child_at, path_of_child, path_down, IsFilling, filled_keeps, filled_known, filled_later}
 use Rattle.sonic_find.proofs.WalkLemmas.Start.{no_entry_by_kind, no_entry_in_empty}
-use Rattle.sonic_find.specs.Answers.{Span}
-use Rattle.sonic_find.specs.Internal.Collected.{IsNoted, IsFailBelow, IsCollected, is_settled, is_failed, AllCollected, NodeCollected}
+use Rattle.sonic_find.specs.Internal.Collected.{IsNoted, IsFailBelow, IsCollected, AllCollected, NodeCollected}
 use Rattle.sonic_find.specs.Internal.Follow.{IsDeadNode, LacksNode}
 use Rattle.sonic_find.specs.Internal.Marks.{MarkState, IsMarkOf, AreMarks, IsWholeMark, HasItems, ChildSays, says_none, says_twice, says_one, NodeSays, says_no_items, says_items, SaysAll, IsLive}
 use Rattle.sonic_find.specs.Cursors.{HasWhole}
-use Rattle.sonic_find.specs.Internal.Walk.{Findings, Keeps, Point, child_point, ComesTo, IsPath, AreFindings, IsLater, IsKnown, was_found, was_lacked, AllSettled, IsCause, path_stops, value_stops, IsStop, AreSetTo, NoneNearer}
+use Rattle.sonic_find.specs.declared.outcome.PathOutcome.{PathOutcome}
+use Rattle.sonic_find.specs.declared.span.Span.{Span}
+use Rattle.sonic_find.specs.Internal.Walk.{Question, Findings, Keeps, Point, child_point, ComesTo, AreFindings, IsLater, AllSettled, IsCause, path_stops, value_stops, IsStop, AreSet, Begins, slot_of, NoneNearer}
 use Rattle.sonic_find.specs.DeadEnds.{IsPathStop, fails_so, cut_so}
 use Rattle.sonic_find.specs.Paths.{found, lacks, fails, kind_of, empty_code, wanted_of, LeadsOn, LeadsBy, LeadsUnder, EvaluatesBy, past_end}
 use Rattle.sonic_find.specs.Paths.EvaluatesBy.{found_here, goes_on, repeats, leads_nowhere, cut_before}
@@ -149,9 +152,10 @@ twice_dead {g} {m} {c} {node} {q = q} are is later has again (says_items h x (sa
 -- what is said of all paths is said of each child
 pub says_child : {g : MarkState} {prefix : Path} {children : List Node} {m : Mark} (c : ℕ) (node : Node) → IsChildren g.paths prefix children
     → slice_get children c ≡ Some node → SaysAll g prefix m → NodeSays g m (prefix ++ node ∷ []) node (λ d. Unit)
-says_child {g} {prefix} {m = m} c node all is says =
-    let path = path_of_child (record { rule = g.rule; text = g.text; paths = g.paths; prefix = prefix; place = m.value.start }) c node all is in
-    forget (says path.number (node ∷ path.rest) path.is)
+says_child {g} {prefix} {children} c node all is says =
+    let next = (all.exact node).0 (contained children c is) in
+    let path = held g.paths next.path in
+    forget (says path.0 (node ∷ next.rest) path.1)
   where
     forget_child : {g : MarkState} {i : ℕ} {prefix : Path} {node : Node} {B : Mark → Type 0} → ChildSays g i prefix node B → ChildSays g i prefix node (λ d. Unit)
     forget_child (says_none old none) = says_none old none
@@ -172,70 +176,115 @@ pub collected_up : (p : Point) (node : Node) (v : ℕ) {f : Findings} {nearest :
 collected_up p node v all k rest h = rw append_assoc at (all k rest (path_down p k node rest v h))
 
 -- a fail below a child is one below its parent
-pub fail_up : (p : Point) (node : Node) (v : ℕ) {s : Stop} → LeadsBy p.rule p.text p.place node v → IsFailBelow (child_point p node v) s → IsFailBelow p s
+pub fail_up : (p : Point) (node : Node) (v : ℕ) {s : Stop} → LeadsBy p.asked.rule p.asked.text p.place node v → IsFailBelow (child_point p node v) s → IsFailBelow p s
 fail_up p node v leads x = record { number = x.number; rest = node ∷ x.rest; is = rw append_assoc at x.is; fails_so = goes_on leads x.fails_so }
 
 -- a dead node fails
-pub dead_below : (p : Point) {children : List Node} {s : Stop} (c : ℕ) (node : Node) → HasWhole p.text p.place → IsChildren p.paths p.prefix children
-    → slice_get children c ≡ Some node → IsDeadNode p.rule p.text p.place node s → IsFailBelow p s
+pub dead_below : (p : Point) {children : List Node} {s : Stop} (c : ℕ) (node : Node) → HasWhole p.asked.text p.place → IsChildren p.asked.paths p.prefix children
+    → slice_get children c ≡ Some node → IsDeadNode p.asked.rule p.asked.text p.place node s → IsFailBelow p s
 dead_below p c node whole all is dead =
     let path = path_of_child p c node all is in
     record { number = path.number; rest = node ∷ path.rest; is = path.is; fails_so = stopped_fails whole (dead path.rest) }
 
-pub dead_collected : (p : Point) {s : Stop} {f : Findings} (node : Node) → HasWhole p.text p.place → ComesTo p → IsDeadNode p.rule p.text p.place node s
-    → NodeCollected p f (Some s) node
-dead_collected p {s} node whole comes dead k rest h =
-    is_failed (comes.up (node ∷ rest) (fails s) (stopped_fails whole (dead rest))) (let l : s.place ≤ s.place = omega arith in l)
+-- its paths do
+dead_filling : {p : Point} {s : Stop} (node : Node) → HasWhole p.asked.text p.place → ComesTo p → IsDeadNode p.asked.rule p.asked.text p.place node s
+    → IsFilling p.asked (Begins p.asked.paths (p.prefix ++ node ∷ [])) (fails s)
+dead_filling {p} {s} node whole comes dead = record {
+  uncut = λ r e. absurd cc;
+  each = λ k path is (rest, goes).
+      let same : p.prefix ++ node ∷ rest ≡ path = same_Some _ path (sym (rw append_assoc at goes) ∙ is) in
+      rw same at (comes.up (node ∷ rest) (fails s) (stopped_fails whole (dead rest)));
+}
 
--- a node that is lacked is settled where that is noted
-pub lacks_collected : (p : Point) {f : Findings} {q : ℕ} {nearest : Option Stop} (node : Node) → ComesTo p → LacksNode p.rule p.text p.place node q → f.lacking ≡ true
-    → NodeCollected p f nearest node
-lacks_collected p {q = q} node comes lack noted k rest h = is_settled (was_lacked (comes.up (node ∷ rest) (lacks q) (lack rest)) noted)
+-- what is kept of them keeps what is known
+pub dead_keeps : (p : Point) {s : Stop} {before now : Findings} (node : Node) → HasWhole p.asked.text p.place → ComesTo p
+    → IsDeadNode p.asked.rule p.asked.text p.place node s
+    → AreSet (Begins p.asked.paths (p.prefix ++ node ∷ [])) before.slots now.slots (slot_of p.asked.tells (fails s))
+    → (before.lacking ≡ true → now.lacking ≡ true) → Keeps p.asked before now
+dead_keeps p {s} node whole comes dead set still = filled_keeps (fails s) (dead_filling node whole comes dead) set (λ k q x e. absurd cc) still
 
--- and the findings are true
-pub lacks_later : (p : Point) {children : List Node} {f : Findings} {q : ℕ} (c : ℕ) (node : Node) → ComesTo p → IsChildren p.paths p.prefix children
-    → slice_get children c ≡ Some node → LacksNode p.rule p.text p.place node q → AreFindings p.rule p.text p.paths f
-    → IsLater p.rule p.text p.paths f (record f { lacking = true })
-lacks_later p {q = q} c node comes all is lack are =
-    let path = path_of_child p c node all is in
+-- and so they are collected
+pub dead_collected : (p : Point) {s : Stop} {before : List (PathOutcome Span)} {now : Findings} (node : Node) → HasWhole p.asked.text p.place → ComesTo p
+    → IsDeadNode p.asked.rule p.asked.text p.place node s
+    → AreSet (Begins p.asked.paths (p.prefix ++ node ∷ [])) before now.slots (slot_of p.asked.tells (fails s)) → NodeCollected p now (Some s) node
+dead_collected p {s} node whole comes dead set k rest h =
+    let leads = comes.up (node ∷ rest) (fails s) (stopped_fails whole (dead rest)) in
     record {
-      are = record {
-        long = are.long;
-        found_there = are.found_there;
-        lack = λ e. record {
-          number = path.number;
-          path = p.prefix ++ node ∷ path.rest;
-          place = q;
-          is = path.is;
-          leads = comes.up (node ∷ path.rest) (lacks q) (lack path.rest);
-        };
-      };
-      kept = λ k i j h. h;
-      lack = λ e. refl;
+      known = filled_known (fails s) (dead_filling node whole comes dead) set (λ k q x e. absurd cc) h (rest, rw append_assoc h);
+      noted = λ r l.
+          let same : fails s ≡ fails r = by_one (p.prefix ++ node ∷ rest) leads l in
+          let one : s ≡ r = cc in
+          rw one (let l : r.place ≤ r.place = omega arith in l);
     }
 
+-- the paths of a node that is lacked lack it
+lacks_filling : {p : Point} {q : ℕ} (node : Node) → ComesTo p → LacksNode p.asked.rule p.asked.text p.place node q
+    → IsFilling p.asked (Begins p.asked.paths (p.prefix ++ node ∷ [])) (lacks q)
+lacks_filling {p} {q} node comes lack = record {
+  uncut = λ r e. absurd cc;
+  each = λ k path is (rest, goes).
+      let same : p.prefix ++ node ∷ rest ≡ path = same_Some _ path (sym (rw append_assoc at goes) ∙ is) in
+      rw same at (comes.up (node ∷ rest) (lacks q) (lack rest));
+}
+
+-- what is kept of them keeps what is known
+pub lacks_keeps : (p : Point) {q : ℕ} {before now : Findings} (node : Node) → ComesTo p → LacksNode p.asked.rule p.asked.text p.place node q
+    → AreSet (Begins p.asked.paths (p.prefix ++ node ∷ [])) before.slots now.slots (slot_of p.asked.tells (lacks q)) → now.lacking ≡ true → Keeps p.asked before now
+lacks_keeps p {q} node comes lack set noted = filled_keeps (lacks q) (lacks_filling node comes lack) set (λ k r x e. noted) (λ e. noted)
+
+-- they are collected where that is noted
+pub lacks_collected : (p : Point) {q : ℕ} {before : List (PathOutcome Span)} {now : Findings} {nearest : Option Stop} (node : Node) → ComesTo p
+    → LacksNode p.asked.rule p.asked.text p.place node q
+    → AreSet (Begins p.asked.paths (p.prefix ++ node ∷ [])) before now.slots (slot_of p.asked.tells (lacks q)) → now.lacking ≡ true → NodeCollected p now nearest node
+lacks_collected p {q} node comes lack set noted k rest h =
+    let leads = comes.up (node ∷ rest) (lacks q) (lack rest) in
+    record {
+      known = filled_known (lacks q) (lacks_filling node comes lack) set (λ k r x e. noted) h (rest, rw append_assoc h);
+      noted = λ r l.
+          let clash : lacks q ≡ fails r = by_one (p.prefix ++ node ∷ rest) leads l in
+          absurd cc;
+    }
+
+-- and the findings are later
+pub lacks_later : (p : Point) {children : List Node} {before now : Findings} {q : ℕ} (c : ℕ) (node : Node) → ComesTo p → IsChildren p.asked.paths p.prefix children
+    → slice_get children c ≡ Some node → LacksNode p.asked.rule p.asked.text p.place node q
+    → AreSet (Begins p.asked.paths (p.prefix ++ node ∷ [])) before.slots now.slots (slot_of p.asked.tells (lacks q)) → now.lacking ≡ true
+    → AreFindings p.asked before → IsLater p.asked before now
+lacks_later p {q = q} c node comes all is lack set noted are =
+    let path = path_of_child p c node all is in
+    filled_later (lacks q) (lacks_filling node comes lack) set (λ k r x e. noted) (λ e. noted)
+    (λ e. record {
+      number = path.number;
+      path = p.prefix ++ node ∷ path.rest;
+      place = q;
+      is = path.is;
+      leads = comes.up (node ∷ path.rest) (lacks q) (lack path.rest);
+    }) are
+
+-- where a dead node's paths are kept, they are, too
+pub dead_later : (p : Point) {s : Stop} {before now : Findings} (node : Node) → HasWhole p.asked.text p.place → ComesTo p
+    → IsDeadNode p.asked.rule p.asked.text p.place node s
+    → AreSet (Begins p.asked.paths (p.prefix ++ node ∷ [])) before.slots now.slots (slot_of p.asked.tells (fails s)) → now.lacking ≡ before.lacking
+    → AreFindings p.asked before → IsLater p.asked before now
+dead_later p {s} node whole comes dead set same are =
+    filled_later (fails s) (dead_filling node whole comes dead) set (λ k q x e. absurd cc) (λ e. same ∙ e) (λ e. are.lack (sym same ∙ e)) are
+
 -- what is collected stays so
-pub still_collected : {t : List ℕ} {f g : Findings} {k : ℕ} {path : Path} {rule : KeyRule} {was now : Option Stop} → Keeps f g
-    → ((q : ℕ) → IsNoted was q → IsNoted now q) → IsCollected rule t f was k path → IsCollected rule t g now k path
-still_collected keeps nearer (is_settled x) = is_settled (still_known keeps x)
-still_collected keeps nearer (is_failed {s} l n) = is_failed l (nearer s.place n)
+pub still_collected : {q : Question} {f g : Findings} {k : ℕ} {path : Path} {was now : Option Stop} → Keeps q f g → slice_get q.paths k ≡ Some path
+    → ((p : ℕ) → IsNoted was p → IsNoted now p) → IsCollected q f was k path → IsCollected q g now k path
+still_collected {k = k} {path} keeps is nearer x = record { known = keeps k path is x.known; noted = λ s l. nearer s.place (x.noted s l) }
 
 -- what is known of the first children is known of one more
-pub one_more_collected : (p : Point) (children : List Node) {f g : Findings} {was stop now : Option Stop} {i : ℕ} → Keeps f g
+pub one_more_collected : (p : Point) (children : List Node) {f g : Findings} {was stop now : Option Stop} {i : ℕ} → Keeps p.asked f g
     → ((q : ℕ) → IsNoted was q → IsNoted now q) → ((q : ℕ) → IsNoted stop q → IsNoted now q)
     → ((c : ℕ) (node : Node) → c < i → slice_get children c ≡ Some node → NodeCollected p f was node)
     → ((node : Node) → slice_get children i ≡ Some node → NodeCollected p g stop node)
     → (c : ℕ) (node : Node) → c < i + 1 → slice_get children c ≡ Some node → NodeCollected p g now node
-one_more_collected p children {i = i} later first second before last c node l is = elim (cases_order c i) [
-  | inl same ↦ (λ k rest h. still_same second (last node (rw same at is) k rest h))
-  | inr (inl less) ↦ (λ k rest h. still_collected later first (before c node less is k rest h))
+one_more_collected p children {i = i} keeps first second before last c node l is = elim (cases_order c i) [
+  | inl same ↦ (λ k rest h. (let x = last node (rw same at is) k rest h in record { known = x.known; noted = λ s e. second s.place (x.noted s e) }))
+  | inr (inl less) ↦ (λ k rest h. still_collected keeps h first (before c node less is k rest h))
   | inr (inr more) ↦ absurd (omega (arith, l, more))
 ]
-  where
-    still_same : {t : List ℕ} {f : Findings} {k : ℕ} {path : Path} {rule : KeyRule} {was now : Option Stop} → ((q : ℕ) → IsNoted was q → IsNoted now q)
-        → IsCollected rule t f was k path → IsCollected rule t f now k path
-    still_same nearer (is_settled x) = is_settled x
-    still_same nearer (is_failed {s} l n) = is_failed l (nearer s.place n)
 
 -- the nearer stop is one of both
 pub nearer_below : (p : Point) {was stop now : Option Stop} → IfSome was (IsFailBelow p) → IfSome stop (IsFailBelow p) → (now ≡ was) ⊎ (now ≡ stop)
@@ -244,63 +293,58 @@ nearer_below p x y (inl e) = rw e x
 nearer_below p x y (inr e) = rw e y
 
 -- where the value is kept for the paths that end at the prefix, all with it are collected
-pub kept_collected : (p : Point) {j : ℕ} {orders : List ℕ} {f : Findings} {more : List (Option Span)} {nearest : Option Stop} {children : List Node} → ComesTo p
-    → IsValue strict p.text p.place j → IsOrders p.paths p.prefix orders → AreSetTo orders f.spans more (p.place, j)
-    → Keeps f (record f { spans = more }) → IsChildren p.paths p.prefix children
-    → ((c : ℕ) (node : Node) → slice_get children c ≡ Some node → NodeCollected p f nearest node) → AllCollected p (record f { spans = more }) nearest
-kept_collected p comes value o fill later all below k [] h =
-    is_settled (filled_here p comes value o fill k h)
-  where
-    filled_here : (p : Point) {j : ℕ} {orders : List ℕ} {f : Findings} {more : List (Option Span)} → ComesTo p → IsValue strict p.text p.place j
-        → IsOrders p.paths p.prefix orders → AreSetTo orders f.spans more (p.place, j) → (k : ℕ) → IsPath p k []
-        → IsKnown p.rule p.text (record f { spans = more }) k (p.prefix ++ [])
-    filled_here p {j} comes value o fill k h =
-        let is : slice_get p.paths k ≡ Some p.prefix = rw (append-nil p.prefix) at h in
-        was_found (comes.up [] (found p.place j) (found_here value)) (fill.filled k ((o.exact k).1 is))
-kept_collected p comes value o fill later all below k (node ∷ rest) h =
+pub kept_collected : (p : Point) {j : ℕ} {orders : List ℕ} {f g : Findings} {nearest : Option Stop} {children : List Node} → ComesTo p
+    → IsValue strict p.asked.text p.place j → IsOrders p.asked.paths p.prefix orders
+    → AreSet (Contains orders) f.slots g.slots (slot_of p.asked.tells (found p.place j)) → (f.lacking ≡ true → g.lacking ≡ true)
+    → IsChildren p.asked.paths p.prefix children → ((c : ℕ) (node : Node) → slice_get children c ≡ Some node → NodeCollected p f nearest node)
+    → AllCollected p g nearest
+kept_collected p {j} comes value o set still all below k [] h = record {
+  known = value_known p comes value o set k h;
+  noted = λ s l. (let clash : found p.place j ≡ fails s = by_one (p.prefix ++ []) (comes.up [] (found p.place j) (found_here value)) l in absurd cc);
+}
+kept_collected p comes value o set still all below k (node ∷ rest) h =
     let c = child_at p k node rest all h in
-    still_collected later (λ q n. n) (below c.0 node c.1 k rest h)
+    still_collected (value_keeps comes value o set still) h (λ q n. n) (below c.0 node c.1 k rest h)
 
 -- where none ends at it, they are without
-pub early_collected : (p : Point) {orders : List ℕ} {f : Findings} {nearest : Option Stop} {children : List Node} → IsOrders p.paths p.prefix orders → length orders ≡ 0
-    → IsChildren p.paths p.prefix children → ((c : ℕ) (node : Node) → slice_get children c ≡ Some node → NodeCollected p f nearest node) → AllCollected p f nearest
+pub early_collected : (p : Point) {orders : List ℕ} {f : Findings} {nearest : Option Stop} {children : List Node} → IsOrders p.asked.paths p.prefix orders → length orders ≡ 0
+    → IsChildren p.asked.paths p.prefix children → ((c : ℕ) (node : Node) → slice_get children c ≡ Some node → NodeCollected p f nearest node) → AllCollected p f nearest
 early_collected p o none all below k [] h =
-    let is : slice_get p.paths k ≡ Some p.prefix = rw append-nil at h in
+    let is : slice_get p.asked.paths k ≡ Some p.prefix = rw append-nil at h in
     let there = (o.exact k).1 is in
     absurd (omega (arith, none, there.1))
 early_collected p o none all below k (node ∷ rest) h =
     let c = child_at p k node rest all h in
     below c.0 node c.1 k rest h
 
--- where no stop is noted, all are settled
+-- where no stop is noted, or the walk goes on after it, all are settled
 pub none_settled : (p : Point) {f : Findings} → AllCollected p f None → AllSettled p f
-none_settled p all k rest h = settled (all k rest h)
-  where
-    settled : {t : List ℕ} {f : Findings} {k : ℕ} {path : Path} {rule : KeyRule} → IsCollected rule t f None k path → IsKnown rule t f k path
-    settled (is_settled x) = x
-    settled (is_failed l n) = absurd n
+none_settled p all k rest h = (let x = all k rest h in record { known = x.known; goes = λ stops s l. absurd (x.noted s l) })
+
+pub each_settled : (p : Point) {f : Findings} {nearest : Option Stop} → p.asked.each ≡ true → AllCollected p f nearest → AllSettled p f
+each_settled p each all k rest h =
+    record { known = (all k rest h).known; goes = λ stops s l. (let clash : true ≡ false = sym each ∙ stops in absurd cc) }
 
 -- no path with the prefix fails before the stop that is noted, and none fails there for another reason
-none_nearer : (p : Point) {f : Findings} {s : Stop} → IsUnmixed p.paths → ComesTo p → IsFailBelow p s → AllCollected p f (Some s) → NoneNearer p s
-none_nearer p {s = s} unmixed comes x all k rest r h e = elim (all k rest h) [
-  | is_settled y ↦ absurd (settled_no_fail comes y e)
-  | is_failed {s = q} l n ↦
-      let one : fails q ≡ fails r = by_one (p.prefix ++ rest) l (comes.up rest (fails r) e) in
-      let same : q ≡ r = cc in
-      let near : s.place ≤ r.place = rw same at n in
-      elim (cases_order s.place r.place) [
-        | inl equal ↦
-            let mix = paths_unmixed unmixed (contained p.paths x.number x.is) (contained p.paths k h) in
-            inl (sym (fails_agree (p.prefix ++ x.rest) (p.prefix ++ rest) mix (comes.up x.rest (fails s) x.fails_so) (comes.up rest (fails r) e) equal))
-        | inr (inl less) ↦ inr less
-        | inr (inr more) ↦ absurd (omega (arith, near, more))
-      ]
-]
+none_nearer : (p : Point) {f : Findings} {s : Stop} → IsUnmixed p.asked.paths → ComesTo p → IsFailBelow p s → AllCollected p f (Some s) → NoneNearer p s
+none_nearer p {s = s} unmixed comes x all k rest r h e =
+    let near : s.place ≤ r.place = (all k rest h).noted r (comes.up rest (fails r) e) in
+    elim (cases_order s.place r.place) [
+      | inl equal ↦
+          let mix = paths_unmixed unmixed (contained p.asked.paths x.number x.is) (contained p.asked.paths k h) in
+          inl (sym (fails_agree (p.prefix ++ x.rest) (p.prefix ++ rest) mix (comes.up x.rest (fails s) x.fails_so) (comes.up rest (fails r) e) equal))
+      | inr (inl less) ↦ inr less
+      | inr (inr more) ↦ absurd (omega (arith, near, more))
+    ]
 
--- so the stop that is noted stops the walk
-pub noted_stops : (p : Point) {f : Findings} {s : Stop} → IsUnmixed p.paths → ComesTo p → IsFailBelow p s → AllCollected p f (Some s) → IsStop p false s
-noted_stops p unmixed comes x all =
-    record { nearest = none_nearer p unmixed comes x all; cause = path_stops x.number x.rest x.is (fails_so x.fails_so) }
+-- so the stop that is noted stops the walk, unless it goes on
+pub noted_stops : (p : Point) {f : Findings} {s : Stop} → p.asked.each ≡ false → IsUnmixed p.asked.paths → ComesTo p → IsFailBelow p s → AllCollected p f (Some s)
+    → IsStop p false s
+noted_stops p stops unmixed comes x all = record {
+  nearest = λ e. none_nearer p unmixed comes x all;
+  fault = λ e. (let clash : true ≡ false = sym e ∙ stops in absurd cc);
+  cause = path_stops x.number x.rest x.is (fails_so x.fails_so);
+}
 
 -- under a rule that reads an object to its end no key leads on in one with a fault
 no_key_leads : {t : List ℕ} {i : ℕ} {s : Stop} (r : KeyRule) (node : Node) (v : ℕ) → r ≢ First → kind_of node ≡ Object → IsFault strict t i s → ¬ LeadsBy r t i node v
@@ -317,26 +361,27 @@ no_key_fails r rest some same f (repeats y) = value_never_both y.whole f
 no_key_fails r rest some same f (leads_nowhere x none e) = value_never_both x f
 
 -- so the fault cuts each path that goes on by a key
-pub fault_cuts : (p : Point) {children : List Node} {s : Stop} → p.rule ≢ First → IsChildren p.paths p.prefix children → children ≢ []
-    → ((c : ℕ) (node : Node) → slice_get children c ≡ Some node → kind_of node ≡ Object) → IsFault strict p.text p.place s → IsStop p false s
+pub fault_cuts : (p : Point) {children : List Node} {s : Stop} → p.asked.rule ≢ First → IsChildren p.asked.paths p.prefix children → children ≢ []
+    → ((c : ℕ) (node : Node) → slice_get children c ≡ Some node → kind_of node ≡ Object) → IsFault strict p.asked.text p.place s → IsStop p false s
 fault_cuts p {children} {s} rule all some kind f =
     let child = first_of children some in
     let path = path_of_child p 0 child.0 all child.1 in
     record {
-      nearest = nearest_of p rule all kind f;
-      cause = path_stops path.number (child.0 ∷ path.rest) path.is (cut_so (cut_before f (λ v l. no_key_leads p.rule child.0 v rule (kind 0 child.0 child.1) f l)));
+      nearest = λ stops. nearest_of p rule all kind f;
+      fault = λ e. f;
+      cause = path_stops path.number (child.0 ∷ path.rest) path.is (cut_so (cut_before f (λ v l. no_key_leads p.asked.rule child.0 v rule (kind 0 child.0 child.1) f l)));
     }
   where
-    nearest_of : (p : Point) {children : List Node} {s : Stop} → p.rule ≢ First → IsChildren p.paths p.prefix children
-        → ((c : ℕ) (node : Node) → slice_get children c ≡ Some node → kind_of node ≡ Object) → IsFault strict p.text p.place s → NoneNearer p s
+    nearest_of : (p : Point) {children : List Node} {s : Stop} → p.asked.rule ≢ First → IsChildren p.asked.paths p.prefix children
+        → ((c : ℕ) (node : Node) → slice_get children c ≡ Some node → kind_of node ≡ Object) → IsFault strict p.asked.text p.place s → NoneNearer p s
     nearest_of p rule all kind f k [] r h e = elim e [ ]
     nearest_of p rule all kind f k (node ∷ rest) r h e =
         let c = child_at p k node rest all h in
-        absurd (no_key_fails p.rule rest rule (kind c.0 node c.1) f e)
+        absurd (no_key_fails p.asked.rule rest rule (kind c.0 node c.1) f e)
 
 -- what stops a value that isn't asked for stops it
 pub stop_anyway : {p : Point} {needs : Bool} {s : Stop} → IsStop p false s → IsStop p needs s
-stop_anyway x = record { nearest = x.nearest; cause = anyway x.cause }
+stop_anyway x = record { nearest = x.nearest; fault = x.fault; cause = anyway x.cause }
   where
     anyway : {p : Point} {needs : Bool} {s : Stop} → IsCause p false s → IsCause p needs s
     anyway (path_stops k rest is y) = path_stops k rest is y

@@ -6,7 +6,7 @@ use Rattle.std.specs.Prelude.{Some, None, slice_get}
 use Rattle.sonic_find.proofs.MarkLemmas.Kept.{with_marks, mark_one, says_kept, node_kept, KeepsBelow, KeepsFrom, sight_kept, kept_from_other, longer_apart, set_kept, set_beside, set_mark, set_are, later_are}
 use Rattle.sonic_find.proofs.MarkLemmas.Seen.{nothing_seen, seen_other, seen_last_next, seen_only_next, seen_twice_next, seen_twice_still, NoMore, none_of_all, one_of_all, two_of_all}
 use Rattle.sonic_find.proofs.PathLemmas.Lead.{node_or_other, named_kind, past_byte}
-use Rattle.sonic_find.proofs.WalkLemmas.Path.{contained, child_at}
+use Rattle.sonic_find.proofs.WalkLemmas.Path.{contained, held, contained}
 use Rattle.sonic_parser.specs.ValueSpans.{FlagsEscape}
 use Rattle.sonic_find.specs.Internal.Marks.{MarkState, IsMarkOf, AreMarks, KeptBeside, HasNoItems, ChildSays, says_none, says_twice, says_one, says_no_items, says_items, Says, SaysAll, IsPassedBy, IsMarked, Sight, none_seen, one_seen, two_seen, IsSeen, seen_none, seen_only, seen_twice, SightSays, sight_none, sight_one, sight_two, IsFollowing, AllFollowing, IsMarking, IsMarkedItem, IsClosed, IsWholeLevel}
 use Rattle.sonic_find.specs.Internal.Walk.{Container}
@@ -51,7 +51,7 @@ following_other {g} {a} {n} {h} {v} {node} {b} marks fit item other same kept x 
 
 -- after an item that is no child all children have other names
 pub none_following : {g : MarkState} {a : Container} {n h v : ℕ} {node : Node} → IsWholeLevel a → ItemsFit strict g.text a.kind a.point.place n h
-    → IsNamed g.text a.kind n h v node → ¬ HasNextNode a.point.paths a.point.prefix node → AllFollowing g a n → AllFollowing g a (n + 1)
+    → IsNamed g.text a.kind n h v node → ¬ HasNextNode a.point.asked.paths a.point.prefix node → AllFollowing g a n → AllFollowing g a (n + 1)
 none_following {g} {a} {node = node} level fit item none all = λ c b is.
     let other : node ≢ b = (λ e. none (rw e ((level.children.exact b).0 (contained a.children c is)))) in
     following_other g.marks fit item other (level.kind c b is) (λ more n there. refl) (all c b is)
@@ -138,7 +138,7 @@ repeated_following {g} {a} {n} {h} {v} {node} {m} now number refuses inside are 
 
 -- an item that is no child is passed
 pub none_marked : {g : MarkState} {a : Container} {n h v e : ℕ} {node : Node} → IsWholeLevel a → IsMarking g a n h → IsNamed g.text a.kind n h v node
-    → ¬ HasNextNode a.point.paths a.point.prefix node → IsValue strict g.text v e → IsMarkedItem g a n h e
+    → ¬ HasNextNode a.point.asked.paths a.point.prefix node → IsValue strict g.text v e → IsMarkedItem g a n h e
 none_marked {v = v} {node = node} level m item none value = record {
   are = later_are m.are (omega (arith, head-later item.head, value-longer value));
   fit = m.fit;
@@ -295,6 +295,6 @@ passed_marked {g} {prefix} {children} {start} {place} {m} number is x =
         → slice_get g.paths k ≡ Some (prefix ++ rest) → Says (with_marks g (set g.marks number m)) prefix m rest
     path_says g number all kept x k [] h = tt
     path_says g {prefix} {children} {start} {m = m} number all kept x k (node ∷ rest) h =
-        let c = child_at (record { rule = g.rule; text = g.text; paths = g.paths; prefix = prefix; place = start }) k node rest all h in
+        let c = held children ((all.exact node).1 (record { rest = rest; path = contained g.paths k h })) in
         let below : KeepsBelow g (set g.marks number m) (prefix ++ node ∷ []) = λ next more. rw append_assoc (kept node (next ∷ more)) in
         node_kept (kept node []) (λ d y. says_kept g (set g.marks number m) (prefix ++ node ∷ []) d rest below (y k rest (rw append_assoc h))) (x.each c.0 node c.1)

@@ -10,8 +10,8 @@ use Rattle.sonic_find.proofs.PathLemmas.Outcome.{by_one, fails_later_by, down_by
 use Rattle.sonic_find.proofs.WalkLemmas.List.{still_open, set_elsewhere}
 use Rattle.sonic_find.proofs.WalkLemmas.Path.{contained, path_of_child, child_one, path_down, path_up, comes_down, settled_up, still_settled, cut_stops, stopped_up, FailsOrFaulty, fails_or_faulty}
 use Rattle.sonic_find.proofs.WalkLemmas.Step.{OpenStopped, open_nearest, open_cause, wanted_cause, none_in_value}
-use Rattle.sonic_find.specs.Internal.Walk.{Findings, child_point, ComesTo, IsLater, AllSettled, IsCause, path_stops, value_stops, IsStop, Container, Progress, SomeOpen, IsUnvisited, IsWanted, IsContainer, IsFollowed, IsItemPassed, IsChildItem}
-use Rattle.sonic_find.specs.Paths.{fails, cut, kind_of, IsNamed, LeadsBy, EvaluatesBy}
+use Rattle.sonic_find.specs.Internal.Walk.{Findings, child_point, LeadsAt, ComesTo, IsLater, AllSettled, IsCause, path_stops, value_stops, IsStop, Container, Progress, SomeOpen, IsUnvisited, IsWanted, IsContainer, IsFollowed, IsItemPassed, IsChildItem}
+use Rattle.sonic_find.specs.Paths.{fails, cut, kind_of, IsNamed, LeadsBy}
 use Rattle.sonic_find.specs.Paths.EvaluatesBy.{cut_before}
 use Rattle.sonic_pointer.specs.Paths.{HasPrefix}
 use Rattle.sonic_text.specs.Paths.{Node, Path}
@@ -27,7 +27,7 @@ use Rattle.sonic_text.specs.declared.stop.Stop.{Stop}
 pub record IsVisit (a : Container) (g : Progress) (v child : ℕ) : Type 0 where
   pub before : IsFollowed a g
   pub node : Node
-  pub head : IsNamed a.point.text a.kind g.passed g.next v node
+  pub head : IsNamed a.point.asked.text a.kind g.passed g.next v node
   pub is : slice_get a.children child ≡ Some node
   pub unvisited : slice_get g.visited child ≡ Some false
 
@@ -39,18 +39,18 @@ is_visit number before x found =
     record { before = before; node = y.node; head = y.head; is = y.is; unvisited = found.1 }
 
 -- the first item that a child names is the one that counts
-plain_node : {a : Container} (node : Node) → IsContainer a → kind_of node ≡ a.kind → (a.point.rule ≡ First) ⊎ (kind_of node ≡ Array)
+plain_node : {a : Container} (node : Node) → IsContainer a → kind_of node ≡ a.kind → (a.point.asked.rule ≡ First) ⊎ (kind_of node ≡ Array)
 plain_node node is same = elim is.plain [ inl e ↦ inl e | inr e ↦ inr (same ∙ e) ]
 
 -- the child's node leads to that value
-visits : {a : Container} {g : Progress} {v child : ℕ} (m : IsVisit a g v child) → LeadsBy a.point.rule a.point.text a.point.place m.node v
+visits : {a : Container} {g : Progress} {v child : ℕ} (m : IsVisit a g v child) → LeadsBy a.point.asked.rule a.point.asked.text a.point.place m.node v
 visits {a} {v = v} {child} m =
-    plain_leads a.point.rule a.point.text a.point.place m.node v (plain_node m.node m.before.container (m.before.container.kind child m.node m.is))
+    plain_leads a.point.asked.rule a.point.asked.text a.point.place m.node v (plain_node m.node m.before.container (m.before.container.kind child m.node m.is))
     (named_leads (m.before.unvisited m.node (child, m.unvisited, m.is)) m.head)
 
 -- and a fault of it is one of the container
-visit_fault : {a : Container} {g : Progress} {v child : ℕ} {s : Stop} (m : IsVisit a g v child) → IsFault strict a.point.text v s
-    → IsFault strict a.point.text a.point.place s
+visit_fault : {a : Container} {g : Progress} {v child : ℕ} {s : Stop} (m : IsVisit a g v child) → IsFault strict a.point.asked.text v s
+    → IsFault strict a.point.asked.text a.point.place s
 visit_fault m f = in_value m.before.fit m.head.head f
 
 -- so does the prefix of the child
@@ -58,10 +58,10 @@ pub child_comes : {a : Container} {g : Progress} {v child : ℕ} (m : IsVisit a 
 child_comes m = comes_down m.node m.before.container.comes (visits m)
 
 -- which some path has
-pub child_prefix : {a : Container} {g : Progress} {v child : ℕ} (m : IsVisit a g v child) → HasPrefix a.point.paths (a.point.prefix ++ m.node ∷ [])
+pub child_prefix : {a : Container} {g : Progress} {v child : ℕ} (m : IsVisit a g v child) → HasPrefix a.point.asked.paths (a.point.prefix ++ m.node ∷ [])
 child_prefix {a} {v = v} {child} m =
     let p = path_of_child a.point child m.node m.before.container.children m.is in
-    record { rest = p.rest; path = contained a.point.paths p.number (path_down a.point p.number m.node p.rest v p.is) }
+    record { rest = p.rest; path = contained a.point.asked.paths p.number (path_down a.point p.number m.node p.rest v p.is) }
 
 -- a child that is open after the visit is another, and was open before
 another : {a : Container} {g : Progress} {v child : ℕ} {other : Node} (m : IsVisit a g v child) → IsUnvisited a (set g.visited child true) other
@@ -80,7 +80,7 @@ one_or_open {a} {g} {child = child} {node} m o = elim (cases_eq o.0 child) [
 
 -- what is known after the visit
 followed_after : {a : Container} {g : Progress} {v child : ℕ} {f : Findings} (m : IsVisit a g v child)
-    → IsLater a.point.rule a.point.text a.point.paths g.findings f → AllSettled (child_point a.point m.node v) f
+    → IsLater a.point.asked g.findings f → AllSettled (child_point a.point m.node v) f
     → IsFollowed a (record g { visited = set g.visited child true; findings = f })
 followed_after {a} {g} {v} {child} m later settled = record {
   container = m.before.container;
@@ -88,7 +88,7 @@ followed_after {a} {g} {v} {child} m later settled = record {
   long = length-set g.visited child true ∙ m.before.long;
   unvisited = λ other o. m.before.unvisited other (another m o).1;
   settled = λ k node rest h. elim (m.before.settled k node rest h) [
-    | inr done ↦ inr (still_settled later done)
+    | inr done ↦ inr (still_settled later.kept h done)
     | inl ahead ↦ elim (one_or_open m ahead) [
       | inr still ↦ inl still
       | inl same ↦ inr (rw same at (settled_up a.point v k m.node rest settled (rw (← same) at h)))
@@ -99,22 +99,22 @@ followed_after {a} {g} {v} {child} m later settled = record {
 
 -- so the item is passed
 pub child_passed : {a : Container} {g : Progress} {v child e : ℕ} {f : Findings} (m : IsVisit a g v child)
-    → IsLater a.point.rule a.point.text a.point.paths g.findings f → AllSettled (child_point a.point m.node v) f
-    → (IsWanted a (record g { visited = set g.visited child true; findings = f }) → IsValue strict a.point.text v e)
+    → IsLater a.point.asked g.findings f → AllSettled (child_point a.point m.node v) f
+    → (IsWanted a (record g { visited = set g.visited child true; findings = f }) → IsValue strict a.point.asked.text v e)
     → IsItemPassed a (record g { visited = set g.visited child true; findings = f }) e
 child_passed {v = v} m later settled value =
     record { before = followed_after m later settled; value_start = v; node = m.node; head = m.head; value = value; closed = λ o. (another m o).0 refl }
 
 -- what stops in the child's value comes before each fail of another child
 other_later : {a : Container} {g : Progress} {v child : ℕ} {other : Node} {s r : Stop} (rest : Path) (m : IsVisit a g v child) → m.node ≢ other
-    → IsUnvisited a g.visited other → EvaluatesBy a.point.rule a.point.text a.point.place (other ∷ rest) (fails r) → FailsOrFaulty (child_point a.point m.node v) s
+    → IsUnvisited a g.visited other → LeadsAt a.point (other ∷ rest) (fails r) → FailsOrFaulty (child_point a.point m.node v) s
     → s.place < r.place
 other_later {a} {other = other} rest m differ o e (inl x) =
-    fails_later_by x.0 rest (m.before.unvisited other o) m.head differ (by_named a.point.rule m.node (visits m)) x.1 e
+    fails_later_by x.0 rest (m.before.unvisited other o) m.head differ (by_named a.point.asked.rule m.node (visits m)) x.1 e
 other_later {a} {other = other} {s} {r} rest m differ o e (inr f) =
     let none = none_in_value m.before m.head f differ o in
-    let cuts : EvaluatesBy a.point.rule a.point.text a.point.place (other ∷ rest) (cut s) =
-    cut_before (visit_fault m f) (λ w l. by_first a.point.rule other w l none) in
+    let cuts : LeadsAt a.point (other ∷ rest) (cut s) =
+    cut_before (visit_fault m f) (λ w l. by_first a.point.asked.rule other w l none) in
     let same : fails r ≡ cut s = by_one (other ∷ rest) e cuts in
     absurd cc
 
@@ -135,10 +135,11 @@ cause_up {a} {g} {child = child} {s = s} m wants (value_stops f (inl e)) =
 pub child_stops : {a : Container} {g : Progress} {v child : ℕ} {more : Bool} {s : Stop} (m : IsVisit a g v child)
     → (more ≡ true → IsWanted a (record g { visited = set g.visited child true })) → IsStop (child_point a.point m.node v) more s → IsStop a.point a.needs s
 child_stops {a} {v = v} m wants x = record {
-  nearest = open_nearest m.before (λ k node rest r h o e. elim (one_or_open m o) [
-    | inl same ↦ x.nearest k rest r (path_down a.point k m.node rest v (rw same h)) (down_by (visits m) (rw same e))
+  nearest = λ stops. open_nearest m.before stops (λ k node rest r h o e. elim (one_or_open m o) [
+    | inl same ↦ x.nearest stops k rest r (path_down a.point k m.node rest v (rw same h)) (down_by (visits m) (rw same e))
     | inr still ↦ inr (other_later rest m (another m still).0 o e (fails_or_faulty x.cause))
   ]);
+  fault = λ e. visit_fault m (x.fault e);
   cause = cause_up m wants x.cause;
 }
 

@@ -1,14 +1,16 @@
 -- The paths with a prefix: how they go on by its children, which of them are settled, and which are stopped.
-use Rattle.std.proofs.Common.{◌≡◌, ◌⊎◌, inl, inr, ℕ, List, ◌∷◌, ◌++◌, Bool, append_assoc, get_or}
+use Rattle.std.proofs.Common.{◌≡◌, ◌≢◌, ◌⊎◌, ◌∙◌, inl, inr, sym, refl, ℕ, List, ◌∷◌, ◌++◌, Bool, true, false, append_assoc, get_or}
 use Rattle.std.proofs.lemmas.Bool.{cases_order}
 use Rattle.std.proofs.lemmas.Option.{slice_get_within, slice_get-get_or, get_or_from_slice_get}
 use Rattle.std.specs.List.{Contains}
 use Rattle.std.specs.Prelude.{Some, slice_get}
 use Rattle.sonic_find.proofs.PathLemmas.Rule.{by_first, by_fault}
 use Rattle.sonic_find.proofs.PathLemmas.Outcome.{cut_is_fault, by_one}
-use Rattle.sonic_find.specs.Internal.Walk.{Findings, Keeps, Point, child_point, IsPath, AreFindings, IsLater, IsKnown, was_found, was_lacked, AllSettled, ComesTo, IsCause, path_stops, value_stops}
+use Rattle.sonic_find.specs.Internal.Walk.{Question, Findings, Keeps, Point, child_point, LeadsFrom, LeadsAt, IsPath, AreFindings, SomeLack, IsLater, IsKnown, was_found, was_lacked, has_failed, IsSettled, AllSettled, ComesTo, IsCause, path_stops, value_stops, AreSet, slot_of}
 use Rattle.sonic_find.specs.DeadEnds.{IsPathStop, fails_so, cut_so}
-use Rattle.sonic_find.specs.Paths.{found, lacks, fails, cut, LeadsOn, LeadsBy, EvaluatesBy}
+use Rattle.sonic_find.specs.declared.outcome.PathOutcome.{PathOutcome}
+use Rattle.sonic_find.specs.declared.span.Span.{Span}
+use Rattle.sonic_find.specs.Paths.{Outcome, found, lacks, fails, cut, LeadsOn, LeadsBy, EvaluatesBy}
 use Rattle.sonic_find.specs.Paths.EvaluatesBy.{goes_on, cut_before}
 use Rattle.sonic_pointer.specs.Paths.{IsChildren}
 use Rattle.sonic_text.specs.Faults.{IsFault}
@@ -28,9 +30,9 @@ pub contained : {X : Type 0} (xs : List X) (k : ℕ) {x : X} → slice_get xs k 
 contained xs k {x} h = (k, slice_get_within xs k x h, get_or_from_slice_get xs k x x h)
 
 -- a path that goes on after the prefix goes on by a child
-pub child_at : (p : Point) {children : List Node} (k : ℕ) (node : Node) (rest : Path) → IsChildren p.paths p.prefix children → IsPath p k (node ∷ rest)
+pub child_at : (p : Point) {children : List Node} (k : ℕ) (node : Node) (rest : Path) → IsChildren p.asked.paths p.prefix children → IsPath p k (node ∷ rest)
     → (c : ℕ) × (slice_get children c ≡ Some node)
-child_at p {children} k node rest all h = held children ((all.exact node).1 (record { rest = rest; path = contained p.paths k h }))
+child_at p {children} k node rest all h = held children ((all.exact node).1 (record { rest = rest; path = contained p.asked.paths k h }))
 
 -- some path goes on after the prefix by this node
 pub record GoesOn (p : Point) (node : Node) : Type 0 where
@@ -39,11 +41,11 @@ pub record GoesOn (p : Point) (node : Node) : Type 0 where
   pub is : IsPath p number (node ∷ rest)
 
 -- by each child some path goes on
-pub path_of_child : (p : Point) {children : List Node} (c : ℕ) (node : Node) → IsChildren p.paths p.prefix children → slice_get children c ≡ Some node
+pub path_of_child : (p : Point) {children : List Node} (c : ℕ) (node : Node) → IsChildren p.asked.paths p.prefix children → slice_get children c ≡ Some node
     → GoesOn p node
 path_of_child p {children} c node all h =
     let next = (all.exact node).0 (contained children c h) in
-    let k = held p.paths next.path in
+    let k = held p.asked.paths next.path in
     record { number = k.0; rest = next.rest; is = k.1 }
 
 -- a child is at one place
@@ -69,43 +71,91 @@ pub path_up : (p : Point) (k : ℕ) (node : Node) (rest : Path) (v : ℕ) → Is
 path_up p k node rest v h = rw append_assoc at h
 
 -- the prefix leads on to a child
-pub comes_down : {p : Point} {v : ℕ} (node : Node) → ComesTo p → LeadsBy p.rule p.text p.place node v → ComesTo (child_point p node v)
+pub comes_down : {p : Point} {v : ℕ} (node : Node) → ComesTo p → LeadsBy p.asked.rule p.asked.text p.place node v → ComesTo (child_point p node v)
 comes_down {p} node comes l = record {
   up = λ rest o e. rw append_assoc (comes.up (node ∷ rest) o (goes_on l e));
-  fault = λ s f. comes.fault s (by_fault p.rule node l f);
+  fault = λ s f. comes.fault s (by_fault p.asked.rule node l f);
 }
 
 -- where the paths of a child are settled, each of them is
 pub settled_up : (p : Point) (v : ℕ) {f : Findings} (k : ℕ) (node : Node) (rest : Path) → AllSettled (child_point p node v) f → IsPath p k (node ∷ rest)
-    → IsKnown p.rule p.text f k (p.prefix ++ node ∷ rest)
+    → IsSettled p.asked f k (p.prefix ++ node ∷ rest)
 settled_up p v k node rest all h = rw append_assoc at (all k rest (path_down p k node rest v h))
 
--- what is settled fails nowhere
-pub settled_no_fail : {p : Point} {rest : Path} {k : ℕ} {f : Findings} {r : Stop} → ComesTo p → IsKnown p.rule p.text f k (p.prefix ++ rest)
-    → ¬ EvaluatesBy p.rule p.text p.place rest (fails r)
-settled_no_fail {p} {rest} {r = r} comes (was_found {i} {j} l h) e =
-    let same : found i j ≡ fails r = by_one (p.prefix ++ rest) l (comes.up rest (fails r) e) in
-    absurd cc
-settled_no_fail {p} {rest} {r = r} comes (was_lacked {q} l h) e =
-    let same : lacks q ≡ fails r = by_one (p.prefix ++ rest) l (comes.up rest (fails r) e) in
-    absurd cc
+-- what is settled fails nowhere, where a walk stops at a fail
+pub settled_no_fail : {p : Point} {rest : Path} {k : ℕ} {f : Findings} {r : Stop} → ComesTo p → p.asked.each ≡ false
+    → IsSettled p.asked f k (p.prefix ++ rest) → ¬ LeadsAt p rest (fails r)
+settled_no_fail {p} {rest} {r = r} comes stops x e = x.goes stops r (comes.up rest (fails r) e)
 
--- what is known stays so
-pub still_known : {t : List ℕ} {before now : Findings} {k : ℕ} {path : Path} {rule : KeyRule} → Keeps before now → IsKnown rule t before k path → IsKnown rule t now k path
-still_known {k = k} keeps (was_found {i} {j} l h) = was_found l (keeps.0 k i j h)
-still_known keeps (was_lacked l h) = was_lacked l (keeps.1 h)
+-- where a path leads is known by its slot
+pub known_by : {q : Question} {f : Findings} {k : ℕ} {path : Path} (o : Outcome) → ((s : Stop) → o ≢ cut s) → LeadsFrom q path o
+    → slice_get f.slots k ≡ Some (slot_of q.tells o) → ((p : ℕ) → o ≡ lacks p → f.lacking ≡ true) → IsKnown q f k path
+known_by (found i j) uncut l h lack = was_found l h
+known_by (lacks p) uncut l h lack = was_lacked l h (lack p refl)
+known_by (fails s) uncut l h lack = has_failed l h
+known_by (cut s) uncut l h lack = absurd (uncut s refl)
 
-pub still_settled : {t : List ℕ} {paths : List Path} {before now : Findings} {k : ℕ} {path : Path} {rule : KeyRule} → IsLater rule t paths before now → IsKnown rule t before k path
-    → IsKnown rule t now k path
-still_settled g known = still_known (g.kept, g.lack) known
+-- what is known stays so in an equal slot
+pub still_known : {q : Question} {before now : Findings} {k : ℕ} {path : Path} → slice_get now.slots k ≡ slice_get before.slots k
+    → (before.lacking ≡ true → now.lacking ≡ true) → IsKnown q before k path → IsKnown q now k path
+still_known same lack (was_found l h) = was_found l (same ∙ h)
+still_known same lack (was_lacked l h e) = was_lacked l (same ∙ h) (lack e)
+still_known same lack (has_failed l h) = has_failed l (same ∙ h)
+
+-- and what is settled
+pub still_settled : {q : Question} {before now : Findings} {k : ℕ} {path : Path} → Keeps q before now → slice_get q.paths k ≡ Some path
+    → IsSettled q before k path → IsSettled q now k path
+still_settled {k = k} {path} keeps is x = record { known = keeps k path is x.known; goes = x.goes }
 
 -- findings stay as they are
-pub not_later : {t : List ℕ} {paths : List Path} {f : Findings} {rule : KeyRule} → AreFindings rule t paths f → IsLater rule t paths f f
-not_later are = record { are = are; kept = λ k i j h. h; lack = λ e. e }
+pub not_later : {q : Question} {f : Findings} → AreFindings q f → IsLater q f f
+not_later are = record { are = are; kept = λ k path is x. x; lack = λ e. e }
 
 -- what is later than later findings is later
-pub later_twice : {t : List ℕ} {paths : List Path} {a b c : Findings} {rule : KeyRule} → IsLater rule t paths a b → IsLater rule t paths b c → IsLater rule t paths a c
-later_twice f g = record { are = g.are; kept = λ k i j h. g.kept k i j (f.kept k i j h); lack = λ e. g.lack (f.lack e) }
+pub later_twice : {q : Question} {a b c : Findings} → IsLater q a b → IsLater q b c → IsLater q a c
+later_twice f g = record { are = g.are; kept = λ k path is x. g.kept k path is (f.kept k path is x); lack = λ e. g.lack (f.lack e) }
+
+-- some of the slots are set to where their paths lead
+pub record IsFilling (q : Question) (Is : ℕ → Type 0) (o : Outcome) : Type 0 where
+  pub uncut : (s : Stop) → o ≢ cut s
+  pub each : (k : ℕ) (path : Path) → slice_get q.paths k ≡ Some path → Is k → LeadsFrom q path o
+
+-- then what was known stays so
+pub filled_keeps : {q : Question} {Is : ℕ → Type 0} {before now : Findings} (o : Outcome) → IsFilling q Is o
+    → AreSet Is before.slots now.slots (slot_of q.tells o) → ((k p : ℕ) → Is k → o ≡ lacks p → now.lacking ≡ true)
+    → (before.lacking ≡ true → now.lacking ≡ true) → Keeps q before now
+filled_keeps o fill set noted lack k path is x = elim (set.each k) [
+  | inl same ↦ still_known same lack x
+  | inr here ↦ known_by o fill.uncut (fill.each k path is here.0) here.1 (λ p e. noted k p here.0 e)
+]
+
+-- and the paths are known
+pub filled_known : {q : Question} {Is : ℕ → Type 0} {before : List (PathOutcome Span)} {now : Findings} {k : ℕ} {path : Path} (o : Outcome) → IsFilling q Is o
+    → AreSet Is before now.slots (slot_of q.tells o) → ((k p : ℕ) → Is k → o ≡ lacks p → now.lacking ≡ true)
+    → slice_get q.paths k ≡ Some path → Is k → IsKnown q now k path
+filled_known {k = k} {path} o fill set noted is here =
+    known_by o fill.uncut (fill.each k path is here) (set.filled k here) (λ p e. noted k p here e)
+
+-- so the findings are later
+pub filled_later : {q : Question} {Is : ℕ → Type 0} {before now : Findings} (o : Outcome) → IsFilling q Is o
+    → AreSet Is before.slots now.slots (slot_of q.tells o) → ((k p : ℕ) → Is k → o ≡ lacks p → now.lacking ≡ true)
+    → (before.lacking ≡ true → now.lacking ≡ true) → (now.lacking ≡ true → SomeLack q) → AreFindings q before → IsLater q before now
+filled_later o fill set noted still some are = record {
+  are = record { long = set.long ∙ are.long; lack = some };
+  kept = filled_keeps o fill set noted still;
+  lack = still;
+}
+
+-- a path that leads to another outcome doesn't fail
+pub settled_by : {q : Question} {f : Findings} {k : ℕ} {path : Path} (o : Outcome) → IsKnown q f k path → LeadsFrom q path o
+    → ((s : Stop) → o ≡ fails s → q.each ≡ true) → IsSettled q f k path
+settled_by {q} {path = path} o known leads why = record {
+  known = known;
+  goes = λ stops s l.
+      let same : o ≡ fails s = by_one path leads l in
+      let clash : true ≡ false = sym (why s same) ∙ stops in
+      absurd cc;
+}
 
 -- a path whose node leads nowhere is cut by the value's fault
 pub cut_stops : {t : List ℕ} {i : ℕ} {node : Node} {rest : Path} {s : Stop} {rule : KeyRule} → IsFault strict t i s → ((v : ℕ) → ¬ LeadsOn t i node v)
@@ -124,7 +174,7 @@ stopped_one {r = r} {s} path e (cut_so x) = let same : fails r ≡ cut s = by_on
 
 -- a path fails so, or the value has this fault
 abbrev pub FailsOrFaulty : Point → Stop → Type 0
-FailsOrFaulty p s = ((rest : Path) × EvaluatesBy p.rule p.text p.place rest (fails s)) ⊎ IsFault strict p.text p.place s
+FailsOrFaulty p s = ((rest : Path) × LeadsAt p rest (fails s)) ⊎ IsFault strict p.asked.text p.place s
 
 -- so it is of each cause
 pub fails_or_faulty : {p : Point} {needs : Bool} {s : Stop} → IsCause p needs s → FailsOrFaulty p s

@@ -192,8 +192,8 @@ pub record IsClosed (g : MarkState) (a : Container) (place : ℕ) : Type 0 where
 
 -- the children of a prefix, in a container of the kind that they ask for, under a rule that reads it to its end
 pub record IsWholeLevel (a : Container) : Type 0 where
-  pub rule : a.point.rule ≢ First
-  pub children : IsChildren a.point.paths a.point.prefix a.children
+  pub rule : a.point.asked.rule ≢ First
+  pub children : IsChildren a.point.asked.paths a.point.prefix a.children
   pub kind : (c : ℕ) (node : Node) → slice_get a.children c ≡ Some node → kind_of node ≡ a.kind
 
 -- the mark of a child's prefix is of a value inside that of this mark, which is the only one so far

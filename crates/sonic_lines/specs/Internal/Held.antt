@@ -6,7 +6,7 @@ use Rattle.sonic_lines.specs.declared.rows.Rows.TheInside.{Inside}
 
 -- what callers see
 abbrev pub reading_of : Inside → LineReading
-reading_of rows = record { paths = rows.tree; lines = rows.lines; held = rows.held.items }
+reading_of rows = record { columns = record { paths = rows.tree; each = rows.each }; lines = rows.lines; held = rows.held.items }
 
 -- no line that is held has ended, and one more can be counted
 abbrev pub HoldsOneLine : Inside → Type 0

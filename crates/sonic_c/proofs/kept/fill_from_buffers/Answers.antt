@@ -1,13 +1,13 @@
 use Rattle.std.proofs.Common.{◌∙◌, arith}
 use Rattle.sonic_c.proofs.EntryLemmas.{one_more}
 use Rattle.sonic_c.proofs.ListLemmas.{all_filled}
-use Rattle.sonic_c.specs.Internal.Told.{shown_slot}
+use Rattle.sonic_c.specs.Internal.Told.{shown_outcome}
 use Rattle.sonic_c.proofs.kept.fill_from_buffers.Goals as goal
 
 pub loop-i-preserved : goal.loop-i-preserved
 loop-i-preserved c = record {
-  now = rw (c.loop-i.invariant.now, c.shown.ensures)
-      (one_more shown_slot c.args.buffers.now c.args.spans.now c.loop-i.i c.at.result (omega (arith, c.loop-i-test.true, c.len-i-end.ensures, c.requires)) c.at.ensures);
+  now = rw (c.loop-i.invariant.now, c.shown.ensures, c.found.ensures)
+      (one_more shown_outcome c.args.buffers.now c.args.spans.now c.loop-i.i c.at.result (omega (arith, c.loop-i-test.true, c.len-i-end.ensures, c.requires)) c.at.ensures);
 }
 
 pub returns : goal.returns

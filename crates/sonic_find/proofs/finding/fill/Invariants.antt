@@ -1,8 +1,8 @@
-use Rattle.std.proofs.Common.{◌≡◌, map, option_map, take}
-use Rattle.sonic_find.specs.Found.{slot_at}
+use Rattle.std.proofs.Common.{◌≡◌, map, take}
+use Rattle.sonic_find.specs.Found.{slot_in}
 use Rattle.sonic_find.proofs.finding.fill.Given as goal
 
 abbrev pub invariant-loop-i : goal.invariant-loop-i
 invariant-loop-i l = record {
-  front : take l.i l.out ≡ map (option_map slot_at) (take l.i l.found);
+  front : take l.i l.out ≡ map slot_in (take l.i l.found);
 }

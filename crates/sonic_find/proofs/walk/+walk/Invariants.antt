@@ -1,6 +1,6 @@
 use Rattle.std.proofs.Common.{◌≡◌, ◌+◌, ◌-◌, ◌*◌, ◌<◌, length}
 use Rattle.sonic_find.specs.Internal.Marks.{KeepsMarks}
-use Rattle.sonic_find.specs.Internal.View.{container_at, marking_at, progress_of, NoneBefore}
+use Rattle.sonic_find.specs.Internal.View.{asked_at, container_at, marking_at, progress_of, NoneBefore}
 use Rattle.sonic_find.specs.Internal.Walk.{IsFollowed, IsWanted, IsLater}
 use Rattle.sonic_find.proofs.walk.+walk.Given as goal
 
@@ -18,13 +18,12 @@ decreases-item l = 4 * (length l.walk.now.text - l.walk.now.place) + 3
 
 abbrev pub invariant-items-items : goal.invariant-items-items
 invariant-items-items l = record {
-  text : l.walk.text ≡ l.fn.walk.text;
-  rule : l.walk.rule ≡ l.fn.walk.rule;
+  same : l.walk ≡ record l.fn.walk { place = l.walk.place; findings = l.walk.findings; marks = l.walk.marks };
   place : l.fn.walk.place < l.walk.place;
   within : l.fn.walk.place < length l.walk.text;
-  before : IsFollowed (container_at l.walk l.level) (progress_of l.walk l.passed l.visited);
-  wanted : IsWanted (container_at l.walk l.level) (progress_of l.walk l.passed l.visited);
-  later : IsLater l.walk.rule l.walk.text l.level.view.now.paths l.fn.walk.findings l.walk.findings;
+  before : IsFollowed (container_at l.fn.walk l.level) (progress_of l.walk l.passed l.visited);
+  wanted : IsWanted (container_at l.fn.walk l.level) (progress_of l.walk l.passed l.visited);
+  later : IsLater (asked_at l.fn.walk l.level.view.now) l.fn.walk.findings l.walk.findings;
   marks : KeepsMarks (marking_at l.walk l.level.view.now) l.walk.place;
   none : NoneBefore l.level.view.now l.passed l.next_child;
 }

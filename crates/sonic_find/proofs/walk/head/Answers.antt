@@ -15,13 +15,13 @@ use Rattle.sonic_find.proofs.walk.head.Goals.{in-Err, in_default-found}
 -- of a key
 key_child : {t : List ℕ} {start end : ℕ} (a : Container) (o : Option ℕ) (b : List ℕ) → IsString strict t start end b
     → IfSome o (λ i. (b : List ℕ) → IsString strict t start end b → slice_get a.children i ≡ Some (key b))
-    → IfNone o ((b : List ℕ) → IsString strict t start end b → ¬ HasNextNode a.point.paths a.point.prefix (key b)) → IsChildOf a o (key b)
+    → IfNone o ((b : List ℕ) → IsString strict t start end b → ¬ HasNextNode a.point.asked.paths a.point.prefix (key b)) → IsChildOf a o (key b)
 key_child a (Some c) b s some none = some b s
 key_child a None b s some none = none b s
 
 -- of an index
 index_child : (a : Container) (found : Result ℕ ℕ) (n : ℕ) → IfOk found (λ i. slice_get a.children i ≡ Some (index n))
-    → IfErr found (λ next. ¬ HasNextNode a.point.paths a.point.prefix (index n)) → IsChildOf a (result_ok found) (index n)
+    → IfErr found (λ next. ¬ HasNextNode a.point.asked.paths a.point.prefix (index n)) → IsChildOf a (result_ok found) (index n)
 index_child a (Ok c) n is absent = is
 index_child a (Err next) n is absent = absent
 

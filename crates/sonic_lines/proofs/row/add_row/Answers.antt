@@ -1,10 +1,10 @@
 use Rattle.std.proofs.Common.{arith, refl}
-use Rattle.sonic_lines.proofs.RowLemmas.{spans_within, no_error_line, row_refused}
+use Rattle.sonic_lines.proofs.RowLemmas.{parts_within, no_error_line, row_refused}
 use Rattle.sonic_lines.specs.LineRows.{IsBlankLine, entries_row}
 use Rattle.sonic_lines.proofs.row.add_row.Goals as goal
 
 pub add_entries-requires : goal.add_entries-requires
-add_entries-requires c = spans_within _ _ c.in-Ok.ensures.parts
+add_entries-requires c = parts_within _ _ c.in-Ok.ensures.parts
 
 pub returns-in_ok-add_entries-in-Ok-clause-row : goal.returns-in_ok-add_entries-in-Ok-clause-row
 returns-in_ok-add_entries-in-Ok-clause-row c =

@@ -1,6 +1,6 @@
 use Rattle.std.proofs.Common.{◌≡◌, [], drop, arith, refl}
 use Rattle.std.proofs.Math.ListN.{drop_of_length-le}
-use Rattle.sonic_lines.proofs.RowLemmas.{entries_down}
+use Rattle.sonic_lines.proofs.RowLemmas.{columns_down}
 use Rattle.sonic_lines.proofs.short.put_entries.Goals as goal
 
 pub loop-number-init : goal.loop-number-init
@@ -17,7 +17,7 @@ loop-number-preserved c =
       number = omega arith;
       some = put.start.0;
       within = omega (arith, i.within, put.start.1, c.put_tab-at.ensures.start);
-      text = entries_down c.args.line.now c.args.buffers.now _ c.loop-number.number c.at.result _ _ _ (omega arith) c.at.ensures i.text (rw c.len.ensures at c.put_tab-at.ensures.text) put.text;
+      text = columns_down c.args.line.now c.args.buffers.now _ c.loop-number.number c.at.result _ _ _ (omega arith) c.at.ensures i.text (rw c.len.ensures at c.put_tab-at.ensures.text) put.text;
     }
 
 pub returns-clause-text : goal.returns-clause-text

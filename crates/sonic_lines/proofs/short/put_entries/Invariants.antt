@@ -1,7 +1,6 @@
 use Rattle.std.proofs.Common.{◌≡◌, ◌++◌, ◌<◌, ◌≤◌, drop, length}
 use Rattle.std.specs.Prelude.{codes}
-use Rattle.sonic_find.specs.Spans.{pairs_of}
-use Rattle.sonic_lines.specs.LineRows.{entries_text}
+use Rattle.sonic_lines.specs.LineRows.{outcomes_text}
 use Rattle.sonic_lines.proofs.short.put_entries.Given as goal
 
 -- the entries from a slot on are put
@@ -10,7 +9,7 @@ invariant-loop-number l = record {
   number : l.number ≤ length l.buffers;
   some : 0 < l.at;
   within : l.at ≤ 128;
-  text : drop l.at l.short ≡ entries_text l.line (pairs_of (drop l.number l.buffers)) ++ codes "\n";
+  text : drop l.at l.short ≡ outcomes_text l.line (drop l.number l.buffers) ++ codes "\n";
 }
 
 abbrev pub decreases-loop-number : goal.decreases-loop-number

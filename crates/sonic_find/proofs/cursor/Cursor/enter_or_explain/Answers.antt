@@ -1,13 +1,15 @@
 use Rattle.sonic_find.proofs.cursor.Cursor.enter_or_explain.Goals as goal
-use Rattle.std.proofs.Common.{◌≡◌, ◌∙◌, ◌+◌, ◌-◌, sym, ap, arith, refl}
-use Rattle.sonic_find.proofs.WalkLemmas.Start.{no_entry_in_empty}
-use Rattle.sonic_text.specs.Places.{after_space}
+use Rattle.std.proofs.lemmas.Result.{err_from_is_err_and}
+use Rattle.sonic_parser.proofs.FaultLemmas.{stop_weaker}
+use Rattle.sonic_find.proofs.WalkLemmas.Start.{no_entry_by_fault}
+use Rattle.sonic_find.specs.DeadEnds.{fails_so}
 
-pub returns-clause-err : goal.returns-clause-err
-returns-clause-err c =
-    let parser = c.self.inside.parser in
-    let end = rw (← c.self.view_is) at (c.if-enter.ensures.empty refl) in
-    let passed = c.offset-bracket.ensures.place ∙ ap (λ cursor. cursor.place) c.self-2.view_is in
-    let bracket = rw (c.text.ensures, c.offset-start.ensures.place) at (sym c.byte_at.ensures.value ∙ c.if-byte_at-opening.false ∙ c.opening.ensures) in
-    let place : c.offset-bracket.result - 1 ≡ after_space parser.text (parser.place + 1) = omega (arith, passed, end.1) in
-    rw (← c.self.view_is, c.empty_code-code.ensures, place) (no_entry_in_empty bracket end.0 refl)
+pub returns-in_err-enter_or_pass-clause-err : goal.returns-in_err-enter_or_pass-clause-err
+returns-in_err-enter_or_pass-clause-err c =
+    let p = err_from_is_err_and c.from_residual.result c.from_residual.ensures.1 in
+    rw (p.1, p.2) (stop_weaker c.in_err-enter_or_pass.field-0.0 (λ s x. no_entry_by_fault x.0 x.1) c.in_err-enter_or_pass.ensures.err)
+
+pub returns-in-Some-clause-err : goal.returns-in-Some-clause-err
+returns-in-Some-clause-err c = λ rule node rest same.
+    let passed = rw c.in-Some.is at c.in_ok-enter_or_pass.ensures.passed in
+    fails_so (passed.dead rule node rest same)

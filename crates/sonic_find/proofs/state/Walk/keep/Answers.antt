@@ -1,21 +1,20 @@
 use Rattle.sonic_find.proofs.state.Walk.keep.Goals as goal
-use Rattle.std.proofs.Common.{arith}
+use Rattle.std.proofs.Common.{◌≡◌, arith}
 use Rattle.std.proofs.lemmas.List.{length-map}
-use Rattle.std.specs.Prelude.{option_map}
-use Rattle.sonic_find.proofs.WalkLemmas.End.{filled_escapes}
-use Rattle.sonic_find.proofs.WalkLemmas.List.{fill_mapped}
-use Rattle.sonic_find.specs.Found.{span_at}
+use Rattle.sonic_find.proofs.WalkLemmas.End.{set_escapes}
+use Rattle.sonic_find.proofs.WalkLemmas.List.{set_back, set_mapped}
+use Rattle.sonic_find.specs.Found.{told_at}
 
-pub fill-requires : goal.fill-requires
-fill-requires c = λ k h.
+pub keep-requires : goal.keep-requires
+keep-requires c = λ k h.
     let known = rw (← c.self.view_is) at (c.requires.known k h) in
-    omega (arith, known, length-map c.self.inside.spans.items (option_map span_at))
+    omega (arith, known, length-map c.self.inside.slots.items told_at)
 
 pub invariant_of-self : goal.invariant_of-self
 invariant_of-self c = record {
   checks = c.self.invariant.checks;
-  escaped = filled_escapes _ c.fill.ensures c.self.invariant.escaped (rw (← c.self.view_is) at c.requires.escaped);
+  escaped = set_escapes _ (set_back _ _ c.deref_mut.ensures.value c.deref_mut.ensures.len c.keep.ensures) c.self.invariant.escaped (λ v e. (let same : c.args.value ≡ v = cc in rw same at (rw (← c.self.view_is) at c.requires.escaped)));
 }
 
 pub returns-clause-filled : goal.returns-clause-filled
-returns-clause-filled c = rw (← c.self.view_is) (fill_mapped span_at c.fill.ensures)
+returns-clause-filled c = rw (← c.self.view_is) (set_mapped told_at (set_back _ _ c.deref_mut.ensures.value c.deref_mut.ensures.len c.keep.ensures))

@@ -4,6 +4,7 @@ use Rattle.std.proofs.lemmas.Result.{on_ok_weaker}
 use Rattle.std.proofs.Math.Seq.{take-length}
 use Rattle.sonic_lines.specs.Streams.{EndsLines, IsOneLine}
 use Rattle.sonic_lines.proofs.PieceLemmas.{cut_at_first, fed_lines, fed_none, one_line_before, one_line_found}
+use Rattle.sonic_lines.specs.Internal.Rows.{columns_of}
 use Rattle.sonic_lines.proofs.rows.Rows.take.Goals as goal
 
 pub end_line-requires : goal.end_line-requires
@@ -24,12 +25,12 @@ returns-clause-ok c =
     let cut : piece ≡ take first piece ++ 10 ∷ (take end rest ++ drop end rest) =
     cut_at_first piece first c.in-Some.ensures ∙ ap (λ u. take first piece ++ 10 ∷ u) (sym (take-append-drop end rest)) in
     let kept = c.self.view_is ∙ c.in_ok-end_line.ensures.kept in
-    let paths : c.self.inside.tree ≡ c.args.self.now.paths = ap (λ r. r.paths) kept in
+    let columns : columns_of c.self.inside.tree c.self.inside.each ≡ c.args.self.now.columns = ap (λ r. r.columns) kept in
     let lines : c.self.inside.lines ≡ c.args.self.now.lines = ap (λ r. r.lines) kept in
     let row = c.in_ok-end_line.ensures.row in
-    let rows = rw (whole, paths, lines) at c.in_ok-add_rows.ensures.rows in
+    let rows = rw (whole, columns, lines) at c.in_ok-add_rows.ensures.rows in
     let out = rows.2 ∙ ap (λ t. t ++ rows.0) row.2 ∙ append_assoc c.args.out.now.items row.0 rows.0 in
-    rw (paths, lines, c.count_of.ensures, left)
+    rw (columns, lines, c.count_of.ensures, left)
     (row.0 ++ rows.0, fed_lines (take first piece) (take end rest) (drop end rest) c.in_ok-end_line.ensures.one ends last cut row.1 rows.1, out)
 
 pub returns-in_default-clause-ok : goal.returns-in_default-clause-ok
