@@ -20,7 +20,7 @@
    - Output parameters, as *span, spans, entries, *error and room, are initialised before the call. They overlap
      nothing else that is given.
    - Nobody writes to the text, the lines, the paths, the edits, the patch or the schema while a call runs.
-   - jihluka_get_unchecked, jihluka_get_many_unchecked and jihluka_get_many_with_unchecked are called only for a text
+   - jihluka_get_unchecked and the other calls that end with _unchecked are called only for a text
      that begins with a valid value in UTF-8, as one that jihluka_validate accepted does.
    - A jihluka_paths is JIHLUKA_NO_PATHS before the first call with it, and what the last call left before each other.
    - No call is made from a signal handler.
@@ -159,7 +159,7 @@ uint32_t jihluka_get_unchecked(const uint8_t *json, size_t json_length, const ui
    has the span {0, 0}.
    JIHLUKA_DOCUMENT_ERROR: the text is invalid as far as it is needed, which is to the end of its value if a key is
    missing. Or a path doesn't resolve for another reason, also because it has a key in an empty object. There is one
-   error for all paths; to learn which path it is, call jihluka_get for each.
+   error for all paths; jihluka_get_each tells which path it is.
    JIHLUKA_WRONG_COUNT: there are more or fewer paths than span_count.
    JIHLUKA_BAD_LINES: a line isn't a path, is blank with more after it, or can't go with a line before it.
    JIHLUKA_NO_MEMORY. */
@@ -173,8 +173,49 @@ uint32_t jihluka_get_many_unchecked(const uint8_t *json, size_t json_length, con
                                     size_t paths_length, jihluka_span *spans, size_t span_count,
                                     jihluka_error *error);
 
+/* Where one path leads. */
+typedef struct jihluka_outcome {
+  /* One of JIHLUKA_PATH_FOUND, JIHLUKA_PATH_MISSING and JIHLUKA_PATH_FAILS. */
+  uint32_t status;
+  /* If the path fails, the code of the error, one of JIHLUKA_CODE_..; else 0. */
+  uint32_t code;
+  /* The value, or {0, 0}. */
+  jihluka_span span;
+  /* The offset of the closing brace of the object that lacks the key, or of the byte at which the path fails; or 0. */
+  size_t place;
+} jihluka_outcome;
+
+/* What becomes of a path. */
+enum {
+  /* It leads to a value. */
+  JIHLUKA_PATH_FOUND = 0,
+  /* An object, which may be empty, lacks its key. */
+  JIHLUKA_PATH_MISSING = 1,
+  /* It leads nowhere else: into a value of another type, or past the end of an array. */
+  JIHLUKA_PATH_FAILS = 2
+};
+
+/* Tells each path where it leads, whatever the others lead to: of ["level"] and ["http","status"] in
+   {"level":"info","http":null} the first is found, and the second fails. paths is as for jihluka_get_many, and outcomes
+   has outcome_count elements, one for each path.
+
+   JIHLUKA_OK: outcomes has what became of each path, in the order of the lines.
+   JIHLUKA_DOCUMENT_ERROR: the text is invalid before all paths are settled. If an object lacks a key, it has to be
+   valid to the end of its value.
+   JIHLUKA_WRONG_COUNT: there are more or fewer paths than outcome_count.
+   JIHLUKA_BAD_LINES: as for jihluka_get_many.
+   JIHLUKA_NO_MEMORY. */
+uint32_t jihluka_get_each(const uint8_t *json, size_t json_length, const uint8_t *paths, size_t paths_length,
+                          jihluka_outcome *outcomes, size_t outcome_count, jihluka_error *error);
+
+/* jihluka_get_each for a text that begins with a valid value in UTF-8, with the same statuses but
+   JIHLUKA_DOCUMENT_ERROR. */
+uint32_t jihluka_get_each_unchecked(const uint8_t *json, size_t json_length, const uint8_t *paths,
+                                    size_t paths_length, jihluka_outcome *outcomes, size_t outcome_count,
+                                    jihluka_error *error);
+
 /* Paths that are kept from call to call. Their lines are read once, and the memory that a look-up takes is used again
-   by the next one. Initialise it with JIHLUKA_NO_PATHS. Only the four calls below write to it; count may be read. Don't
+   by the next one. Initialise it with JIHLUKA_NO_PATHS. Only the six calls below write to it; count may be read. Don't
    copy it to use both copies. One call at a time uses a jihluka_paths, so each thread makes its own. That it may be
    handed to another thread is tested and not proved. */
 typedef struct jihluka_paths {
@@ -213,8 +254,8 @@ void jihluka_paths_free(jihluka_paths *paths);
 
 /* Finds the values at the paths that are kept, under their rule: as jihluka_get_many for their lines, with its statuses
    but JIHLUKA_BAD_LINES. Without paths and without spans it is JIHLUKA_OK, and the text isn't read. If a path doesn't
-   resolve, that is the one error for all paths; to learn which path it is, keep one jihluka_paths for each. The paths
-   are kept whatever the status is, and no call changes what a later one answers.
+   resolve, that is the one error for all paths; jihluka_get_each_with tells which path it is. The paths are kept
+   whatever the status is, and no call changes what a later one answers.
    The memory of a look-up is kept with them until jihluka_paths_free: some 100 bytes for each path, and a byte for each
    level of the deepest text so far. Under another rule than JIHLUKA_KEYS_FIRST each call takes some more, for each
    prefix of a path, and frees that (measured). */
@@ -227,6 +268,18 @@ uint32_t jihluka_get_many_with(const uint8_t *json, size_t json_length, jihluka_
    (measured). Under another rule it is jihluka_get_many_with. */
 uint32_t jihluka_get_many_with_unchecked(const uint8_t *json, size_t json_length, jihluka_paths *paths,
                                          jihluka_span *spans, size_t span_count, jihluka_error *error);
+
+/* Tells each of the paths that are kept where it leads, under their rule: as jihluka_get_each for their lines, with its
+   statuses but JIHLUKA_BAD_LINES. Without paths and without outcomes it is JIHLUKA_OK, and the text isn't read. */
+uint32_t jihluka_get_each_with(const uint8_t *json, size_t json_length, jihluka_paths *paths,
+                               jihluka_outcome *outcomes, size_t outcome_count, jihluka_error *error);
+
+/* jihluka_get_each_with for a text that begins with a valid value in UTF-8, with the same statuses. Under
+   JIHLUKA_KEYS_FIRST it takes no memory: it never returns JIHLUKA_NO_MEMORY. Under another rule it is
+   jihluka_get_each_with. */
+uint32_t jihluka_get_each_with_unchecked(const uint8_t *json, size_t json_length, jihluka_paths *paths,
+                                         jihluka_outcome *outcomes, size_t outcome_count,
+                                         jihluka_error *error);
 
 /* The calls from here to jihluka_items_next read one value: a span that was found, as json + span.start of the length
    span.end - span.start, or a whole document. White space before and after it is allowed.

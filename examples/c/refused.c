@@ -45,6 +45,7 @@ void __wrap_free(void *block) {
 /* What a call may write to. */
 typedef struct cells {
   jihluka_span spans[3];
+  jihluka_outcome outcomes[3];
   jihluka_error error;
   uint8_t room[64];
   size_t wanted;
@@ -54,7 +55,8 @@ typedef struct cells {
 } cells;
 
 static int same(const cells *a, const cells *b) {
-  return memcmp(a->spans, b->spans, sizeof a->spans) == 0 && a->error.code == b->error.code &&
+  return memcmp(a->spans, b->spans, sizeof a->spans) == 0 &&
+         memcmp(a->outcomes, b->outcomes, sizeof a->outcomes) == 0 && a->error.code == b->error.code &&
          a->error.line == b->error.line && a->error.column == b->error.column &&
          a->error.offset == b->error.offset && memcmp(a->room, b->room, sizeof a->room) == 0 && a->wanted == b->wanted &&
          a->items.place == b->items.place && a->items.state == b->items.state &&
@@ -120,6 +122,32 @@ static size_t get_many_unchecked(cells *told) {
   return jihluka_get_many_unchecked(bytes(json), strlen(json), bytes(paths), strlen(paths), told->spans, 3,
                                     &told->error);
 }
+
+static size_t get_each(cells *told) {
+  return jihluka_get_each(bytes(json), strlen(json), bytes(paths), strlen(paths), told->outcomes, 3, &told->error);
+}
+
+static size_t get_each_cut(cells *told) {
+  return jihluka_get_each(bytes(json), 40, bytes(paths), strlen(paths), told->outcomes, 3, &told->error);
+}
+
+static size_t get_each_unchecked(cells *told) {
+  return jihluka_get_each_unchecked(bytes(json), strlen(json), bytes(paths), strlen(paths), told->outcomes, 3,
+                                    &told->error);
+}
+
+/* Paths are kept, asked for each by itself, and given back. */
+static size_t keep_and_tell(cells *told, uint32_t rule) {
+  jihluka_paths kept = JIHLUKA_NO_PATHS;
+  size_t status = jihluka_paths_new(bytes(paths), strlen(paths), rule, &kept, &told->error);
+  if (status == JIHLUKA_OK) status = jihluka_get_each_with(bytes(json), strlen(json), &kept, told->outcomes, 3, &told->error);
+  jihluka_paths_free(&kept);
+  return status;
+}
+
+static size_t get_each_with(cells *told) { return keep_and_tell(told, JIHLUKA_KEYS_FIRST); }
+
+static size_t get_each_with_last(cells *told) { return keep_and_tell(told, JIHLUKA_KEYS_LAST); }
 
 /* Paths are kept, asked for in a text of some length and given back. */
 static size_t keep_and_ask(cells *told, uint32_t rule, size_t length) {
@@ -305,6 +333,11 @@ int main(void) {
   wrong |= refuse_each("get_many_with, cut", get_many_with_cut, JIHLUKA_NO_MEMORY);
   wrong |= refuse_each("get_many_with, the last key", get_many_with_last, JIHLUKA_NO_MEMORY);
   wrong |= refuse_each("get_many_with_unchecked, kept again", keep_again, JIHLUKA_NO_MEMORY);
+  wrong |= refuse_each("get_each", get_each, JIHLUKA_NO_MEMORY);
+  wrong |= refuse_each("get_each, cut", get_each_cut, JIHLUKA_NO_MEMORY);
+  wrong |= refuse_each("get_each_unchecked", get_each_unchecked, JIHLUKA_NO_MEMORY);
+  wrong |= refuse_each("get_each_with", get_each_with, JIHLUKA_NO_MEMORY);
+  wrong |= refuse_each("get_each_with, the last key", get_each_with_last, JIHLUKA_NO_MEMORY);
   wrong |= refuse_each("code_text", code_text, 0);
   wrong |= refuse_each("string_text", string_text, JIHLUKA_NO_MEMORY);
   wrong |= refuse_each("string_text, plain", plain_text, JIHLUKA_NO_MEMORY);

@@ -96,6 +96,20 @@ static uint32_t keep_and_ask(uint32_t rule, int judged) {
 }
 static uint32_t get_many_with(void) { return keep_and_ask(JIHLUKA_KEYS_LAST, 0); }
 static uint32_t get_many_with_unchecked(void) { return keep_and_ask(JIHLUKA_KEYS_FIRST, 1); }
+static jihluka_outcome outcomes[NODES];
+static uint32_t keep_and_tell(uint32_t rule, int judged) {
+  jihluka_paths kept = JIHLUKA_NO_PATHS;
+  uint32_t status = jihluka_paths_new(bytes(paths), strlen(paths), rule, &kept, &error);
+  if (status == JIHLUKA_OK && judged) status = jihluka_get_each_with_unchecked(bytes(arrays), strlen(arrays), &kept, outcomes, NODES, &error);
+  if (status == JIHLUKA_OK && !judged) status = jihluka_get_each_with(bytes(arrays), strlen(arrays), &kept, outcomes, NODES, &error);
+  jihluka_paths_free(&kept);
+  spans[0] = outcomes[0].span;
+  spans[NODES - 1] = outcomes[NODES - 1].span;
+  return status;
+}
+static uint32_t get_each_with(void) { return keep_and_tell(JIHLUKA_KEYS_FIRST, 0); }
+static uint32_t get_each_with_last(void) { return keep_and_tell(JIHLUKA_KEYS_LAST, 0); }
+static uint32_t get_each_with_unchecked(void) { return keep_and_tell(JIHLUKA_KEYS_FIRST, 1); }
 static uint32_t count(void) { return jihluka_count(bytes(arrays), strlen(arrays), &wanted, &error); }
 static uint32_t walk(void) {
   jihluka_items items = {0, 0};
@@ -142,6 +156,9 @@ int main(void) {
       {"get_many_unchecked", get_many_unchecked, 99},
       {"get_many_with", get_many_with, 99},
       {"get_many_with_unchecked", get_many_with_unchecked, 99},
+      {"get_each_with", get_each_with, 99},
+      {"get_each_with, the last key", get_each_with_last, 99},
+      {"get_each_with_unchecked", get_each_with_unchecked, 99},
       {"count", count, 99},
       {"items", walk, 99},
       {"minify", minify, 99},

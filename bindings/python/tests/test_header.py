@@ -27,6 +27,7 @@ PLAIN_TYPES = {
 }
 STRUCTS = {
     "jihluka_span": _native.Span,
+    "jihluka_outcome": _native.Outcome,
     "jihluka_error": _native.Fault,
     "jihluka_paths": _native.Kept,
     "jihluka_items": _native.Items,
@@ -84,7 +85,7 @@ class Page(unittest.TestCase):
         self.assertEqual("".join(told), "")
 
     def test_examples_of_calls(self):
-        calls = (jihluka.index, jihluka.minify, jihluka.indent, jihluka.patch, jihluka.edit, jihluka.fill, jihluka.rows, jihluka.Rows, jihluka.Finder)
+        calls = (jihluka.get_each, jihluka.index, jihluka.minify, jihluka.indent, jihluka.patch, jihluka.edit, jihluka.fill, jihluka.rows, jihluka.Rows, jihluka.Finder)
         for call in calls:
             test = doctest.DocTestParser().get_doctest(call.__doc__, {call.__name__: call}, call.__name__, None, 0)
             self.assertGreater(len(test.examples), 0)

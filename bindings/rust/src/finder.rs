@@ -1,7 +1,8 @@
 //! Paths that are kept from call to call.
 use crate::error::{judge, Error};
+use crate::outcome::told;
 use crate::text::part_of;
-use crate::{raw, Paths, Span, Text, Valid};
+use crate::{raw, Outcome, Paths, Span, Text, Valid};
 use std::fmt;
 use std::iter::FusedIterator;
 use std::slice;
@@ -56,6 +57,8 @@ pub struct Finder {
     keys: Keys,
     /// One for each path.
     spans: Vec<Span>,
+    /// Likewise, once each path was asked for by itself.
+    outcomes: Vec<raw::Outcome>,
 }
 
 // SAFETY: what is kept is memory of malloc that nobody else has, and one call at a time uses it, which
@@ -89,6 +92,7 @@ impl Finder {
         judge(status, fault)?;
         Ok(Finder {
             spans: vec![Span::default(); kept.count],
+            outcomes: Vec::new(),
             kept,
             keys,
         })
@@ -150,6 +154,53 @@ impl Finder {
         json: &'t T,
     ) -> Result<Found<'f, 't, T>, Error> {
         self.look_up(raw::jihluka_get_many_with, json)
+    }
+
+    /// Where each of the paths leads, in their order, as [`get_each`](crate::get_each) tells it, but that the rule says
+    /// which of equal keys counts.
+    ///
+    /// ```
+    /// use jihluka::{path, Code, Finder, Keys, Outcome, Paths};
+    /// let paths = Paths::new([path!["id"], path!["tags", 2]])?;
+    /// let mut finder = Finder::new(&paths, Keys::Refuse)?;
+    /// assert_eq!(
+    ///     finder.get_each(r#"{"id":7,"tags":["a"],"id":8}"#)?,
+    ///     [Outcome::Fails(Code::DUPLICATE_KEY, 21), Outcome::Fails(Code::GET_INDEX_OUT_OF_ARRAY, 19)],
+    /// );
+    /// # Ok::<(), jihluka::Error>(())
+    /// ```
+    pub fn get_each<'t, T: Text + ?Sized>(
+        &mut self,
+        json: &'t T,
+    ) -> Result<Vec<Outcome<&'t T::Part>>, Error> {
+        self.tell_each(raw::jihluka_get_each_with, json)
+    }
+
+    fn tell_each<'t, T: Text + ?Sized>(
+        &mut self,
+        call: raw::GetEachWith,
+        json: &'t T,
+    ) -> Result<Vec<Outcome<&'t T::Part>>, Error> {
+        let (text, mut fault) = (json.bytes(), raw::Fault::default());
+        self.outcomes
+            .resize(self.spans.len(), raw::Outcome::default());
+        // SAFETY: as in `look_up`, with as many outcomes as is said.
+        let status = unsafe {
+            call(
+                text.as_ptr(),
+                text.len(),
+                &mut self.kept,
+                self.outcomes.as_mut_ptr(),
+                self.outcomes.len(),
+                &mut fault,
+            )
+        };
+        judge(status, fault)?;
+        Ok(self
+            .outcomes
+            .iter()
+            .map(|&outcome| told(json, outcome))
+            .collect())
     }
 
     fn look_up<'f, 't, T: Text + ?Sized>(
@@ -214,6 +265,11 @@ impl<'t, T: Text + ?Sized> Valid<'t, T> {
     /// takes no memory.
     pub fn find_with<'f>(self, finder: &'f mut Finder) -> Result<Found<'f, 't, T>, Error> {
         finder.look_up(raw::jihluka_get_many_with_unchecked, self.text())
+    }
+
+    /// As [`Finder::get_each`], of a text that is validated already.
+    pub fn get_each_with(self, finder: &mut Finder) -> Result<Vec<Outcome<&'t T::Part>>, Error> {
+        finder.tell_each(raw::jihluka_get_each_with_unchecked, self.text())
     }
 }
 

@@ -6,6 +6,7 @@ mod finder;
 mod index;
 mod items;
 mod made;
+mod outcome;
 mod path;
 mod raw;
 mod rows;
@@ -17,12 +18,14 @@ pub use finder::{Finder, Found, Keys};
 pub use index::{index, Entry, Label};
 pub use items::{elements, members, Elements, Members};
 pub use made::{edit, fill, indent, minify, patch};
+pub use outcome::Outcome;
 pub use path::{Node, Path, Paths};
 pub use rows::{rows, Rows};
 pub use text::{Span, Text};
 pub use value::{as_i64, as_str, as_u64, count, type_of, Type};
 
 use error::judge;
+use outcome::told;
 use text::part_of;
 
 fn look_up<'t, T: Text + ?Sized>(
@@ -74,6 +77,35 @@ fn look_up_many<'t, T: Text + ?Sized>(
     Ok(spans.into_iter().map(|span| part_of(json, span)).collect())
 }
 
+fn tell_each<'t, T: Text + ?Sized>(
+    call: raw::GetEach,
+    json: &'t T,
+    paths: &Paths,
+) -> Result<Vec<Outcome<&'t T::Part>>, Error> {
+    let (text, lines) = (json.bytes(), &paths.lines);
+    let (mut outcomes, mut fault) = (
+        vec![raw::Outcome::default(); paths.count],
+        raw::Fault::default(),
+    );
+    // SAFETY: as in `look_up`, and there are as many outcomes as is said.
+    let status = unsafe {
+        call(
+            text.as_ptr(),
+            text.len(),
+            lines.as_ptr(),
+            lines.len(),
+            outcomes.as_mut_ptr(),
+            outcomes.len(),
+            &mut fault,
+        )
+    };
+    judge(status, fault)?;
+    Ok(outcomes
+        .into_iter()
+        .map(|outcome| told(json, outcome))
+        .collect())
+}
+
 /// The text of the value to which the path leads. What follows it in the text may be anything.
 ///
 /// It is an [`Error::Document`] where the path leads nowhere, or the text is broken before the value ends.
@@ -108,6 +140,27 @@ pub fn get_many<'t, T: Text + ?Sized>(
     paths: &Paths,
 ) -> Result<Vec<Option<&'t T::Part>>, Error> {
     look_up_many(raw::jihluka_get_many, json, paths)
+}
+
+/// Where each of the paths leads, in their order, whatever the others lead to.
+///
+/// It is an [`Error::Document`] where the text is broken before all paths are settled: if a key is missing, to the end
+/// of its value.
+///
+/// ```
+/// use jihluka::{get_each, path, Code, Outcome, Paths};
+/// let paths = Paths::new([path!["level"], path!["user"], path!["http", "status"]])?;
+/// assert_eq!(
+///     get_each(r#"{"level":"info","http":null}"#, &paths)?,
+///     [Outcome::Found(r#""info""#), Outcome::Missing(27), Outcome::Fails(Code(100), 26)],
+/// );
+/// # Ok::<(), jihluka::Error>(())
+/// ```
+pub fn get_each<'t, T: Text + ?Sized>(
+    json: &'t T,
+    paths: &Paths,
+) -> Result<Vec<Outcome<&'t T::Part>>, Error> {
+    tell_each(raw::jihluka_get_each, json, paths)
 }
 
 /// A text that is one value in UTF-8 with nothing but white space round it: what [`validate`] gives.
@@ -155,5 +208,10 @@ impl<'t, T: Text + ?Sized> Valid<'t, T> {
     /// As [`get_many`], of a text that is validated already: each path is followed by itself.
     pub fn get_many(self, paths: &Paths) -> Result<Vec<Option<&'t T::Part>>, Error> {
         look_up_many(raw::jihluka_get_many_unchecked, self.0, paths)
+    }
+
+    /// As [`get_each`], of a text that is validated already: each path is followed by itself.
+    pub fn get_each(self, paths: &Paths) -> Result<Vec<Outcome<&'t T::Part>>, Error> {
+        tell_each(raw::jihluka_get_each_unchecked, self.0, paths)
     }
 }

@@ -12,6 +12,19 @@ pub(crate) struct Fault {
     pub offset: usize,
 }
 
+/// `jihluka_outcome`.
+#[repr(C)]
+#[derive(Clone, Copy, Debug, Default)]
+pub(crate) struct Outcome {
+    pub status: u32,
+    pub code: u32,
+    pub span: Span,
+    pub place: usize,
+}
+
+pub(crate) const PATH_MISSING: u32 = 1;
+pub(crate) const PATH_FAILS: u32 = 2;
+
 #[repr(C)]
 #[derive(Clone, Copy, Debug, Default)]
 pub(crate) struct Items {
@@ -103,6 +116,25 @@ pairs! {
         paths_length: usize,
         spans: *mut Span,
         span_count: usize,
+        error: *mut Fault,
+    );
+    /// What the two calls take that tell each of many paths where it leads.
+    GetEach: jihluka_get_each, jihluka_get_each_unchecked(
+        json: *const u8,
+        json_length: usize,
+        paths: *const u8,
+        paths_length: usize,
+        outcomes: *mut Outcome,
+        outcome_count: usize,
+        error: *mut Fault,
+    );
+    /// The same of paths that are kept.
+    GetEachWith: jihluka_get_each_with, jihluka_get_each_with_unchecked(
+        json: *const u8,
+        json_length: usize,
+        paths: *mut Kept,
+        outcomes: *mut Outcome,
+        outcome_count: usize,
         error: *mut Fault,
     );
     /// What the two calls for paths that are kept take.

@@ -208,7 +208,7 @@ fn the_header_says_the_same() {
         })
         .map(|(name, number)| (name, number.parse().unwrap()))
         .collect();
-    assert_eq!(numbers.len(), 19);
+    assert_eq!(numbers.len(), 21);
     assert!(numbers.iter().all(|&(name, number)| has(name, number)));
     let version = format!("#define JIHLUKA_VERSION \"{}\"", env!("CARGO_PKG_VERSION"));
     assert!(header.lines().any(|line| line == version));

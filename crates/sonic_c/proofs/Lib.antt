@@ -1,6 +1,7 @@
 mod BegunLemmas
 mod CodeLemmas
 mod ContainerLemmas
+mod EachLemmas
 mod EntryLemmas
 mod FillLemmas
 mod KeepLemmas

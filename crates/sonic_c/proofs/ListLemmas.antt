@@ -26,7 +26,7 @@ use Rattle.sonic_c.specs.declared.span.Span.{Span}
 use Rattle.sonic_c.proofs.ToldLemmas.{numbers_at}
 
 -- each path leads to one outcome
-lead_long : {r : KeyRule} {t : List ℕ} {paths : List Path} {os : List Outcome} → AllLeadBy r t paths os → length os ≡ length paths
+pub lead_long : {r : KeyRule} {t : List ℕ} {paths : List Path} {os : List Outcome} → AllLeadBy r t paths os → length os ≡ length paths
 lead_long no_more = refl
 lead_long (one_more leads more) = ap suc (lead_long more)
 

@@ -1,5 +1,6 @@
 -- What serves private clauses and invariants alone.
 pub mod Begun
+pub mod Each
 pub mod Items
 pub mod Kept
 pub mod Lists

@@ -2,6 +2,7 @@ pub mod Begun
 pub mod Changes
 pub mod Codes
 pub mod Containers
+pub mod Each
 pub mod Fills
 pub mod Indexes
 pub mod Internal

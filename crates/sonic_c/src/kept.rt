@@ -2,27 +2,31 @@
 ghost use Rattle.std.specs.Prelude.{◌≡◌, ◌≢◌, length, map, [], IfOk};
 ghost use Rattle.sonic_pointer.specs.declared.rule.KeyRule.TheVariants.{First};
 ghost use Rattle.sonic_text.specs.Documents.{StartsWithUtf8Value};
+ghost use Rattle.sonic_c.specs.Each.{IsEachListCall, told_outcome};
 ghost use Rattle.sonic_c.specs.Lists.{IsListCall};
 ghost use Rattle.sonic_c.specs.Statuses.{status_ok, status_no_memory};
 ghost use Rattle.sonic_c.specs.Internal.Told.{shown_outcome};
 
+use crate::each::tell_each_unchecked;
 use crate::fault::{Fault, tell};
 use crate::many::tell_all;
+use crate::outcome::Outcome;
 use crate::span::{Span, shown};
 use crate::status::{OK, WRONG_COUNT};
-use sonic_find::{WalkBuffers, find_many_by, find_many_unchecked};
+use sonic_find::{PathOutcome, WalkBuffers, find_each_by, find_many_by, find_many_unchecked};
 use sonic_pointer::{KeyRule, PointerTree};
 use std::alloc::{AllocError, Global};
 use std::marker::Model;
 
 // A tree of paths, which of equal keys counts, and where a walk puts what it finds: one that judges what
-// it passes to the buffers, and one that doesn't to the slots.
+// it passes to the buffers, and one that doesn't to the slots, or to what each path is told.
 #[derive(Drop)]
 pub(crate) struct Kept {
     tree: PointerTree,
     rule: KeyRule,
     buffers: WalkBuffers,
     slots: Vec<Option<sonic_find::Span>>,
+    told: Vec<PathOutcome<sonic_find::Span>>,
 }
 
 impl Model for Kept {
@@ -42,12 +46,14 @@ impl Kept {
         ensures { IfOk result (λ kept. kept ≡ record { rule = rule; paths = tree }) }
     {
         let slots = vec![in alloc; None; tree.size()]?;
+        let told = vec![in alloc; PathOutcome::none(); tree.size()]?;
         let buffers = WalkBuffers::new(alloc);
         Ok(Kept {
             tree,
             rule,
             buffers,
             slots,
+            told,
         })
     }
 
@@ -129,6 +135,86 @@ impl Kept {
             Err(reason) => tell(error, &reason),
         }
     }
+
+    // Tells each of the paths where it leads in a text.
+    pub(crate) fn follow_each(
+        &mut self,
+        alloc: Global,
+        json: &[u8],
+        outcomes: &mut [Outcome],
+        error: &mut Fault,
+    ) -> u32
+        ensures call { IsEachListCall json.now self.old
+            (record { outcomes = outcomes.old; error = error.old })
+            (record { outcomes = outcomes.new; error = error.new }) result }
+        ensures no_paths { self.old.paths ≡ [] → outcomes.old ≡ [] → result ≡ status_ok }
+        ensures kept { self.new ≡ self.old }
+    {
+        let len = self.len();
+        if outcomes.len() != len {
+            *error = Fault::at_line(len);
+            return WRONG_COUNT;
+        }
+        self.walk_each(alloc, json, outcomes, error)
+    }
+
+    // The same in a text that is known to begin with a value in UTF-8.
+    pub(crate) fn follow_each_unchecked(
+        &mut self,
+        alloc: Global,
+        json: &[u8],
+        outcomes: &mut [Outcome],
+        error: &mut Fault,
+    ) -> u32
+        requires { StartsWithUtf8Value json.now }
+        ensures call { IsEachListCall json.now self.old
+            (record { outcomes = outcomes.old; error = error.old })
+            (record { outcomes = outcomes.new; error = error.new }) result }
+        ensures memory { self.old.rule ≡ First → result ≢ status_no_memory }
+        ensures no_paths { self.old.paths ≡ [] → outcomes.old ≡ [] → result ≡ status_ok }
+        ensures kept { self.new ≡ self.old }
+    {
+        let len = self.len();
+        if outcomes.len() != len {
+            *error = Fault::at_line(len);
+            return WRONG_COUNT;
+        }
+        match self.rule {
+            KeyRule::First => {
+                tell_each_unchecked(json, &self.tree, self.told.as_mut_slice(), outcomes);
+                OK
+            }
+            _ => self.walk_each(alloc, json, outcomes, error),
+        }
+    }
+
+    // Tells each of the paths where it leads in a text, where as many outcomes are there. For none the
+    // text isn't read.
+    fn walk_each(
+        &mut self,
+        alloc: Global,
+        json: &[u8],
+        outcomes: &mut [Outcome],
+        error: &mut Fault,
+    ) -> u32
+        requires { length self.old.paths ≡ length outcomes.old }
+        ensures call { IsEachListCall json.now self.old
+            (record { outcomes = outcomes.old; error = error.old })
+            (record { outcomes = outcomes.new; error = error.new }) result }
+        ensures no_paths { self.old.paths ≡ [] → result ≡ status_ok }
+        ensures kept { self.new ≡ self.old }
+    {
+        if outcomes.is_empty() {
+            return OK;
+        }
+        match find_each_by(alloc, &mut self.buffers, json, &self.tree, self.rule) {
+            Ok(()) => {
+                tell_from_buffers(outcomes, &self.buffers);
+                OK
+            }
+            Err(reason) => tell(error, &reason),
+        }
+    }
 }
 
 // Tells where the paths of a tree lead by the first of equal keys, where as many spans are there, in a
@@ -159,5 +245,15 @@ fn fill_from_buffers(spans: &mut [Span], buffers: &WalkBuffers)
 {
     for i in 0..buffers.len() {
         spans[i] = shown(buffers.at(i).found());
+    }
+}
+
+// Writes what each path was told to the caller's array.
+fn tell_from_buffers(outcomes: &mut [Outcome], buffers: &WalkBuffers)
+    requires { length buffers.now ≡ length outcomes.old }
+    ensures { outcomes.new ≡ map told_outcome buffers.now }
+{
+    for i in 0..buffers.len() {
+        outcomes[i] = Outcome::of(buffers.at(i));
     }
 }

@@ -12,6 +12,8 @@ mod code;
 mod count;
 // The text of a document, without white space or over lines.
 mod document;
+// Where each of many paths leads, whatever the others lead to.
+mod each;
 // The text of a document with edits made in it.
 mod edit;
 // The errors that a caller is told.
@@ -34,6 +36,8 @@ mod kind;
 mod many;
 // The integer that a number is.
 mod number;
+// Where a path leads, as a caller is told it.
+mod outcome;
 // The value of a document that is to be changed, and its text.
 mod owned;
 // The text of a document with a patch made on it.
@@ -66,6 +70,7 @@ mod with;
 pub use fault::Fault;
 pub use index::Entry;
 pub use items::Items;
+pub use outcome::Outcome;
 pub use paths::Paths;
 pub use span::Span;
 pub use walk::Item;

@@ -103,7 +103,12 @@ fn follow_unchecked(
 }
 
 // The tree of the paths that the lines say, if there are so many.
-fn tree_of(alloc: Global, lines: &[u8], count: usize, error: &mut Fault) -> Result<PointerTree, u32>
+pub(crate) fn tree_of(
+    alloc: Global,
+    lines: &[u8],
+    count: usize,
+    error: &mut Fault,
+) -> Result<PointerTree, u32>
     ensures says { IfOk result (λ tree. Say lines.now tree) }
     ensures count { IfOk result (λ tree. length tree ≡ count) }
     ensures kept { OnOk result (error.new ≡ error.old) }

@@ -19,6 +19,7 @@ from ._finder import Finder
 from ._index import Entry, Index, index
 from ._made import edit, fill, indent, minify, patch
 from ._native import Fault, Span, code_text
+from ._outcomes import told_of as _told_of
 from ._paths import Path as Path
 from ._paths import Paths
 from ._paths import line_of as _line
@@ -33,8 +34,8 @@ __version__ = "0.1.0"
 __all__ = [
     "BrokenText", "Cause", "Code", "Document", "DocumentError", "EditError", "Entry", "Finder", "Index", "JihlukaError",
     "Mismatch", "NotFound", "NotInteger", "NumberError", "PatchError", "PathError", "Paths", "Rows", "SchemaError", "Type",
-    "WidthError", "WrongType", "as_int", "as_str", "code_text", "count", "edit", "elements", "fill", "get", "get_many",
-    "indent", "index", "members", "minify", "patch", "rows", "type_of", "validate",
+    "WidthError", "WrongType", "as_int", "as_str", "code_text", "count", "edit", "elements", "fill", "get", "get_each",
+    "get_many", "indent", "index", "members", "minify", "patch", "rows", "type_of", "validate",
 ]  # fmt: skip
 
 for _kind in (
@@ -92,6 +93,25 @@ def get_many(text: Any, paths: Union[Paths, Iterable[Path]]) -> Any:
     return _get_many("jihluka_get_many", text, _native.source_of(text), paths)
 
 
+@overload
+def get_each(text: str, paths: Union[Paths, Iterable[Path]]) -> List[Union[str, DocumentError, None]]: ...
+@overload
+def get_each(text: bytes, paths: Union[Paths, Iterable[Path]]) -> List[Union[bytes, DocumentError, None]]: ...  # type: ignore[overload-overlap]
+@overload
+def get_each(text: Buffer, paths: Union[Paths, Iterable[Path]]) -> List[Union[memoryview, DocumentError, None]]: ...
+def get_each(text: Any, paths: Union[Paths, Iterable[Path]]) -> Any:
+    """For each path, in their order, the text of the value, None where an object lacks its key, or the NotFound or Mismatch
+    with which the path fails, whatever the others lead to.
+
+    Raises BrokenText where the text is broken before all paths are settled: if a key is missing, to its end.
+
+    >>> get_each('{"level": "info", "http": null}', [["level"], ["user"], ["http", "status"]])
+    ['"info"', None, Mismatch(100, 1, 30, 29)]
+    """
+    source = _native.source_of(text)
+    return _told_of(text, source, _ready(paths)._outcomes("jihluka_get_each", source))
+
+
 class Document(Generic[T]):
     """A text that is one value in UTF-8, which is validated once, so that look-ups in it validate nothing again.
     It is a str, bytes or a memoryview of bytes, as nothing may write to it."""
@@ -119,9 +139,19 @@ class Document(Generic[T]):
         """As `get_many`, of a text that is validated already: each path is followed by itself."""
         return _get_many("jihluka_get_many_unchecked", self._text, self._source, paths)
 
+    def get_each(self, paths: Union[Paths, Iterable[Path]]) -> List[Union[T, DocumentError, None]]:
+        """As `get_each`, of a text that is validated already: each path is followed by itself."""
+        return _told_of(self._text, self._source, _ready(paths)._outcomes("jihluka_get_each_unchecked", self._source))
+
     def get_many_with(self, finder: Finder) -> List[Optional[T]]:
         """As the finder's `get_many`, of a text that is validated already. By the "first" of equal keys each path is
         followed by itself; by another rule they are followed together, as there."""
         if not isinstance(finder, Finder):
             raise TypeError(f"a Finder is asked for, and not {type(finder).__name__}")
         return finder._find("jihluka_get_many_with_unchecked", self._text, self._source)
+
+    def get_each_with(self, finder: Finder) -> List[Union[T, DocumentError, None]]:
+        """As the finder's `get_each`, of a text that is validated already."""
+        if not isinstance(finder, Finder):
+            raise TypeError(f"a Finder is asked for, and not {type(finder).__name__}")
+        return finder._tell("jihluka_get_each_with_unchecked", self._text, self._source)

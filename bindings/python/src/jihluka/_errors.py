@@ -201,7 +201,8 @@ class PathError(ValueError):
 _NOT_FOUND = range(Code.GET_IN_EMPTY_OBJECT, Code.GET_INDEX_OUT_OF_ARRAY + 1)
 
 
-def _error_of(fault: Fault) -> DocumentError:
+def error_of(fault: Fault) -> DocumentError:
+    """The error that the numbers say."""
     kind = Mismatch if fault.code >= Code.MISMATCH else NotFound if fault.code in _NOT_FOUND else BrokenText
     return kind(fault.code, fault.line, fault.column, fault.offset)
 
@@ -211,7 +212,7 @@ def judge(status: int, fault: Fault, paths: Sequence[Any] = (), index: int = 0) 
     if status == _native.OK:
         return
     if status == _native.DOCUMENT_ERROR:
-        raise _error_of(fault)
+        raise error_of(fault)
     if status == _native.BAD_LINES:
         raise PathError(paths[index], index)
     if status == _native.NO_MEMORY:

@@ -7,7 +7,9 @@ from ctypes import byref
 from typing import TYPE_CHECKING, Any, Iterable, List, Literal, NoReturn, Optional, Union, overload
 
 from . import _native
+from ._errors import DocumentError
 from ._native import Fault, Kept
+from ._outcomes import told_of
 from ._paths import Path, Paths, ready
 
 if TYPE_CHECKING:
@@ -72,14 +74,34 @@ class Finder:
         error it may be asked on."""
         return self._find("jihluka_get_many_with", text, _native.source_of(text))
 
+    @overload
+    def get_each(self, text: str) -> List[Union[str, DocumentError, None]]: ...
+    @overload
+    def get_each(self, text: bytes) -> List[Union[bytes, DocumentError, None]]: ...  # type: ignore[overload-overlap]
+    @overload
+    def get_each(self, text: Buffer) -> List[Union[memoryview, DocumentError, None]]: ...
+    def get_each(self, text: Any) -> Any:
+        """As `get_each` for the paths, but that `keys` says which of equal keys counts: by "refuse" a path fails that has
+        a key twice.
+
+        Raises BrokenText where the text is broken before all paths are settled, and ValueError after `close`."""
+        return self._tell("jihluka_get_each_with", text, _native.source_of(text))
+
     def _find(self, name: str, text: Any, source: _native.Source) -> List[Any]:
-        spans, fault = self._paths._room(), Fault()
+        return _native.parts_of(text, source, self._ask(name, source, self._paths._room()))
+
+    def _tell(self, name: str, text: Any, source: _native.Source) -> List[Any]:
+        return told_of(text, source, self._ask(name, source, self._paths._outcome_room()))
+
+    def _ask(self, name: str, source: _native.Source, cells: Any) -> Any:
+        """The cells of the paths, one for each, which a call for what is kept has filled."""
+        fault = Fault()
         with self._lock:
             if not self._free.alive:
                 raise ValueError("the finder is closed")
-            status = _native.call(name, source, byref(self._kept), spans, len(spans), byref(fault))
+            status = _native.call(name, source, byref(self._kept), cells, len(cells), byref(fault))
         self._paths._judge(status, fault)
-        return _native.parts_of(text, source, spans)
+        return cells
 
     def close(self) -> None:
         """Gives back what it took. It isn't asked any more, but may be closed again."""

@@ -23,6 +23,16 @@ class Span(ctypes.Structure):
     _fields_ = [("start", c_size_t), ("end", c_size_t)]
 
 
+class Outcome(ctypes.Structure):
+    """jihluka_outcome."""
+
+    _fields_ = [("status", c_uint32), ("code", c_uint32), ("span", Span), ("place", c_size_t)]
+
+
+# What becomes of a path.
+PATH_FOUND, PATH_MISSING, PATH_FAILS = 0, 1, 2
+
+
 class Fault(ctypes.Structure):
     """jihluka_error."""
 
@@ -66,10 +76,14 @@ CALLS: Dict[str, Any] = {
     "jihluka_get_unchecked": (c_uint32, [*_TEXT, *_TEXT, POINTER(Span), POINTER(Fault)]),
     "jihluka_get_many": (c_uint32, [*_TEXT, *_TEXT, POINTER(Span), c_size_t, POINTER(Fault)]),
     "jihluka_get_many_unchecked": (c_uint32, [*_TEXT, *_TEXT, POINTER(Span), c_size_t, POINTER(Fault)]),
+    "jihluka_get_each": (c_uint32, [*_TEXT, *_TEXT, POINTER(Outcome), c_size_t, POINTER(Fault)]),
+    "jihluka_get_each_unchecked": (c_uint32, [*_TEXT, *_TEXT, POINTER(Outcome), c_size_t, POINTER(Fault)]),
     "jihluka_paths_new": (c_uint32, [*_TEXT, c_uint32, POINTER(Kept), POINTER(Fault)]),
     "jihluka_paths_free": (None, [POINTER(Kept)]),
     "jihluka_get_many_with": (c_uint32, [*_TEXT, POINTER(Kept), POINTER(Span), c_size_t, POINTER(Fault)]),
     "jihluka_get_many_with_unchecked": (c_uint32, [*_TEXT, POINTER(Kept), POINTER(Span), c_size_t, POINTER(Fault)]),
+    "jihluka_get_each_with": (c_uint32, [*_TEXT, POINTER(Kept), POINTER(Outcome), c_size_t, POINTER(Fault)]),
+    "jihluka_get_each_with_unchecked": (c_uint32, [*_TEXT, POINTER(Kept), POINTER(Outcome), c_size_t, POINTER(Fault)]),
     "jihluka_type": (c_uint32, [*_TEXT, POINTER(c_uint32), POINTER(Fault)]),
     "jihluka_u64": (c_uint32, [*_TEXT, POINTER(c_uint64), POINTER(Fault)]),
     "jihluka_i64": (c_uint32, [*_TEXT, POINTER(c_int64), POINTER(Fault)]),
@@ -160,9 +174,14 @@ def _of_kind(text: Any, part: Source) -> Any:
     return bytes(part) if isinstance(text, bytes) else part
 
 
+def part_between(text: Any, source: Source, start: int, end: int) -> Any:
+    """The part of a text from one place of its bytes to before another, of the text's kind."""
+    return _of_kind(text, source[start:end])
+
+
 def part_of(text: Any, source: Source, span: Span) -> Any:
     """The part of a text that the span of its bytes has, of the text's kind."""
-    return _of_kind(text, source[span.start : span.end])
+    return part_between(text, source, span.start, span.end)
 
 
 def parts_of(text: Any, source: Source, spans: ctypes.Array[Span]) -> List[Any]:

@@ -3,11 +3,11 @@ from __future__ import annotations
 
 import json
 from ctypes import Array, byref
-from typing import Iterable, Iterator, Sequence, Union
+from typing import Any, Iterable, Iterator, Sequence, Union
 
 from . import _native
 from ._errors import judge
-from ._native import Fault, Span
+from ._native import Fault, Outcome, Span
 
 Path = Sequence[Union[str, int]]
 
@@ -23,7 +23,7 @@ class Paths:
     """Paths that are looked up again and again, made ready and judged once. Any number of threads may use
     them at once."""
 
-    __slots__ = ("_paths", "_lines", "_room")
+    __slots__ = ("_paths", "_lines", "_room", "_outcome_room")
 
     def __init__(self, paths: Iterable[Path]) -> None:
         self._fill(paths)
@@ -32,7 +32,7 @@ class Paths:
     def _fill(self, paths: Iterable[Path]) -> Paths:
         self._paths = list(paths)
         self._lines = b"".join(line_of(path) + b"\n" for path in self._paths)
-        self._room = Span * len(self._paths)
+        self._room, self._outcome_room = Span * len(self._paths), Outcome * len(self._paths)
         return self
 
     def __len__(self) -> int:
@@ -49,11 +49,18 @@ class Paths:
         judge(status, fault, self._paths, fault.line - 1)
 
     def _spans(self, name: str, source: _native.Source, is_judged: bool = True) -> Array[Span]:
-        spans, fault = self._room(), Fault()
-        status = _native.call(name, source, self._lines, len(self._lines), spans, len(spans), byref(fault))
+        return self._ask(name, source, self._room(), is_judged)
+
+    def _outcomes(self, name: str, source: _native.Source) -> Array[Outcome]:
+        return self._ask(name, source, self._outcome_room(), is_judged=True)
+
+    def _ask(self, name: str, source: _native.Source, cells: Any, is_judged: bool) -> Any:
+        """The cells of the paths, one for each, which a call for their lines has filled."""
+        fault = Fault()
+        status = _native.call(name, source, self._lines, len(self._lines), cells, len(cells), byref(fault))
         if is_judged or status != _native.DOCUMENT_ERROR:
             self._judge(status, fault)
-        return spans
+        return cells
 
 
 def ready(paths: Union[Paths, Iterable[Path]]) -> Paths:
