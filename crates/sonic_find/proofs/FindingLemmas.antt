@@ -7,7 +7,7 @@ use Rattle.sonic_text.specs.Paths.{Path}
 use Rattle.sonic_parser.specs.declared.value_span.ValueSpan.{ValueSpan}
 use Rattle.sonic_find.specs.Answers.{Span, spans, IsAnswer, ComeTo}
 use Rattle.sonic_find.specs.Internal.FirstAnswers.{AllLead}
-use Rattle.sonic_find.specs.Answers.AllLeadBy.{no_more, one_more}
+use Rattle.sonic_find.specs.Answers.AllLeadFrom.{no_more, one_more}
 use Rattle.sonic_find.specs.Answers.ComeTo.{no_path, finding}
 use Rattle.sonic_find.specs.Found.{slot_in, slots_of, spans_of}
 use Rattle.sonic_find.specs.Outcomes.{told_span}

@@ -47,7 +47,7 @@ broken_other = record { not_end = λ e. cc; not_of_value = λ of. of.2 refl }
 duplicate_other : IsOther DuplicateKey
 duplicate_other = record { not_end = λ e. cc; not_of_value = λ of. of.3 refl }
 
-unknown_other : IsOther GetUnknownKeyInObject
+pub unknown_other : IsOther GetUnknownKeyInObject
 unknown_other = record { not_end = λ e. cc; not_of_value = λ of. let y = of.0 in cc }
 
 -- so does a stop with such a code
@@ -72,7 +72,7 @@ past_other q Array = record { not_end = λ e. cc; not_of_value = λ of. let y = 
 past_other q Object = tt
 
 -- at a value of another kind
-mismatch_other : (note : Note) → IsOther (Message note)
+pub mismatch_other : (note : Note) → IsOther (Message note)
 mismatch_other note = record { not_end = λ e. cc; not_of_value = λ of. let y = of.0 in cc }
 
 -- where a node leads nowhere
@@ -82,7 +82,7 @@ nowhere_other t i q kind =
     (either FailsOther (byte t i == opening kind) _ _ (past_other q kind) (mismatch_other _))
 
 -- where a path fails
-fails_other : {rule : KeyRule} {t : List ℕ} (path : Path) {i : ℕ} {s : Stop} → EvaluatesBy rule t i path (fails s) → IsOther s.code
+pub fails_other : {rule : KeyRule} {t : List ℕ} (path : Path) {i : ℕ} {s : Stop} → EvaluatesBy rule t i path (fails s) → IsOther s.code
 fails_other [] e = elim e [ ]
 fails_other (node ∷ rest) (goes_on l a) = fails_other rest a
 fails_other (key k ∷ rest) (repeats y) = duplicate_other

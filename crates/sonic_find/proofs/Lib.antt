@@ -1,5 +1,7 @@
 -- What the answers of a list of paths rest on: one answer, the answer of a walk, and the causes of a refusal.
 pub mod AnswerLemmas
+-- What the quick look at the items of a table rests on.
+pub mod ColumnLemmas
 -- Whether a text is a valid document, and the one reason why it is none.
 pub mod DocumentLemmas
 -- How the slots of many paths are filled in a text that starts with a value.
@@ -18,6 +20,8 @@ pub mod PartLemmas
 pub mod PathLemmas
 -- What comes before and after the items of a whole container.
 pub mod SeparatorLemmas
+-- What tables rest on: rows, and containers.
+pub mod TableLemmas
 -- What paths come to in a text that is known to start with a value.
 pub mod UncheckedLemmas
 -- Which parts of a text in UTF-8 are UTF-8.

@@ -6,15 +6,20 @@ use Rattle.sonic_error.specs.Texts.{valid_up_to}
 use Rattle.sonic_text.specs.declared.stop.Stop.{Stop}
 use Rattle.sonic_text.specs.Documents.{IsWhole, IsRootFault}
 use Rattle.sonic_text.specs.Paths.{Path}
-use Rattle.sonic_find.specs.Paths.{Outcome, found, lacks, fails, cut, Leads, LeadsUnder}
+use Rattle.sonic_text.specs.Places.{after_space}
+use Rattle.sonic_find.specs.Paths.{Outcome, found, lacks, fails, cut, EvaluatesBy, Leads}
 use Rattle.sonic_pointer.specs.declared.rule.KeyRule.{KeyRule}
 use Rattle.sonic_pointer.specs.declared.rule.KeyRule.TheVariants.{First}
 
--- where each path leads under a rule, in order
-pub data AllLeadBy (r : KeyRule) (t : List ℕ) : List Path → List Outcome → Type 0 where
-  no_more : AllLeadBy r t [] []
-  one_more : {path : Path} {paths : List Path} {o : Outcome} {os : List Outcome} → LeadsUnder r t path o → AllLeadBy r t paths os
-      → AllLeadBy r t (path ∷ paths) (o ∷ os)
+-- where each path leads under a rule from the place i, at which a value is expected, in order
+pub data AllLeadFrom (r : KeyRule) (t : List ℕ) (i : ℕ) : List Path → List Outcome → Type 0 where
+  no_more : AllLeadFrom r t i [] []
+  one_more : {path : Path} {paths : List Path} {o : Outcome} {os : List Outcome} → EvaluatesBy r t i path o → AllLeadFrom r t i paths os
+      → AllLeadFrom r t i (path ∷ paths) (o ∷ os)
+
+-- and from the first byte that is no white space
+abbrev pub AllLeadBy : KeyRule → List ℕ → List Path → List Outcome → Type 0
+AllLeadBy r t paths os = AllLeadFrom r t (after_space t 0) paths os
 
 -- some path fails at this stop: at the least place of all that fail, and of those that fail there it is the first
 pub data IsNearest : List Outcome → Stop → Type 0 where

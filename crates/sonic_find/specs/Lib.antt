@@ -12,3 +12,4 @@ pub mod Outcomes
 pub mod Parts
 pub mod Paths
 pub mod Spans
+pub mod Tables

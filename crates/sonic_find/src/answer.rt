@@ -10,7 +10,7 @@ ghost use Rattle.sonic_find.specs.declared.span.Span.{Span};
 ghost use Rattle.sonic_find.specs.Answers.{IsAnswerBy, Answer};
 ghost use Rattle.sonic_find.specs.Causes.{IsAnswerableBy, IsRefusalBy};
 ghost use Rattle.sonic_find.specs.Found.{AreParts, FlagEscapes, slots_of, spans_of, told_at};
-ghost use Rattle.sonic_find.specs.Outcomes.{NoneTold};
+ghost use Rattle.sonic_find.specs.Outcomes.{EachAnswer, IsEachAnswerBy, NoneTold};
 ghost use Rattle.sonic_find.specs.Internal.Walk.{root_point, whole_question, slot_need, IsStop, IsError, IsFurthest, IsRefused, IsAllReached, AllReached};
 
 use crate::outcome::PathOutcome;
@@ -81,6 +81,8 @@ pub(crate) fn locate_in<'de, I: JsonInput<'de>>(
 ) -> Result<(), Fault>
     ensures ok { OnOk result (IsAnswerBy rule (I.JsonInput.content json) I.JsonInput.is_bytes
         tree.now (Answer.spans (spans_of memory.new.found.items))) }
+    ensures each { OnOk result (IsEachAnswerBy rule (I.JsonInput.content json) I.JsonInput.is_bytes
+        tree.now (EachAnswer.outcomes (slots_of memory.new.found.items))) }
     ensures escaped { OnOk result (FlagEscapes (I.JsonInput.content json) memory.new.found.items) }
     ensures parts { OnOk result (AreParts (I.JsonInput.content json) memory.new.found.items) }
     ensures none_fails { OnOk result (NoneTold (slots_of memory.new.found.items)) }
@@ -113,6 +115,8 @@ fn answer<'de, I: JsonInput<'de>>(
 ) -> Result<(), Fault>
     ensures ok { OnOk result (IsAnswerBy rule (I.JsonInput.content json.now) I.JsonInput.is_bytes
         tree.now (Answer.spans (spans_of memory.new.found.items))) }
+    ensures each { OnOk result (IsEachAnswerBy rule (I.JsonInput.content json.now) I.JsonInput.is_bytes
+        tree.now (EachAnswer.outcomes (slots_of memory.new.found.items))) }
     ensures escaped { OnOk result (FlagEscapes (I.JsonInput.content json.now) memory.new.found.items) }
     ensures parts { OnOk result (AreParts (I.JsonInput.content json.now) memory.new.found.items) }
     ensures none_fails { OnOk result (NoneTold (slots_of memory.new.found.items)) }

@@ -77,8 +77,8 @@ impl WalkBuffers {
 /// used again.
 ///
 /// With `KeyRule::First` it is what [`find_many`](crate::find_many) answers, with its errors. Each path is
-/// told that it is `Found` or `Missing`. After an error the buffers are empty: nothing of what an earlier
-/// walk found is left.
+/// told that it is `Found` or `Missing`, as [`find_each_by`] tells it. After an error the buffers are empty:
+/// nothing of what an earlier walk found is left.
 ///
 /// With the path `["a"]` over `{"a":1,"a":2}` they hold `Found` from 5 to 6 by `First`, and from 11 to 12 by
 /// `Last`.
@@ -91,6 +91,8 @@ pub fn find_many_by<'de, I: JsonInput<'de>>(
 ) -> Result<(), Error>
     ensures ok { OnOk result (IsAnswerBy rule (I.JsonInput.content json) I.JsonInput.is_bytes tree.now
         (Answer.spans (map told_span buffers.new))) }
+    ensures each { OnOk result (IsEachAnswerBy rule (I.JsonInput.content json) I.JsonInput.is_bytes
+        tree.now (EachAnswer.outcomes buffers.new)) }
     ensures parts { OnOk result (AreFoundParts (I.JsonInput.content json) buffers.new) }
     ensures none_fails { OnOk result (NoneTold buffers.new) }
     ensures err { IfErr result (IsRefusalBy rule (I.JsonInput.content json) I.JsonInput.is_bytes tree.now) }
@@ -121,6 +123,8 @@ pub fn fill_buffers<'de, I: JsonInput<'de>>(
 ) -> Result<(), Fault>
     ensures ok { OnOk result (IsAnswerBy rule (I.JsonInput.content json) I.JsonInput.is_bytes tree.now
         (Answer.spans (map told_span buffers.new))) }
+    ensures each { OnOk result (IsEachAnswerBy rule (I.JsonInput.content json) I.JsonInput.is_bytes
+        tree.now (EachAnswer.outcomes buffers.new)) }
     ensures parts { OnOk result (AreFoundParts (I.JsonInput.content json) buffers.new) }
     ensures none_fails { OnOk result (NoneTold buffers.new) }
     ensures err { IfErr result (IsStopFor (λ s. IsAnswerBy rule (I.JsonInput.content json)

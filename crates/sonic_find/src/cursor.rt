@@ -123,6 +123,14 @@ impl<'de> Cursor<'de> {
         self.parser.offset()
     }
 
+    /// Moves the cursor to a place: the index of a byte, or the text's length.
+    pub fn set_place(&mut self, place: usize)
+        requires { place ≤ length self.old.text }
+        ensures { self.new ≡ record self.old { place = place } }
+    {
+        self.parser.set_offset(place);
+    }
+
     /// The whole text.
     pub fn text(&self) -> &'de [u8]
         ensures { result.now ≡ self.now.text }

@@ -152,7 +152,7 @@ fn tell_all<V: Copy>(slots: &mut [PathOutcome<V>])
 }
 
 // What callers are told: an empty object lacks a key as any other does.
-fn tell<V: Copy>(slot: PathOutcome<V>) -> PathOutcome<V>
+pub(crate) fn tell<V: Copy>(slot: PathOutcome<V>) -> PathOutcome<V>
     ensures { IsTelling slot result }
 {
     match slot {

@@ -4,6 +4,8 @@
 
 // The answer of a list of paths.
 mod answer;
+// Rows of a table whose paths are keys.
+mod columns;
 // Whether an input is a valid document.
 mod document;
 // Where each of many paths leads, whatever the others lead to.
@@ -35,6 +37,8 @@ mod settle;
 mod slot;
 // What a walk has come to.
 mod state;
+// Tables: for each item of a container, where each path leads inside it.
+mod table;
 // The cursor of a walk through a text.
 mod cursor;
 // Whether the bytes of a text are UTF-8.
@@ -58,3 +62,4 @@ pub use law::{
 pub use many_unchecked::find_many_unchecked;
 pub use outcome::PathOutcome;
 pub use span::Span;
+pub use table::{Table, TableItem, find_table};

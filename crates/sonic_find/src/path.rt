@@ -80,7 +80,7 @@ pub fn locate_from(
 
 // Follows a path from the value at the cursor: up to the value to which it leads, or after the
 // closing brace of the object that lacks its key.
-fn follow(cursor: &mut Cursor<'_>, path: &[PointerNode<'_>]) -> Result<bool, Fault>
+pub(crate) fn follow(cursor: &mut Cursor<'_>, path: &[PointerNode<'_>]) -> Result<bool, Fault>
     requires { IsSkippable cursor.old }
     ensures leads { IfOk result (λ on. IsTrue on
         → IsRest First cursor.old.text cursor.old.place (path_of path.now) cursor.new.place []) }

@@ -58,8 +58,8 @@ impl<'de> Model for Walk<'de> {
 }
 
 impl<'de> Walk<'de> {
-    // A walk that begins at the root of the reader's text, for paths with so many prefixes, in their
-    // slots.
+    // A walk that begins at the reader's place, after white space, for paths with so many prefixes, in
+    // their slots.
     #[inline(always)]
     pub(crate) fn new(
         alloc: Global,
@@ -69,10 +69,10 @@ impl<'de> Walk<'de> {
         each: bool,
         prefixes: usize,
     ) -> Result<Walk<'de>, AllocError>
-        requires start { read.place ≡ 0 }
         requires escaped { FlagEscapes read.text slots.items }
         ensures text { IfOk result (λ walk. walk.text ≡ read.entry.text) }
-        ensures place { IfOk result (λ walk. walk.place ≡ after_space read.entry.text 0) }
+        ensures place { IfOk result (λ walk. walk.place
+            ≡ after_space read.entry.text read.entry.place) }
         ensures findings { IfOk result (λ walk.
             walk.findings ≡ record { slots = slots_of slots.items; lacking = false }) }
         ensures rule { IfOk result (λ walk. walk.rule ≡ rule) }
@@ -96,6 +96,17 @@ impl<'de> Walk<'de> {
             root,
             marks,
         })
+    }
+
+    // Begins anew with the value that is expected at the place that it has come to.
+    pub(crate) fn begin(&mut self)
+        ensures { self.new ≡ record self.old {
+          root = self.old.place;
+          findings = record self.old.findings { lacking = false };
+        } }
+    {
+        self.root = self.cursor.place();
+        self.lacking = false;
     }
 
     // Exchanges the memory in which values are skipped with that of another walk.
@@ -149,6 +160,27 @@ impl<'de> Walk<'de> {
         ensures inside { result ≤ length self.now.text }
     {
         self.cursor.place()
+    }
+
+    // Moves the walk to a place.
+    pub(crate) fn set_place(&mut self, place: usize)
+        requires { place ≤ length self.old.text }
+        ensures { self.new ≡ record self.old { place = place } }
+    {
+        self.cursor.set_place(place);
+    }
+
+    // Skips the value at a place: its end, or `None` where there is a fault, or no memory.
+    pub(crate) fn skip_at(&mut self, place: usize) -> Option<usize>
+        requires { place ≤ length self.old.text }
+        ensures end { IfSome result (λ end. IsValue strict self.old.text place end × (end ≤ length self.old.text)) }
+        ensures moved { self.new ≡ record self.old { place = self.new.place } }
+    {
+        self.cursor.set_place(place);
+        match self.cursor.skip() {
+            Ok(_) => Some(self.cursor.place()),
+            Err(_) => None,
+        }
     }
 
     // The whole text.
@@ -312,6 +344,13 @@ impl<'de> Walk<'de> {
         ensures { result ≡ self.now.each }
     {
         self.each
+    }
+
+    // Where each path leads, as far as that is known.
+    pub(crate) fn slots(&self) -> &[PathOutcome<ValueSpan>]
+        ensures { slots_of result.now ≡ self.now.findings.slots }
+    {
+        &self.slots
     }
 
     // Where each path leads.

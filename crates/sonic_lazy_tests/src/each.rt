@@ -12,13 +12,13 @@ use sonic_find::{WalkBuffers, find_each, find_each_by, find_each_unchecked};
 use sonic_lazy::{LazyValue, PathOutcome, Span, get_each, get_each_with};
 use sonic_parser::Fault;
 use sonic_pointer::PointerNode::{Index, Key};
-use sonic_pointer::{KeyRule, PointerTree};
+use sonic_pointer::{KeyRule, PointerNode, PointerTree};
 use sonic_text::{Stop, skip_space};
 use std::alloc::{AllocError, Global};
 use std::process::Abort;
 use std::test::Fail;
 
-type Told = PathOutcome<Span>;
+pub(crate) type Told = PathOutcome<Span>;
 
 // A null is where an object is wanted, or a number is.
 const NULL_FOR_OBJECT: ErrorCode = ErrorCode::Message(Note::Mismatch {
@@ -26,7 +26,7 @@ const NULL_FOR_OBJECT: ErrorCode = ErrorCode::Message(Note::Mismatch {
     wanted: Wanted::Object,
 });
 
-const NUMBER_FOR_OBJECT: ErrorCode = ErrorCode::Message(Note::Mismatch {
+pub(crate) const NUMBER_FOR_OBJECT: ErrorCode = ErrorCode::Message(Note::Mismatch {
     found: JsonType::Number,
     wanted: Wanted::Object,
 });
@@ -236,7 +236,7 @@ fn tells_each_path_its_outcome_under_each_rule(rt: HostRuntime) {
 }
 
 // What the plain program says a path is told, unless it is cut.
-fn told_of(reported: &Reported) -> Option<Told> {
+pub(crate) fn told_of(reported: &Reported) -> Option<Told> {
     match *reported {
         Reported::Found(start, end) => Some(Found(Span { start, end })),
         Reported::Lacks(brace) => Some(Missing(brace)),
@@ -261,10 +261,10 @@ fn need(reported: &Reported) -> usize {
 }
 
 // What each path is told over bytes, by the plain program, or the one stop.
-fn plain_each(
+pub(crate) fn plain_each(
     alloc: Global,
     text: &[u8],
-    paths: Paths,
+    paths: &[&[PointerNode<'_>]],
     rule: KeyRule,
 ) -> Result<Result<Vec<Told>, Stop>, AllocError> {
     let all = follow_all(alloc, text, paths, rule)?;

@@ -50,3 +50,6 @@ mod spans;
 // What a value is.
 #[cfg(test)]
 mod scalars;
+// Tables of containers.
+#[cfg(test)]
+mod tables;

@@ -37,7 +37,7 @@ pub(crate) enum Reported {
 }
 
 // A parser at a place of a text.
-fn parser_at(text: &[u8], place: usize) -> Parser<'_>
+pub(crate) fn parser_at(text: &[u8], place: usize) -> Parser<'_>
     requires { place ≤ length text.now }
     ensures text { result.text ≡ text.now }
     ensures place { result.place ≡ place }
@@ -360,7 +360,7 @@ fn miss(
 }
 
 // Where a path leads under a rule in the value at a place.
-fn follow(
+pub(crate) fn follow(
     alloc: Global,
     text: &[u8],
     place: usize,

@@ -112,6 +112,17 @@ impl<'de> Parser<'de> {
         self.read.index()
     }
 
+    /// Moves the cursor to a place: the index of a byte, or the text's length.
+    ///
+    /// What is read next is expected there, whether or not it comes before what was read.
+    #[inline]
+    pub fn set_offset(&mut self, place: usize)
+        requires { place ≤ length self.old.text }
+        ensures { self.new ≡ moved self.old place }
+    {
+        self.read.set_index(place);
+    }
+
     /// The whole text, wherever the cursor is.
     #[inline]
     pub fn text(&self) -> &'de [u8]

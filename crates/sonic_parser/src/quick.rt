@@ -121,9 +121,12 @@ pub fn scalar_end(text: &[u8], place: usize, lossy: bool) -> Option<usize>
     literal_ahead(text, place, byte)
 }
 
-// The end of the string, the number or the literal at a place, where it is short.
+/// The end of the string, the number or the literal at a place (RFC 8259, sections 3, 6 and 7), where it is
+/// short. `None` says nothing of the text.
+///
+/// At the start of `1,2` and 61 bytes more it is 1.
 #[inline(always)]
-fn short_scalar(text: &[u8], place: usize) -> Option<usize>
+pub fn short_scalar(text: &[u8], place: usize) -> Option<usize>
     requires { place + 64 ≤ length text.now }
     ensures end { IfSome result (λ end. (m : Bool) → IsValueEnd m text.now place end) }
     ensures near { IfSome result (λ end. end ≤ place + 50) }

@@ -294,6 +294,30 @@ each_answers xs ys x all =
       come_to = each_told r.none_cut r.reach x.utf8 (tellings_told slot_at xs ys r.outcomes all.long all.each r.told r.none_cut);
     }
 
+-- where none fails, slots tell outcomes as they are
+told_plainly : (os : List Outcome) → NoneFails os → NoneCut os → AreTold os (map (slot_of true) os)
+told_plainly [] fail cuts = all_told
+told_plainly (o ∷ os) fail cuts =
+    one_told (go o (λ s e. fail s (first_as o os e)) (λ s e. cuts s (first_as o os e)))
+    (told_plainly os (λ s c. fail s (later_in o (fails s) os c)) (λ s c. cuts s (later_in o (cut s) os c)))
+  where
+    go : (o : Outcome) → ((s : Stop) → o ≢ fails s) → ((s : Stop) → o ≢ cut s) → IsTold o (slot_of true o)
+    go (found i j) fail cuts = told_found
+    go (lacks q) fail cuts = told_missing
+    go (fails s) fail cuts = absurd (fail s refl)
+    go (cut s) fail cuts = absurd (cuts s refl)
+
+-- so where the paths have an answer together, each is told where it leads
+pub together_each : {t : List ℕ} {is_bytes : Bool} {paths : List Path} {rule : KeyRule} {slots : List (PathOutcome slot.Span)}
+    → IsAllReached rule t is_bytes paths false slots → IsEachAnswerBy rule t is_bytes paths (EachAnswer.outcomes slots)
+together_each x =
+    let r = x.reached in
+    record {
+      outcomes = r.outcomes;
+      lead = r.lead;
+      come_to = each_told r.none_cut r.reach x.utf8 (rw r.told (told_plainly r.outcomes (r.none_fails refl) r.none_cut));
+    }
+
 -- a span is seen as it is
 seen_self : (x : PathOutcome slot.Span) → seen (λ v. v) x ≡ x
 seen_self (Found v) = refl
@@ -304,12 +328,15 @@ all_seen : (xs : List (PathOutcome slot.Span)) → map (seen (λ v. v)) xs ≡ x
 all_seen [] = refl
 all_seen (x ∷ xs) = both_same (seen_self x) (all_seen xs)
 
+-- slots that tell outcomes tell them to their paths in the end
+pub told_by_slots : (xs ys : List (PathOutcome slot.Span)) (os : List Outcome) → AreTellings xs ys → xs ≡ map (slot_of true) os → NoneCut os → AreTold os ys
+told_by_slots xs ys os all e cuts = (let told = tellings_told (λ v. v) xs ys os all.long all.each (all_seen xs ∙ e) cuts in rw (all_seen ys) at told)
+
 -- so the slots that were filled without a look at the text are the answer
 pub filled_answers : {t : List ℕ} {paths : List Path} (is_bytes : Bool) (xs ys : List (PathOutcome slot.Span)) → StartsWithUtf8Value t → AreFilled t paths xs → AreTellings xs ys
     → IsEachAnswerBy First t is_bytes paths (EachAnswer.outcomes ys)
 filled_answers {t} is_bytes xs ys starts x all =
-    let told = tellings_told (λ v. v) xs ys x.outcomes all.long all.each (all_seen xs ∙ x.told) x.none_cut in
-    let ours : AreTold x.outcomes ys = rw (all_seen ys) at told in
+    let ours = told_by_slots xs ys x.outcomes all x.told x.none_cut in
     let a = each_some t is_bytes x.outcomes (λ s c. cut_by_root s x.lead c) in
     let same = each_alone is_bytes starts x.lead x.none_cut a.1 in
     let one : a.0 ≡ EachAnswer.outcomes ys = same.2 ∙ ap EachAnswer.outcomes (told_all_one same.1 ours) in

@@ -11,7 +11,7 @@ use Rattle.sonic_find.proofs.AnswerLemmas.One.{none_in_empty, first_in, later_in
 use Rattle.sonic_find.proofs.PathLemmas.Outcome.{nowhere_ends, ends_before_end, ends_before_fault, cut_is_fault, by_one, EndsAt}
 use Rattle.sonic_find.proofs.WalkLemmas.List.{first_of}
 use Rattle.sonic_find.proofs.WalkLemmas.Path.{contained, held}
-use Rattle.sonic_find.specs.Answers.{AllLeadBy, no_more, one_more, IsNearest, NoneFails, NoneCut, SomeLacks, IsReach, to_the_root, to_the_furthest, Span, span_of, Answer, ComeTo, no_path, failing, cutting, lacking, breaking, finding, IsAnswerBy}
+use Rattle.sonic_find.specs.Answers.{AllLeadFrom, AllLeadBy, no_more, one_more, IsNearest, NoneFails, NoneCut, SomeLacks, IsReach, to_the_root, to_the_furthest, Span, span_of, Answer, ComeTo, no_path, failing, cutting, lacking, breaking, finding, IsAnswerBy}
 use Rattle.sonic_find.specs.Found.{FlagEscapes, told_at, span_in, slots_of, spans_of}
 use Rattle.sonic_find.specs.Internal.Walk.{Question, Findings, root_point, LeadsFrom, AllSettled, IsKnown, was_found, was_lacked, has_failed, AreFindings, SomeLack, NoneNearer, path_stops, value_stops, IsCause, IsStop, IsFurthest, AllReached, IsAllReached, IsError, IsEachError, IsRefused, has_stopped, is_broken, slot_of, slot_need, whole_question}
 use Rattle.sonic_find.specs.DeadEnds.{IsPathStop, fails_so, cut_so}
@@ -51,14 +51,18 @@ pub record Ends (q : Question) (noted : Bool) (kept : Option (PathOutcome slot.S
   pub lack : (p : ℕ) → outcome ≡ lacks p → noted ≡ true
   pub is : kept ≡ Some (slot_of q.tells outcome)
 
--- where all paths of a text lead, and that their slots tell it
-pub record AreKept (rule : KeyRule) (t : List ℕ) (each tells noted : Bool) (slots : List (PathOutcome slot.Span)) (paths : List Path) : Type 0 where
+-- where all paths lead from a place of a text, and that their slots tell it
+pub record AreKeptFrom (rule : KeyRule) (t : List ℕ) (root : ℕ) (each tells noted : Bool) (slots : List (PathOutcome slot.Span)) (paths : List Path) : Type 0 where
   pub outcomes : List Outcome
-  pub lead : AllLeadBy rule t paths outcomes
+  pub lead : AllLeadFrom rule t root paths outcomes
   pub none_cut : NoneCut outcomes
   pub none_fails : each ≡ false → NoneFails outcomes
   pub lack : (p : ℕ) → Contains outcomes (lacks p) → noted ≡ true
   pub told : slots ≡ map (slot_of tells) outcomes
+
+-- and from its first value
+abbrev pub AreKept : KeyRule → List ℕ → Bool → Bool → Bool → List (PathOutcome slot.Span) → List Path → Type 0
+AreKept rule t each tells noted slots paths = AreKeptFrom rule t (after_space t 0) each tells noted slots paths
 
 -- where all paths lead
 pub record IsGathered (rule : KeyRule) (t : List ℕ) (noted : Bool) (spans : List (Option Span)) (paths : List Path) : Type 0 where
@@ -72,11 +76,11 @@ pub both_same : {X : Type 0} {x y : X} {xs ys : List X} → x ≡ y → xs ≡ y
 both_same e f = cc
 
 -- one by one
-gather : (rule : KeyRule) (t : List ℕ) (each tells noted : Bool) (slots : List (PathOutcome slot.Span)) (whole paths : List Path) → length slots ≡ length paths
+gather : (rule : KeyRule) (t : List ℕ) (root : ℕ) (each tells noted : Bool) (slots : List (PathOutcome slot.Span)) (whole paths : List Path) → length slots ≡ length paths
     → ((k : ℕ) (path : Path) → slice_get paths k ≡ Some path
-    → Ends (record { rule = rule; text = t; root = after_space t 0; paths = whole; each = each; tells = tells }) noted (slice_get slots k) path)
-    → AreKept rule t each tells noted slots paths
-gather rule t each tells noted [] whole [] long ends = record {
+    → Ends (record { rule = rule; text = t; root = root; paths = whole; each = each; tells = tells }) noted (slice_get slots k) path)
+    → AreKeptFrom rule t root each tells noted slots paths
+gather rule t root each tells noted [] whole [] long ends = record {
   outcomes = [];
   lead = no_more;
   none_cut = λ s c. none_in_empty (cut s) c;
@@ -84,11 +88,11 @@ gather rule t each tells noted [] whole [] long ends = record {
   lack = λ p c. absurd (none_in_empty (lacks p) c);
   told = refl;
 }
-gather rule t each tells noted [] whole (p ∷ paths) long ends = absurd (omega arith)
-gather rule t each tells noted (x ∷ slots) whole [] long ends = absurd (omega arith)
-gather rule t each tells noted (x ∷ slots) whole (p ∷ paths) long ends =
+gather rule t root each tells noted [] whole (p ∷ paths) long ends = absurd (omega arith)
+gather rule t root each tells noted (x ∷ slots) whole [] long ends = absurd (omega arith)
+gather rule t root each tells noted (x ∷ slots) whole (p ∷ paths) long ends =
     let e = ends 0 p refl in
-    let rest = gather rule t each tells noted slots whole paths (omega arith) (λ k path h. ends (suc k) path h) in
+    let rest = gather rule t root each tells noted slots whole paths (omega arith) (λ k path h. ends (suc k) path h) in
     let kept : x ≡ slot_of tells e.outcome = same_Some x (slot_of tells e.outcome) e.is in
     record {
       outcomes = e.outcome ∷ rest.outcomes;
@@ -110,11 +114,16 @@ known_ends (has_failed {s} l h) goes =
     record { outcome = fails s; leads = l; uncut = λ r e. absurd cc; goes = λ stops r e. goes stops s l; lack = λ p e. absurd cc; is = h }
 
 -- where the walk ends, all are kept
+pub all_kept_from : (rule : KeyRule) (t : List ℕ) (root : ℕ) (paths : List Path) (each tells : Bool) {f : Findings} → length f.slots ≡ length paths
+    → AllSettled (root_point (record { rule = rule; text = t; root = root; paths = paths; each = each; tells = tells })) f
+    → AreKeptFrom rule t root each tells f.lacking f.slots paths
+all_kept_from rule t root paths each tells {f} long settled =
+    gather rule t root each tells f.lacking f.slots paths paths long (λ k path is. (let x = settled k path is in known_ends x.known x.goes))
+
 pub all_kept : (rule : KeyRule) (t : List ℕ) (paths : List Path) (each tells : Bool) {f : Findings} → length f.slots ≡ length paths
     → AllSettled (root_point (record { rule = rule; text = t; root = after_space t 0; paths = paths; each = each; tells = tells })) f
     → AreKept rule t each tells f.lacking f.slots paths
-all_kept rule t paths each tells {f} long settled =
-    gather rule t each tells f.lacking f.slots paths paths long (λ k path is. (let x = settled k path is in known_ends x.known x.goes))
+all_kept rule t paths each tells long settled = all_kept_from rule t (after_space t 0) paths each tells long settled
 
 -- a path's outcome is among all
 lead_at : {t : List ℕ} {rule : KeyRule} {paths : List Path} {os : List Outcome} {o : Outcome} (k : ℕ) (path : Path) → AllLeadBy rule t paths os → slice_get paths k ≡ Some path
@@ -447,6 +456,10 @@ root_prefix paths some = let path = first_of paths some in record { rest = path.
 -- a slot of which nothing is known yet
 abbrev pub no_value : PathOutcome ValueSpan
 no_value = Missing 0
+
+-- what stands in a list where there may be nothing
+abbrev pub first_value : PathOutcome ValueSpan
+first_value = Found (record { start = 0; end = 0; escaped = false })
 
 -- holds no value
 none_there : (n k : ℕ) (x : ValueSpan) → slice_get (replicate n no_value) k ≢ Some (Found x)

@@ -1,17 +1,10 @@
 use Rattle.sonic_find.proofs.answer.furthest_need.Goals as goal
-use Rattle.std.proofs.Common.{◌≡◌, ◌∙◌, ap, get_or, take, false}
+use Rattle.std.proofs.Common.{◌≡◌, ◌∙◌, ap, get_or, take}
 use Rattle.std.proofs.lemmas.List.{take_more}
 use Rattle.std.proofs.lemmas.Option.{slice_get-get_or, slice_get-map}
 use Rattle.std.specs.Prelude.{Some, slice_get, option_map}
-use Rattle.sonic_find.proofs.AnswerLemmas.Walk.{furthest_value}
+use Rattle.sonic_find.proofs.AnswerLemmas.Walk.{first_value, furthest_value}
 use Rattle.sonic_find.specs.Found.{told_at}
-use Rattle.sonic_find.specs.declared.outcome.PathOutcome.{PathOutcome}
-use Rattle.sonic_find.specs.declared.outcome.PathOutcome.TheVariants.{Found}
-use Rattle.sonic_parser.specs.declared.value_span.ValueSpan.{ValueSpan}
-
--- what stands in a list where there may be nothing
-abbrev pub first_value : PathOutcome ValueSpan
-first_value = Found (record { start = 0; end = 0; escaped = false })
 
 pub need-requires : goal.need-requires
 need-requires c =

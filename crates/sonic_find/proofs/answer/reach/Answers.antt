@@ -25,9 +25,9 @@ follow-followed-requires-clause-marks c =
 pub returns-then-lacking-clause-reached : goal.returns-then-lacking-clause-reached
 returns-then-lacking-clause-reached c =
     let begun = c.in_ok-walk.ensures in
-    let later = rw (c.swap_memory.ensures, begun.text, begun.rule, begun.root, begun.place, begun.each, c.view-view.ensures.paths) at c.in_ok-followed.ensures.later in
-    let settled = rw (c.swap_memory.ensures, begun.text, begun.rule, begun.root, begun.place, begun.each, c.view-view.ensures.paths, c.view-view.ensures.prefix) at c.in_ok-followed.ensures.settled in
-    let value = rw (c.swap_memory.ensures, begun.text, begun.place, ← c.place-end.ensures.place) at c.in_ok-followed.ensures.whole in
+    let later = rw (c.swap_memory.ensures, begun.text, begun.rule, begun.root, begun.place, begun.each, c.view-view.ensures.paths, c.requires.start) at c.in_ok-followed.ensures.later in
+    let settled = rw (c.swap_memory.ensures, begun.text, begun.rule, begun.root, begun.place, begun.each, c.view-view.ensures.paths, c.view-view.ensures.prefix, c.requires.start) at c.in_ok-followed.ensures.settled in
+    let value = rw (c.swap_memory.ensures, begun.text, begun.place, c.requires.start, ← c.place-end.ensures.place) at c.in_ok-followed.ensures.whole in
     let slots = rw c.swap_memory-2.ensures at c.into_slots.ensures.slots in
     let lacks = sym c.lacks_key-lacking.ensures ∙ c.if-lacking.true in
     rw slots (is_reached later.are settled c.requires.some (λ e. value (inr e)) (λ e. refl) (λ e. (let clash : true ≡ false = sym lacks ∙ e in absurd cc)))
@@ -35,8 +35,8 @@ returns-then-lacking-clause-reached c =
 pub furthest_need-requires : goal.furthest_need-requires
 furthest_need-requires c = λ k x h.
     let begun = c.in_ok-walk.ensures in
-    let later = rw (c.swap_memory.ensures, begun.text, begun.rule, begun.root, begun.place, begun.each, c.view-view.ensures.paths) at c.in_ok-followed.ensures.later in
-    let settled = rw (c.swap_memory.ensures, begun.text, begun.rule, begun.root, begun.place, begun.each, c.view-view.ensures.paths, c.view-view.ensures.prefix) at c.in_ok-followed.ensures.settled in
+    let later = rw (c.swap_memory.ensures, begun.text, begun.rule, begun.root, begun.place, begun.each, c.view-view.ensures.paths, c.requires.start) at c.in_ok-followed.ensures.later in
+    let settled = rw (c.swap_memory.ensures, begun.text, begun.rule, begun.root, begun.place, begun.each, c.view-view.ensures.paths, c.view-view.ensures.prefix, c.requires.start) at c.in_ok-followed.ensures.settled in
     let slots = rw c.swap_memory-2.ensures at c.into_slots.ensures.slots in
     let kept = all_kept c.args.rule c.args.read.text c.args.tree.now c.args.each true later.are.long settled in
     let within = slots_within kept k x (rw (c.deref.ensures.value, slots) at h) in
@@ -45,8 +45,8 @@ furthest_need-requires c = λ k x h.
 pub returns-clause-reached : goal.returns-clause-reached
 returns-clause-reached c =
     let begun = c.in_ok-walk.ensures in
-    let later = rw (c.swap_memory.ensures, begun.text, begun.rule, begun.root, begun.place, begun.each, c.view-view.ensures.paths) at c.in_ok-followed.ensures.later in
-    let settled = rw (c.swap_memory.ensures, begun.text, begun.rule, begun.root, begun.place, begun.each, c.view-view.ensures.paths, c.view-view.ensures.prefix) at c.in_ok-followed.ensures.settled in
+    let later = rw (c.swap_memory.ensures, begun.text, begun.rule, begun.root, begun.place, begun.each, c.view-view.ensures.paths, c.requires.start) at c.in_ok-followed.ensures.later in
+    let settled = rw (c.swap_memory.ensures, begun.text, begun.rule, begun.root, begun.place, begun.each, c.view-view.ensures.paths, c.view-view.ensures.prefix, c.requires.start) at c.in_ok-followed.ensures.settled in
     let slots = rw c.swap_memory-2.ensures at c.into_slots.ensures.slots in
     let furthest = rw (c.deref.ensures.value, slots) at c.furthest_need.ensures in
     let none = sym c.lacks_key-lacking.ensures ∙ c.if-lacking.false in
